@@ -68,7 +68,7 @@ def in_sqlite(folder, count):
 
 
 def sqlite_process(count):
-    start = time.perf_counter()
+    start = time.process_time()
     base = sqlite3.connect(":memory:")
     make_table(base)
     for number in range(count):
@@ -76,14 +76,14 @@ def sqlite_process(count):
             add_records(base, csv.reader(source))
     base.execute("CREATE INDEX by_series ON points (user, job, cluster, task, end)")
     base.execute("ANALYZE")
-    load = time.perf_counter() - start
+    load = time.process_time() - start
     times, answers = [], []
     for _, sql in QUERIES:
         best = None
         for _ in range(ROUNDS):
-            start = time.perf_counter()
+            start = time.process_time()
             rows = base.execute(sql).fetchall()
-            taken = time.perf_counter() - start
+            taken = time.process_time() - start
             best = taken if best is None else min(best, taken)
         times.append(best)
         answers.append([[str(cell) for cell in row] for row in rows])

@@ -1,168 +1,497 @@
-"""Scripts with blocks that are made by chance, and which of their answers may come.
+"""Scripts that are made by chance, with blocks, leaves that go down and standing queries, and which of their answers may
+come.
 
-The lines of a block run beside each other, so a query in one may come before a feed there, behind it, or in between. Of
-each series it has seen the points that stood before the block, and a front of those that the block's feeds bring. What
-is printed of all other lines is worked out from the points alone."""
+The lines of a block run beside each other. Of the rows that a feed of the block brings to a range, a query there has
+seen those of a front, and all that stood before the block. How rows, switches and recoveries come out is worked out
+by `replicas.py`: what is printed of them may come if some order of their steps brings it about, and all states in
+which such orders end are kept until what is printed later tells which of them it is. What is printed outside of
+blocks is worked out from these states and the points alone. At the end all leaves come up, and all that was accepted
+is asked for."""
 
 import json
+import re
+from dataclasses import dataclass
 
 import sql
+from replicas import Beside, Setting
 
-SCHEMAS = {**sql.SCHEMAS, "limit": 1_000_000}
 SUMS = sql.ALL
 QUESTIONS = ("query", "check", "explain")
-OPERATIONS = ["fetch leaf", "align leaf"]
+# Texts of queries, with the span of their alignment and their operations.
+TEXTS = {SUMS: (1000, ["fetch leaf", "align leaf"]), "fetch Task::/work": (60, ["fetch leaf"])}
+REFUSED = {
+    "fetch Task::": "Parse 12 Expected metric",
+    "fetch Task::/play": "Typing 12 UnknownMetric",
+    "fetch Task::/work | group_by [cell], sum(work)": "Typing 30 UnknownColumn",
+}
+PERIODS = [20, 50, 60, 90, 400, 1_000_000_000]
+NAMES = ["s", "hourly", "_1"]
+MOST_DUE = 1000
+MOST_ROWS = 10
+FAR = 10**12
+HEADING = "time,user,job,cluster,task,work"
+
+
+@dataclass(frozen=True)
+class Line:
+    """A line of a script: its word and what it is given."""
+
+    word: str
+    given: tuple
+
+    def text(self):
+        return " ".join([self.word, *map(str, self.given)])
 
 
 class Script:
     """A script over points of some series in one or four zones, each series of which one feed of a block brings."""
 
     def __init__(self, chance):
-        self.zones = [sql.zone(number) for number in range(4)]
-        if chance.random() < 0.4:
+        # Whether leaves go down, and whether queries stand.
+        self.has_switches, self.has_ticks = chance.random() < 0.6, chance.random() < 0.4
+        self.zones = [{**zone, "leaves": [*zone["leaves"], f"{zone['name']}c"]} for zone in map(sql.zone, range(4))]
+        if chance.random() < (0.7 if self.has_switches else 0.4):
             self.zones = [{**self.zones[0], "locations": [f"c{number}" for number in range(4)]}]
+        self.limit = chance.randint(5, 60) if chance.random() < 0.15 else 1_000_000
+        self.setting = Setting(self.zones)
         self.series = [
             (f"u{chance.randrange(4)}", f"job{chance.randrange(10)}", f"c{chance.randrange(4)}", str(task))
             for task in range(chance.randint(1, 12))
         ]
-        self.files, self.lines, self.parts = {}, [], []
+        self.files, self.parts = {}, []
         self.end = 0
-        for _ in range(chance.randint(1, 4)):
-            self.add_part(chance)
+        if self.has_ticks:
+            self.parts += [(False, [self.a_standing(chance)]) for _ in range(chance.randint(0, 3))]
+        for _ in range(chance.randint(3, 9) if self.has_switches or self.has_ticks else chance.randint(1, 4)):
+            if self.has_switches and chance.random() < 0.3:
+                self.add_loss(chance)
+            else:
+                self.add_part(chance)
+        if self.has_switches:
+            self.parts += [(False, [Line("up", (name,))]) for name in self.setting.leaves]
+        self.parts.append((False, [Line("check", (sql.MOMENT, SUMS))]))
+
+    # ---- what is made
 
     def add_part(self, chance):
-        is_block = chance.random() < 0.75
+        is_block = chance.random() < (0.4 if self.has_ticks else 0.7)
         count = chance.randint(1, 5) if is_block else 1
-        begun, self.end = self.end, self.end + chance.choice([50, 100, 200])
-        part, lines = [], []
+        begun, self.end = self.end, self.end + chance.choice([50, 100])
+        part = []
         for _ in range(count):
-            if chance.random() < 0.6:
-                part.append(self.a_feed(chance, begun, part))
-                lines.append(f"feed {part[-1][1]}")
-            else:
-                part.append((chance.choice(QUESTIONS), None))
-                lines.append(f"{part[-1][0]} {sql.MOMENT} {SUMS}")
-        if is_block:
-            lines = ["together", *lines, "end"]
-        self.parts.append(part)
-        self.lines += lines
+            part.append(self.a_line(chance, is_block, begun, part))
+        self.parts.append((is_block, part))
+
+    def add_loss(self, chance):
+        """A leaf that is down while a feed goes on, and is recovered."""
+        begun, self.end = self.end, self.end + 50
+        leaves, ranges = self.setting.zones[0]
+        leaf, place = self.setting.leaves[chance.choice(leaves)], self.setting.ranges[chance.choice(ranges)]
+        feed = self.a_feed(chance, begun, [])
+        for line in (Line("down", (leaf,)), feed, Line("up", (leaf,)), Line("recover", (place, leaf))):
+            self.parts.append((chance.random() < 0.2, [line]))
+
+    def a_line(self, chance, is_block, begun, part):
+        kinds = {"feed": 6, "ask": 4, "switch": 6 * self.has_switches, "recover": 4 * self.has_switches}
+        if self.has_ticks and not is_block:
+            kinds |= {"standing": 3, "tick": 10}
+        kind = chance.choices(list(kinds), list(kinds.values()))[0]
+        if kind == "feed":
+            return self.a_feed(chance, begun, part)
+        if kind == "ask":
+            moment = chance.choice([sql.MOMENT, sql.MOMENT, self.end])
+            return Line(chance.choice(QUESTIONS), (moment, chance.choice([SUMS, SUMS, *TEXTS])))
+        if kind == "switch":
+            leaves, _ = self.setting.zones[0]
+            leaf = chance.choice([*leaves, *leaves[:2]])
+            return Line(chance.choice(["down", "down", "up"]), (self.setting.leaves[leaf],))
+        if kind == "recover":
+            leaves, ranges = self.setting.zones[chance.choice([0, 0, -1])]
+            leaf = chance.choice([*leaves, leaves[-1], leaves[-1], leaves[-1]])
+            return Line("recover", (self.setting.ranges[chance.choice(ranges)], self.setting.leaves[leaf]))
+        if kind == "standing":
+            return self.a_standing(chance)
+        moments = 3 * [self.end, self.end, self.end - 30, begun] + [begun // 2, FAR]
+        return Line("tick", (chance.choice(moments),))
+
+    def a_standing(self, chance):
+        text = chance.choice([*TEXTS, *TEXTS, *TEXTS, *REFUSED])
+        return Line("standing", (chance.choice(NAMES), chance.choice(PERIODS), text))
 
     def a_feed(self, chance, begun, part):
-        """A file of points that end in the part's time, of series that no other feed of the part brings."""
-        taken = {fields for word, name in part if word == "feed" for _, _, fields in self.files[name]}
+        """A file of points, most of which end in the part's time, of series that no other feed of the part brings."""
+        taken = {fields for line in part if line.word == "feed" for _, _, fields in self.files[line.given[0]]}
         own = [fields for fields in self.series if fields not in taken and chance.random() < 0.5]
         name = f"p{len(self.files)}.csv"
-        self.files[name] = [
+        records = [
             (end, chance.randrange(1000), fields)
-            for end in range(begun + 10, self.end + 1, 10)
+            for end in range(max(begun - 10 * (chance.random() < 0.2), 0) + 10, self.end + 1, 10)
             for fields in own
             if chance.random() < 0.5
         ]
-        return "feed", name
+        if self.has_switches:
+            # So that all orders can be gone through.
+            room = MOST_ROWS - sum(len(self.files[line.given[0]]) for line in part if line.word == "feed")
+            kept = sorted(chance.sample(range(len(records)), min(len(records), chance.randint(0, room))))
+            records = [records[number] for number in kept]
+        self.files[name] = records
+        return Line("feed", (name,))
 
     def texts(self):
         """The files of the run."""
-        config = json.dumps({**SCHEMAS, "zones": self.zones}).encode()
+        config = json.dumps({**sql.SCHEMAS, "limit": self.limit, "zones": self.zones}).encode()
         points = {
             name: "".join(
                 f"Task,/work,{end - 10},{end},{value},{','.join(fields)}\n" for end, value, fields in records
             ).encode()
             for name, records in self.files.items()
         }
-        script = "".join(f"{line}\n" for line in self.lines).encode()
-        return {"config.json": config, "script.txt": script, **points}
+        lines = []
+        for is_block, part in self.parts:
+            lines += ["together"] * is_block + [line.text() for line in part] + ["end"] * is_block
+        return {"config.json": config, "script.txt": "".join(f"{line}\n" for line in lines).encode(), **points}
+
+    # ---- what may come of it
 
     def wanted(self, given):
-        """The text that is wanted, where of a query in a block the table that is given stands if it may come."""
+        """The text that is wanted: the one that is given, as far as it may come."""
         return self.fronts(given)[-1]
 
     def fronts(self, given):
         """The same up to each part: nothing, then the text of the first part, and so on to the whole."""
-        reading, seen, text, fronts = Reading(given), {}, "", [""]
-        for part in self.parts:
-            brought = {}
-            for word, name in part:
-                if word == "feed":
-                    for _, value, fields in self.files[name]:
-                        brought.setdefault(fields, []).append(value)
-            for word, name in part:
-                if word == "feed":
-                    text += f"feed {name}: {len(self.files[name])} accepted, 0 refused\n"
-                else:
-                    text += self.answer(word, reading.at(text), seen, brought)
-            for fields, values in brought.items():
-                seen[fields] = seen.get(fields, 0) + sum(values)
+        course, text, fronts = Course(self), "", [""]
+        for is_block, part in self.parts:
+            left = given[len(text) :].split("\n")
+            text += course.block(part, left) if is_block else course.line(part[0], left)
             fronts.append(text)
         return fronts
 
-    def answer(self, word, given, seen, brought):
-        """A table that may come: the one that is given, if it does, and else the one of all that stood before."""
-        rows = table_rows(given)
-        may_come = rows is not None and self.may_come(rows, seen, brought)
-        text = table(rows if may_come else seen)
+
+def status(text):
+    """The status of a run that prints a text and comes to its end."""
+    return 7 if re.search("^refused: ", text, re.MULTILINE) else 0
+
+
+class Course:
+    """A script as far as it ran: the states that its leaves and ranges may have, what was accepted, and what stands."""
+
+    def __init__(self, script):
+        self.script, self.setting, self.limit = script, script.setting, script.limit
+        self.states = {self.setting.begin()}
+        # Of each series its points, as ends and values.
+        self.points = {}
+        self.standing, self.last = [], None
+
+    def range_of(self, fields):
+        for number, zone in enumerate(self.script.zones):
+            if fields[2] in zone["locations"]:
+                return self.setting.zones[number][1][("Task", *fields) >= ("Task", "u2")]
+        return None
+
+    # ---- a line alone
+
+    def line(self, line, given):
+        """What a line alone prints: of what may come in some state what is given, if it is among that."""
+        if line.word == "standing":
+            return self.stand(*line.given)
+        if line.word == "tick":
+            return self.tick(line.given[0], given)
+        return self.one_of(sorted(self.states), lambda state: self.run(line, state), given)
+
+    def one_of(self, states, run, given):
+        """Runs from each state, and keeps those states that end with the text that is given."""
+        ran = [run(state) for state in states]
+        text = next((text for _, text, _ in ran if is_front(text, given)), ran[0][1])
+        self.states = {state for state, other, _ in ran if other == text}
+        self.accept(next(accepted for _, other, accepted in ran if other == text))
+        return text
+
+    def run(self, line, state):
+        """The state behind a line alone, its text, and what it accepted."""
+        if line.word == "feed":
+            return self.feed(line.given[0], state)
+        if line.word in QUESTIONS:
+            return state, self.ask(line.word, *line.given, state), []
+        state, outcome = self.setting.alone(state, self.operation(line))
+        return state, outcome + "\n", []
+
+    def operation(self, line):
+        """What a line does that switches a leaf or recovers a range."""
+        if line.word == "recover":
+            return "recover", self.setting.ranges.index(line.given[0]), self.setting.leaves.index(line.given[1])
+        return "switch", self.setting.leaves.index(line.given[0]), line.word == "down"
+
+    def feed(self, name, state):
+        accepted, refused, lasts = [], [], {}
+        for number, (end, value, fields) in enumerate(self.script.files[name], 1):
+            last = lasts.get(fields, self.last_of(fields))
+            if end <= last:
+                refused.append(f"row {number}: OldPoint {last}")
+                continue
+            state, outcome = self.setting.alone(state, ("write", self.range_of(fields)))
+            if outcome:
+                refused.append(f"row {number}: {outcome}")
+            else:
+                accepted.append((end, value, fields))
+                lasts[fields] = end
+        lines = [f"feed {name}: {len(accepted)} accepted, {len(refused)} refused", *refused]
+        return state, "".join(f"{line}\n" for line in lines), accepted
+
+    def last_of(self, fields):
+        return self.points[fields][-1][0] if fields in self.points else -1
+
+    def accept(self, accepted):
+        for end, value, fields in accepted:
+            self.points.setdefault(fields, []).append((end, value))
+
+    # ---- queries
+
+    def ask(self, word, moment, text, state):
+        """What a query prints over all that was accepted."""
+        span, operations = TEXTS[text]
+        sizes = {place: [0, 0] for place in range(len(self.setting.ranges))}
+        rows = {}
+        for fields, points in self.points.items():
+            values = in_reach(points, moment, span)
+            if values:
+                rows[fields] = sum(values)
+                sizes[self.range_of(fields)][0] += len(values)
+                sizes[self.range_of(fields)][1] += 1
+        sent = self.setting.look(state, sizes, self.limit)
+        if isinstance(sent, str):
+            return sent + "\n"
         if word != "explain":
-            return text
-        return text + "".join(f"{line}\n" for line in OPERATIONS) + (leaves(given) if may_come else "")
+            return table(rows, moment)
+        names = enumerate(self.setting.leaves)
+        told = [f"leaf {name} read {sent[leaf]}" if leaf in sent else f"leaf {name} unread 0" for leaf, name in names]
+        return table(rows, moment) + "".join(f"{line}\n" for line in operations + told)
 
-    def may_come(self, rows, seen, brought):
-        if not set(seen) <= set(rows) <= set(seen) | set(brought):
+    # ---- standing queries
+
+    def stand(self, name, period, text):
+        if any(name == other for other, _, _ in self.standing):
+            return "refused: NameTaken\n"
+        if text in REFUSED:
+            return f"refused: {REFUSED[text]}\n"
+        self.standing.append((name, period, text))
+        return f"standing {name}: added\n"
+
+    def tick(self, moment, given):
+        if self.last is not None and moment < self.last:
+            return f"refused: Backwards {self.last}\n"
+        firsts = [moment // period if self.last is None else self.last // period + 1 for _, period, _ in self.standing]
+        times = [range(first, moment // period + 1) for first, (_, period, _) in zip(firsts, self.standing)]
+        if sum(map(len, times)) > MOST_DUE:
+            return f"refused: TooManyDue {MOST_DUE}\n"
+        self.last = moment
+        dues = []
+        for number, (name, period, text) in enumerate(self.standing):
+            dues += [(times_of * period, number, name, text) for times_of in times[number]]
+        return self.one_of(sorted(self.states), lambda state: (state, self.asked(sorted(dues), state), []), given)
+
+    def asked(self, dues, state):
+        return "".join(f"{name} at {at}:\n{self.ask('query', at, text, state)}" for at, _, name, text in dues)
+
+    # ---- a block
+
+    def block(self, part, given):
+        """What the lines of a block print: what is given, if some order brings it about, and else what comes of one
+        line after another."""
+        told = self.told(part, given)
+        if told is not None:
+            return told
+        text = ""
+        state = min(self.states)
+        for line in part:
+            state, printed, accepted = self.run(line, state)
+            self.accept(accepted)
+            text += printed
+        self.states = {state}
+        return text
+
+    def told(self, part, given):
+        """The text that is given, if it may come; the states are then those in which it does."""
+        works, brought, asked, text = [], [], [], ""
+        for line in part:
+            printed = printed_by(line, given, self.setting)
+            if printed is None:
+                return None
+            given = given[len(printed) :]
+            text += "".join(f"{one}\n" for one in printed)
+            if line.word == "feed":
+                work, accepted = self.told_feed(line.given[0], printed[1:])
+                if work is None or printed[0].split(":")[1] != f" {len(accepted)} accepted, {len(printed) - 1} refused":
+                    return None
+                works.append(work)
+                brought.append(accepted)
+            elif line.word in QUESTIONS:
+                asked.append((line, printed))
+            else:
+                works.append([(self.operation(line), printed[0])])
+        beside = Beside(self.setting, works)
+        ends = beside.ends(self.states)
+        if not ends or not all(self.may_be_asked(line, printed, brought, beside.passed) for line, printed in asked):
+            return None
+        self.states = ends
+        for accepted in brought:
+            self.accept(accepted)
+        return text
+
+    def told_feed(self, name, lines):
+        """The work of a feed with the refusals that are told, and what it accepted; no work where those can't be."""
+        refused = dict(line.removeprefix("row ").split(": ", 1) for line in lines if re.match(r"row \d+: ", line))
+        if list(map(int, refused)) != sorted(map(int, refused)):
+            return None, []
+        work, accepted, lasts = [], [], {}
+        for number, (end, value, fields) in enumerate(self.script.files[name], 1):
+            why = refused.pop(str(number), "")
+            last = lasts.get(fields, self.last_of(fields))
+            if end <= last:
+                if why != f"OldPoint {last}":
+                    return None, accepted
+                continue
+            work.append((("write", self.range_of(fields)), why))
+            if not why:
+                accepted.append((end, value, fields))
+                lasts[fields] = end
+        return (None if refused else work), accepted
+
+    def may_be_asked(self, line, printed, brought, passed):
+        """Whether a query in a block may print this: its table is that of all that stood before, and of each feed and
+        range a front; or it is refused for what some state of the block has."""
+        moment, text = line.given
+        span, operations = TEXTS[text]
+        fronts = self.fronts_of(brought)
+        if printed[0].startswith("refused: NoReplica "):
+            return self.may_lack(printed[0], passed)
+        if printed[0].startswith("refused: "):
+            is_over = self.most_load(fronts, moment, span) > self.limit
+            return is_over and printed[0] == f"refused: StepLimit {self.limit}"
+        rows = table_rows(printed, moment)
+        if rows is None or self.least_load(fronts, moment, span, rows) > self.limit:
             return False
-        return all(total in totals(seen, brought, fields) for fields, total in rows.items())
+        if line.word != "explain":
+            return True
+        told = printed[len(rows) + 2 :]
+        return told[: len(operations)] == operations and self.may_have_sent(told[len(operations) :], rows, passed)
+
+    def fronts_of(self, brought):
+        """Of each range and feed the rows that it brings, and each range's series that none brings."""
+        fronts, still = [], [fields for fields in self.points]
+        for accepted in brought:
+            for place in {self.range_of(fields) for _, _, fields in accepted}:
+                rows = [row for row in accepted if self.range_of(row[2]) == place]
+                fronts.append(rows)
+                still = [fields for fields in still if fields not in {row[2] for row in rows}]
+        return [*fronts, *([(None, None, fields)] for fields in still)]
+
+    def found_in(self, rows, count, moment, span):
+        """The points in reach of each series of such rows, where the first of these were seen."""
+        points = {fields: list(self.points.get(fields, [])) for _, _, fields in rows}
+        for end, value, fields in rows[:count]:
+            if end is not None:
+                points[fields].append((end, value))
+        found = {fields: in_reach(of, moment, span) for fields, of in points.items()}
+        return {fields: values for fields, values in found.items() if values}
+
+    def most_load(self, fronts, moment, span):
+        return sum(load(self.found_in(rows, len(rows), moment, span)) for rows in fronts)
+
+    def least_load(self, fronts, moment, span, wanted):
+        """The least load with which these rows may be found, above any limit where they may not."""
+        total, left = 0, set(wanted)
+        for rows in fronts:
+            loads, own = [], {fields for _, _, fields in rows}
+            for count in range(len(rows) + 1):
+                found = self.found_in(rows, count, moment, span)
+                sums = {fields: sum(values) for fields, values in found.items()}
+                if sums == {fields: wanted[fields] for fields in own if fields in wanted}:
+                    loads.append(load(found))
+            total += min(loads, default=float("inf"))
+            left -= own
+        return float("inf") if left else total
+
+    def may_lack(self, refusal, passed):
+        """Whether some state has each leaf down at its cut, and one no other leaf with a replica that serves."""
+        told = re.fullmatch(r"refused: NoReplica (\S+):((?: \w+@\d+)+)", refusal)
+        if told is None or told[1] not in self.setting.ranges:
+            return False
+        founds = [found.split("@") for found in told[2].split()]
+        place = self.setting.ranges.index(told[1])
+        leaves, _ = next(zone for zone in self.setting.zones if place in zone[1])
+        named = [self.setting.leaves.index(name) for name, _ in founds if name in self.setting.leaves]
+        if len(set(named)) != len(founds) or not set(named) <= set(leaves):
+            return False
+        cuts = {(leaf, of.length) for state in passed for leaf, of in enumerate(state.leaves) if of.down and of.held}
+        if not all((leaf, int(cut)) in cuts for leaf, (_, cut) in zip(named, founds)):
+            return False
+        return any(set(state.serving(place)) <= set(named) for state in passed)
+
+    def may_have_sent(self, told, rows, passed):
+        """Whether each leaf is told in its order, those that were down all along as unread, and all rows were sent."""
+        sent = 0
+        for leaf, (name, line) in enumerate(zip(self.setting.leaves, told)):
+            words = line.split(" ")
+            if line == f"leaf {name} unread 0":
+                continue
+            if words[:3] != ["leaf", name, "read"] or all(state.leaves[leaf].down for state in passed):
+                return False
+            sent += int(words[3])
+        return sent == len(rows)
 
 
-def totals(seen, brought, fields):
-    """The sums that a series may have: of what had been seen, and a front of what is brought."""
-    total, found = seen.get(fields, 0), set()
-    if fields in seen:
-        found.add(total)
-    for value in brought.get(fields, []):
-        total += value
-        found.add(total)
-    return found
+def in_reach(points, moment, span):
+    return [value for end, value in points if moment - span < end <= moment]
 
 
-class Reading:
-    """What is given, from where the text that is wanted so far ends."""
-
-    def __init__(self, given):
-        self.given = given
-
-    def at(self, text):
-        return self.given[len(text) :].split("\n")
+def load(found):
+    """The load of points in reach, by series: the points and the rows."""
+    return sum(map(len, found.values())) + len(found)
 
 
-HEADING = "time,user,job,cluster,task,work"
+def is_front(text, given):
+    """Whether the lines that are given begin with a text."""
+    lines = text.split("\n")[:-1]
+    return given[: len(lines)] == lines
 
 
-def table_rows(lines):
+def printed_by(line, given, setting):
+    """The lines of what is given that one line printed, by their form; none where it could not."""
+    if not given or not given[0]:
+        return None
+    count = 1
+    if line.word == "feed":
+        told = re.fullmatch(r"feed (\S+): \d+ accepted, (\d+) refused", given[0])
+        if told is None or told[1] != line.given[0]:
+            return None
+        count += int(told[2])
+    elif line.word in QUESTIONS and not given[0].startswith("refused: "):
+        ends = [number for number, one in enumerate(given) if re.fullmatch(r"\d+ rows", one)]
+        if not ends:
+            return None
+        count += ends[0]
+        if line.word == "explain":
+            count += len(TEXTS[line.given[1]][1]) + len(setting.leaves)
+    return given[:count] if len(given) > count else None
+
+
+def table_rows(lines, moment):
     """The rows of a table that the lines begin with, as sums by series; None where they are no such table."""
-    if lines[:1] != [HEADING]:
+    if lines[0] != HEADING:
         return None
     rows = {}
     for line in lines[1:]:
         if line.endswith(" rows"):
-            return rows if line == f"{len(rows)} rows" else None
+            return rows if table(rows, moment) == "".join(f"{one}\n" for one in lines[: len(rows) + 2]) else None
         cells = line.split(",")
-        if len(cells) != 6 or cells[0] != str(sql.MOMENT) or not cells[5].isdigit() or tuple(cells[1:5]) in rows:
+        if len(cells) != 6 or not cells[5].isdigit() or not cells[4].isdigit():
             return None
         rows[tuple(cells[1:5])] = int(cells[5])
     return None
 
 
-def table(rows):
+def table(rows, moment):
     """A table of sums by series, as it is printed."""
     ordered = sorted(rows.items(), key=lambda row: (*row[0][:3], int(row[0][3])))
-    lines = [HEADING, *(f"{sql.MOMENT},{','.join(fields)},{total}" for fields, total in ordered)]
+    lines = [HEADING, *(f"{moment},{','.join(fields)},{total}" for fields, total in ordered)]
     return "".join(f"{line}\n" for line in [*lines, f"{len(rows)} rows"])
-
-
-def leaves(lines):
-    """The lines that tell of leaves, whose rows together are those of the table."""
-    rows, found, sent = table_rows(lines), [], 0
-    for line in lines[len(rows) + 2 + len(OPERATIONS) :]:
-        words = line.split(" ")
-        if words[0] != "leaf" or len(words) != 4:
-            break
-        found.append(line)
-        sent += int(words[3])
-    return "".join(f"{line}\n" for line in found) if sent == len(rows) else "leaves that sent other rows\n"

@@ -1,8 +1,8 @@
-"""Made input, worked out by its rules alone: what `gen N` prints. It shares nothing with the crates."""
+"""Made input, worked out by its rules alone: what `gen N` and `trial N` print. It shares nothing with the crates."""
 
 import json
 
-FILES, ROWS, TASKS = 4, 50000, 500
+FILES, ROWS, TASKS, JOBS, CLUSTERS = 4, 50000, 500, 10, 4
 FACTOR, ADDEND, WORD = 6364136223846793005, 1442695040888963407, 2**64
 ALL = "fetch Task::/work | align delta(1000s)"
 QUERIES = (
@@ -41,17 +41,24 @@ def script():
     return "".join(f"{line}\n" for line in ["together", *feeds, "end", *(f"query 1000 {text}" for text in QUERIES)])
 
 
-def points(number):
-    """The texts of the files of points."""
+def values(number):
+    """The points of each file: task, end and value."""
     state = number
-    for file in range(FILES):
-        records = []
+    for _file in range(FILES):
+        found = []
         for row in range(ROWS):
             state = (state * FACTOR + ADDEND) % WORD
-            task, end = row % TASKS, 10 * (row // TASKS + 1)
-            value = state // 2**33 % 1000
-            records.append(f"Task,/work,{end - 10},{end},{value},u{file},job{task % 10},c{task % 4},{task}\n")
-        yield "".join(records)
+            found.append((row % TASKS, 10 * (row // TASKS + 1), state // 2**33 % 1000))
+        yield found
+
+
+def points(number):
+    """The texts of the files of points."""
+    for file, found in enumerate(values(number)):
+        yield "".join(
+            f"Task,/work,{end - 10},{end},{value},u{file},job{task % JOBS},c{task % CLUSTERS},{task}\n"
+            for task, end, value in found
+        )
 
 
 def sections(number):
@@ -65,3 +72,39 @@ def sections(number):
 def printed(number):
     """What `gen` prints of a number."""
     return "".join(f"== {name} ==\n{text}" for name, text in sections(number))
+
+
+def work(found, after):
+    """The work of each task of a file, at ends after one."""
+    total = [0] * TASKS
+    for task, end, value in found:
+        if end > after:
+            total[task] += value
+    return total
+
+
+def answers(number):
+    """How many rows each query has, and the sum of its last column."""
+    files = list(values(number))
+    work_of = [work(found, 0) for found in files]
+    tasks = [one for total in work_of for one in total]
+    jobs = [[one for total in work_of for one in total[job::JOBS]] for job in range(JOBS)]
+    clusters = [sum(sum(total[cluster::CLUSTERS]) for total in work_of) for cluster in range(CLUSTERS)]
+    columns = (
+        tasks,
+        [sum(tasks)],
+        clusters,
+        [sum(job) // len(job) for job in jobs],
+        sorted(tasks)[-10:],
+        work(files[1], 500),
+        [max(total[7::JOBS]) for total in work_of],
+        [len(tasks)],
+    )
+    return [(len(column), sum(column)) for column in columns]
+
+
+def summary(number):
+    """What `trial` prints of a number."""
+    count = FILES * ROWS
+    queries = (f"query {place}: {rows} rows, sum {total}\n" for place, (rows, total) in enumerate(answers(number), 1))
+    return f"points {count}\naccepted {count}\nrefused 0\n" + "".join(queries)

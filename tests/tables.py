@@ -8,7 +8,7 @@ import made
 from runs import Run
 
 CONFIG, SCRIPT, POINTS = "c.json", "s.txt", "p.csv"
-ESCAPE = re.compile(rb"\\(?:([nr])|x([0-9a-f]{2})|\{(\d+) ([^}\\]*)\}|<(\d+) ([^>\\]*)>|)")
+ESCAPE = re.compile(rb"\\(?:([nr])|x([0-9a-f]{2})|\{(\d+) ((?:[^}\\]|\\n)*)\}|<(\d+) ((?:[^>\\]|\\n)*)>|)")
 ENDS = {b"n": b"\n", b"r": b"\r"}
 
 
@@ -42,7 +42,7 @@ def expanded_escape(found):
         return ENDS[end] if end else bytes([int(byte, 16)])
     if not count and not other_count:
         raise Misspelled("no escape stands behind a backslash")
-    return int(count or other_count) * (piece or other_piece or b"")
+    return int(count or other_count) * (piece or other_piece or b"").replace(b"\\n", b"\n")
 
 
 def expanded_lines(lines):
@@ -226,6 +226,14 @@ def inputs(case):
     return Run({}, ("gen", case.given)), b"0\n" + text
 
 
+def trials(case):
+    """`N`; how many rows each query over its input has. The run prints the whole summary, as its rules say."""
+    rows = [count for count, _sum in made.answers(int(case.given))]
+    if b" ".join(b"%d" % count for count in rows) != case.wanted.strip():
+        raise Misspelled("the queries have other rows")
+    return Run({}, ("trial", case.given)), b"0\n" + made.summary(int(case.given)).encode()
+
+
 def of_filter(case, predicate, record, config=None):
     """The run that counts the one point that is fed where a filter takes it."""
     script = b"feed p.csv\nquery 10 fetch T::/m | filter %s | group_by [], count()\n" % predicate
@@ -248,5 +256,5 @@ def quoted(text):
     return b'"%s"' % text.replace(b'"', b'""')
 
 
-LIST = (runs, schedules, configurations, scripts, queries, points, meanings, patterns, predicates, inputs)
+LIST = (runs, schedules, configurations, scripts, queries, points, meanings, patterns, predicates, inputs, trials)
 KINDS = {kind.__name__: kind for kind in LIST}

@@ -1,5 +1,5 @@
 -- Why a question was refused, between what its caller had seen before it and has seen behind it.
-use Rattle.std.proofs.Common.{◌≡◌, ◌∙◌, ◌<◌, ℕ, ℤ, nat_eq, Bool, true, false, cond, List, [], ◌∷◌, length, map}
+use Rattle.std.proofs.Common.{◌≡◌, ◌∙◌, ◌<◌, ℕ, nat_eq, Bool, true, false, cond, List, [], ◌∷◌, length, map}
 use Rattle.std.proofs.Common.{Some, Err, refl, sym, ap, subst, arith}
 use Rattle.std.specs.List.{AllByRecursion, filter}
 use Rattle.std.proofs.lemmas.Bool.Decides.{nat_tests}
@@ -26,13 +26,15 @@ use Rattle.query_core.specs.Settings.{QuerySetting}
 use Rattle.query_core.specs.Traces.{IsBetween, lengths_of, source_of}
 use Rattle.query_core.specs.declared.answers.Trace.{Trace}
 use Rattle.run_traces.specs.LineCauses.{HasCause}
+use Rattle.mon_script.specs.declared.forms.LineForm.{LineForm}
 use Rattle.run_traces.specs.LineFreshness.{found_cuts, refusal_cuts}
+use Rattle.run_traces.specs.LineTables.{moment_of, text_of}
 use Rattle.run_traces.specs.declared.traces.LineFault.{LineFault}
 use Rattle.run_traces.specs.declared.traces.LineFault.TheVariants as why
 
 -- ---- cuts
 
-same_leaves : (a b : Leaf) → same_leaf a b ≡ true → a ≡ b
+pub same_leaves : (a b : Leaf) → same_leaf a b ≡ true → a ≡ b
 same_leaves a b same =
     let number : a.0 ≡ b.0 = let test : nat_eq a.0 b.0 ≡ true = same in grind (arith, nat_tests) in
     ap leaf_numbered number
@@ -49,7 +51,7 @@ module _ (before after : Histories) where
   found_at leaf found rest false same is more = more
 
   -- of leaves that were found down
-  founds_between : (leaf : Leaf) (founds : List FoundDown) → AreFoundThen before after founds
+  pub founds_between : (leaf : Leaf) (founds : List FoundDown) → AreFoundThen before after founds
       → AllByRecursion (LiesBetween leaf) (found_cuts leaf founds)
   founds_between leaf [] are = tt
   founds_between leaf (found ∷ founds) are =
@@ -61,12 +63,12 @@ module _ (before after : Histories) where
 some_same : {A : Type 0} (x y : A) → Some x ≡ Some y → x ≡ y
 some_same x y same = cc
 
-module _ (config : Config) (text : List ℕ) (moment : ℤ) (before after : Knowledge) where
+module _ (config : Config) (what : LineForm) (before after : Knowledge) where
   -- a refusal has its cause, and names cuts that lie between
   pub record HasItsCause (told : LineFault) : Type 0 where
-    pub cause : HasCause config after.seen (lengths_of before.seen) (lengths_of after.seen) text moment told
+    pub cause : HasCause config after.seen (lengths_of before.seen) (lengths_of after.seen) what told
     pub cuts : (leaf : Leaf) → leaf.0 < length after.seen.leaves
-        → AllByRecursion (LiesBetween before.seen after.seen leaf) (refusal_cuts leaf told)
+        → AllByRecursion (LiesBetween before.seen after.seen leaf) (refusal_cuts leaf what told)
 
   none_up : (range : Range) (named : List FoundDown) → HasNoReplica config.topology before.seen after.seen range named
       → HasItsCause (why.NoReplica range named)
@@ -85,8 +87,8 @@ module _ (config : Config) (text : List ℕ) (moment : ℤ) (before after : Know
         cuts = λ leaf there. founds_between before.seen after.seen leaf named are;
       }
 
-  over : (setting : QuerySetting) (limit : ℕ) (trace : Trace) → IsSettingOf config text config.limit setting
-      → IsStoppedRightly (setting_of config) setting moment before.seen after.seen limit trace
+  over : (setting : QuerySetting) (limit : ℕ) (trace : Trace) → IsSettingOf config (text_of what) config.limit setting
+      → IsStoppedRightly (setting_of config) setting (moment_of what) before.seen after.seen limit trace
       → HasItsCause (why.StepLimit limit trace)
   over setting limit trace of_text stopped = record {
     cause = record {
@@ -94,14 +96,15 @@ module _ (config : Config) (text : List ℕ) (moment : ℤ) (before after : Know
       type_is = of_text.typed;
       of = stopped.of;
       limit_is = stopped.limit_is ∙ of_text.limit_is;
-      above = subst (λ most. most < load (typed_of setting) (source_of after.seen trace) moment) of_text.limit_is
+      above = subst (λ most. most < load (typed_of setting) (source_of after.seen trace) (moment_of what)) of_text.limit_is
           stopped.above;
     };
     cuts = λ leaf there. (record { from = stopped.since leaf there; to = stopped.of.within leaf there }, tt);
   }
 
   -- of each query that is refused
-  pub has_cause : (refused : QueryFault) → IsQueried config text moment config.limit before after (Err refused)
+  pub has_cause : (refused : QueryFault) → IsQueried config (text_of what) (moment_of what) config.limit before after
+      (Err refused)
       → (told : LineFault) → told_fault refused ≡ Some told → HasItsCause told
   has_cause (fault.Parse parse) queried told is =
       subst HasItsCause (some_same (why.Parse parse) told is) (record { cause = queried; cuts = λ leaf there. tt })

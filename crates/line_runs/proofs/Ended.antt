@@ -8,7 +8,8 @@ use Rattle.know.specs.Knowledge.{Knowledge}
 use Rattle.line_runs.proofs.Answered.{look_found}
 use Rattle.line_runs.proofs.Causes.{has_cause}
 use Rattle.line_runs.proofs.Growing.{grown, wider}
-use Rattle.line_runs.proofs.Wrote.{OwnsAsMuch, asked_wrote, prints_alike, refused_wrote}
+use Rattle.line_runs.proofs.Wrote.{OwnsAsMuch, asked_wrote, moment_is, prints_alike, refused_wrote, suits_refused}
+use Rattle.line_runs.proofs.Wrote.{text_is}
 use Rattle.line_runs.specs.LineWrites.{LineWrote, ran_line}
 use Rattle.line_runs.specs.Questions.{IsPrinted, IsRefusedFor, asked_line, question}
 use Rattle.line_runs.specs.declared.asks.Asked.{Asked}
@@ -32,6 +33,7 @@ use Rattle.query_core.specs.Traces.{lengths_of, source_of}
 use Rattle.query_core.specs.declared.answers.Answer.{Answer}
 use Rattle.query_core.specs.declared.answers.Trace.{Trace}
 use Rattle.run_traces.specs.LineClaims.{HaveGrown}
+use Rattle.run_traces.specs.LineTables.{moment_of, text_of}
 use Rattle.run_traces.specs.LineTexts.{line_text}
 use Rattle.run_traces.specs.declared.traces.LineTrace.{LineTrace}
 use Rattle.run_traces.specs.declared.traces.LineTrace.TheVariants as came
@@ -83,7 +85,7 @@ module _ (store : Setting) (config : Config) (before : Knowledge)
     (was : AreHeld store.held store.zones store.points before.seen) where
   -- ---- what is owned behind a query
 
-  owns_behind : (after : Knowledge) → GoesOn store before after → OwnsAsMuch before after
+  pub owns_behind : (after : Knowledge) → GoesOn store before after → OwnsAsMuch before after
   owns_behind after goes = record {
     grown = grown before.seen after.seen goes.fronts store.held store.zones store.points was goes.sound.held;
     fronts = goes.fronts;
@@ -109,6 +111,15 @@ module _ (store : Setting) (config : Config) (before : Knowledge)
 
   -- ---- a query that is refused
 
+  as_question : (what : Asked) (moment : ℤ) (text : List ℕ) (after : Knowledge) (result : Result Answer QueryFault)
+      → IsQueried config text moment config.limit before after result
+      → IsQueried config (text_of (question what moment text)) (moment_of (question what moment text)) config.limit before
+      after result
+  as_question what moment text after result queried =
+      subst (λ t. IsQueried config t (moment_of (question what moment text)) config.limit before after result)
+      (sym (text_is what moment text))
+      (subst (λ m. IsQueried config text m config.limit before after result) (sym (moment_is what moment text)) queried)
+
   pub refused_ran : (what : Asked) (moment : ℤ) (text : List ℕ) (after : Knowledge) (fault : QueryFault)
       → GoesOn store before after → IsQueried config text moment config.limit before after (Err fault)
       → {F : Type 0} (result : Result LineRan F)
@@ -118,8 +129,9 @@ module _ (store : Setting) (config : Config) (before : Knowledge)
   refused_ran what moment text after fault goes queried (Ok ran) refused = λ content.
       subst (λ (r : LineRan). LineWrote config (ran_line (question what moment text) content r.trace) r.text before
       after) (sym refused.ran_is)
-      (refused_wrote config what moment text content before after (owns_behind after goes) refused.told
-      (has_cause config text moment before after fault queried refused.told refused.told_is))
+      (refused_wrote config (question what moment text) content before after (owns_behind after goes) refused.told
+      (suits_refused what moment text refused.told) (has_cause config (question what moment text) before after fault
+      (as_question what moment text after (Err fault) queried) refused.told refused.told_is))
   refused_ran what moment text after fault goes queried (Err failed) refused = tt
 
   -- ---- a query that is answered

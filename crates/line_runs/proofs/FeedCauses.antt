@@ -47,7 +47,7 @@ pub leaf_length : (x : Knowledge) (leaf : Leaf) → lengths x (of.Leaf leaf) ≡
 leaf_length x leaf = length-map (leaf_history x.seen leaf) (λ e. one.Leaf e)
 
 -- what is contained in the list is so where all are
-contained : {X : Type 0} (P : X → Type 0) (xs : List X) → ((x : X) → Contains xs x → P x) → AllByRecursion P xs
+pub contained : {X : Type 0} (P : X → Type 0) (xs : List X) → ((x : X) → Contains xs x → P x) → AllByRecursion P xs
 contained P [] f = tt
 contained P (x ∷ xs) f = (
   f x (0, omega arith, refl),
@@ -60,7 +60,7 @@ or_right true b is = refl
 or_right false b is = is
 
 -- each replica is on one of their leaves
-all_avoided : (replicas : List SlotLeaf)
+pub all_avoided : (replicas : List SlotLeaf)
     → AllByRecursion (λ replica. is_avoided (map (λ (r : SlotLeaf). r.leaf) replicas) replica ≡ true) replicas
 all_avoided replicas = avoided_by (map (λ (r : SlotLeaf). r.leaf) replicas) replicas (λ leaf is. is)
   where

@@ -103,7 +103,7 @@ module _ (config : Config) where
           (reads_of config.schemas content) 1 0 first [] rows refusals refl refl refl (part_none config first) fed;
     }
 
-    finds : Finds config last.seen (lengths first) (lengths last)
+    finds : Finds config last.seen (lengths first) (lengths last) (pass_of first)
         (ran_line (form.Feed name) content (line (pass_of first)))
     finds = record {
       forth = seen_below first last done.still.fronts;

@@ -9,9 +9,12 @@ pub mod FeedRows
 pub mod FeedSteps
 pub mod FeedWrote
 mod Growing
-mod OtherLines
+pub mod OtherLines
 mod Printed
+mod RecoveryWrote
 mod Results
 mod Sources
+pub mod StandingWrote
+mod SwitchWrote
 mod Typed
 mod Wrote

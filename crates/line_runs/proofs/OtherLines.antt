@@ -1,36 +1,53 @@
--- What a line owes that does nothing, and one that asks.
-use Rattle.std.proofs.Common.{◌≡◌, ℕ, List, [], Ok, Err, refl, sym, subst, arith, append-nil}
+-- What a line owes that touches nothing, and one that asks.
+use Rattle.std.proofs.Common.{◌≡◌, ℕ, List, [], Ok, Err, length, refl, sym, subst, arith, append-nil}
 use Rattle.std.specs.Prelude.{IfOk, Result}
+use Rattle.std.specs.List.{AllByRecursion}
 use Rattle.know.specs.Knowledge.{Knowledge}
-use Rattle.line_runs.specs.LineWrites.{LineWrote, ran_line}
-use Rattle.line_runs.specs.Questions.{idle_line}
+use Rattle.line_runs.specs.LineWrites.{KeepsItsPlace, LineWrote, ran_line}
 use Rattle.line_runs.specs.declared.lines.LineRan.{LineRan}
 use Rattle.mon_config.specs.declared.config.Config.{Config}
 use Rattle.mon_store.specs.Writes.{own_entries}
 use Rattle.mon_topo.proofs.FrontLemmas.{begins_itself}
 use Rattle.mon_value.specs.Histories.{leaf_history, range_history}
+use Rattle.mon_value.specs.declared.positions.Leaf.{Leaf}
+use Rattle.run_traces.specs.LineCauses.{HasCause}
+use Rattle.run_traces.specs.LineClaims.{marked}
 use Rattle.run_traces.specs.LineForms.{Suits}
+use Rattle.run_traces.specs.LineFreshness.{refusal_cuts}
+use Rattle.run_traces.specs.LineTexts.{done_text, refused_line}
+use Rattle.run_traces.specs.declared.traces.LineFault.{LineFault}
 use Rattle.run_traces.specs.declared.traces.LineTrace.TheVariants as came
 use Rattle.mon_script.specs.declared.forms.LineForm.{LineForm}
-use Rattle.mon_script.specs.declared.forms.LineForm.TheVariants as form
+use Rattle.history_book.specs.Histories.{entries}
+use Rattle.history_book.specs.declared.views.History.{History}
+use Rattle.history_book.specs.declared.views.History.TheVariants as of
+use Rattle.query_core.specs.Traces.{IsBetween}
 
-pub idle_wrote : (config : Config) (what : LineForm) (content : List ℕ) (know : Knowledge)
-    → Suits what came.Done → LineWrote config (ran_line what content came.Done) [] know know
-idle_wrote config what content know suits = record {
-  keeps = record {
-    grown = record {
-      within = record {
-        leaves = λ leaf. begins_itself (leaf_history know.seen leaf);
-        ranges = λ range. begins_itself (range_history know.seen range);
-      };
-      leaves = refl;
-      ranges = refl;
+still_kept : (know : Knowledge) → KeepsItsPlace know know
+still_kept know = record {
+  grown = record {
+    within = record {
+      leaves = λ leaf. begins_itself (leaf_history know.seen leaf);
+      ranges = λ range. begins_itself (range_history know.seen range);
     };
-    number = refl;
-    met = refl;
-    stock = refl;
-    lost = λ n. refl;
+    leaves = refl;
+    ranges = refl;
   };
+  number = refl;
+  met = refl;
+  stock = refl;
+  lost = λ n. refl;
+}
+
+-- how much of each history a caller has seen
+abbrev pub reached : Knowledge → History → ℕ
+reached know history = length (entries know.seen history)
+
+-- a line that does nothing
+pub done_wrote : (config : Config) (what : LineForm) (content : List ℕ) (know : Knowledge)
+    → Suits what came.Done → LineWrote config (ran_line what content came.Done) (done_text what) know know
+done_wrote config what content know suits = record {
+  keeps = still_kept know;
   made = λ history. [];
   makes = λ history. refl;
   own = λ history. sym (append-nil (own_entries know.purse.own history));
@@ -44,14 +61,26 @@ idle_wrote config what content know suits = record {
   prints = refl;
 }
 
--- a line that begins a block or ends it
-idle_ran : {F : Type 0} (config : Config) (what : LineForm) (content : List ℕ) (know : Knowledge)
-    (result : Result LineRan F) → Suits what came.Done → IfOk result (λ ran. ran ≡ idle_line)
-    → IfOk result (λ ran. LineWrote config (ran_line what content ran.trace) ran.text know know)
-idle_ran config what content know (Ok ran) suits is =
-    subst (λ (r : LineRan). LineWrote config (ran_line what content r.trace) r.text know know) (sym is)
-    (idle_wrote config what content know suits)
-idle_ran config what content know (Err fault) suits is = tt
+-- a line that is refused for a cause that is no leaf's
+pub still_refused : (config : Config) (what : LineForm) (content : List ℕ) (know : Knowledge) (fault : LineFault)
+    → Suits what (came.Refused fault) → ((leaf : Leaf) → refusal_cuts leaf what fault ≡ [])
+    → HasCause config know.seen (marked (reached know)) (marked (reached know)) what fault
+    → LineWrote config (ran_line what content (came.Refused fault)) (refused_line config.topology fault) know know
+still_refused config what content know fault suits none cause = record {
+  keeps = still_kept know;
+  made = λ history. [];
+  makes = λ history. refl;
+  own = λ history. sym (append-nil (own_entries know.purse.own history));
+  found = record {
+    forth = λ history. omega arith;
+    suits = suits;
+    told = tt;
+    cuts = λ leaf there. subst (AllByRecursion (IsBetween (reached know (of.Leaf leaf)) (reached know (of.Leaf leaf))))
+        (sym (none leaf)) tt;
+    found = cause;
+  };
+  prints = refl;
+}
 
 -- a line that asks owes what its question does, whatever stands in its content
 pub as_line : {F : Type 0} (config : Config) (what asked : LineForm) (content : List ℕ) (before after : Knowledge)
@@ -62,15 +91,3 @@ pub as_line : {F : Type 0} (config : Config) (what asked : LineForm) (content : 
 as_line config what asked content before after (Ok ran) same wrote =
     subst (λ w. LineWrote config (ran_line w content ran.trace) ran.text before after) (sym same) (wrote content)
 as_line config what asked content before after (Err fault) same wrote = tt
-
-pub opens_idle : {F : Type 0} (config : Config) (what : LineForm) (content : List ℕ) (know : Knowledge)
-    (result : Result LineRan F) → what ≡ form.Together → IfOk result (λ ran. ran ≡ idle_line)
-    → IfOk result (λ ran. LineWrote config (ran_line what content ran.trace) ran.text know know)
-opens_idle config what content know result same =
-    idle_ran config what content know result (subst (λ w. Suits w came.Done) (sym same) tt)
-
-pub closes_idle : {F : Type 0} (config : Config) (what : LineForm) (content : List ℕ) (know : Knowledge)
-    (result : Result LineRan F) → what ≡ form.End → IfOk result (λ ran. ran ≡ idle_line)
-    → IfOk result (λ ran. LineWrote config (ran_line what content ran.trace) ran.text know know)
-closes_idle config what content know result same =
-    idle_ran config what content know result (subst (λ w. Suits w came.Done) (sym same) tt)

@@ -1,5 +1,5 @@
--- What a question that ran owes: it wrote nothing, and found what it tells between what its caller had seen before it
--- and has seen behind it.
+-- What a line that wrote nothing owes: a question, and any line that was refused. It found what it tells between what its
+-- caller had seen before it and has seen behind it.
 use Rattle.std.proofs.Common.{◌≡◌, ◌∙◌, ◌++◌, ℕ, ℤ, List, [], Ok, Err, refl, sym, ap, subst}
 use Rattle.std.proofs.Common.{arith, append-nil}
 use Rattle.std.specs.Prelude.{Result, option_map}
@@ -36,6 +36,8 @@ use Rattle.run_traces.specs.LineCauses.{HasCause}
 use Rattle.run_traces.specs.LineClaims.{Finds, HaveGrown, LookFound, marked}
 use Rattle.run_traces.specs.LineForms.{Suits}
 use Rattle.run_traces.specs.LineFreshness.{refusal_cuts}
+use Rattle.mon_script.specs.declared.forms.LineForm.{LineForm}
+use Rattle.owners.specs.Puts.{pass_of}
 use Rattle.run_traces.specs.LineTables.{moment_of, text_of}
 use Rattle.run_traces.specs.LineTexts.{asked_text, explanation, line_text}
 use Rattle.run_traces.specs.RanLines.{RanLine}
@@ -56,18 +58,18 @@ pub record OwnsAsMuch (before after : Knowledge) : Type 0 where
 
 -- ---- the text of a question
 
-text_is : (what : Asked) (moment : ℤ) (text : List ℕ) → text_of (question what moment text) ≡ text
+pub text_is : (what : Asked) (moment : ℤ) (text : List ℕ) → text_of (question what moment text) ≡ text
 text_is asked.Query moment text = refl
 text_is asked.Check moment text = refl
 text_is asked.Explain moment text = refl
 
-moment_is : (what : Asked) (moment : ℤ) (text : List ℕ) → moment_of (question what moment text) ≡ moment
+pub moment_is : (what : Asked) (moment : ℤ) (text : List ℕ) → moment_of (question what moment text) ≡ moment
 moment_is asked.Query moment text = refl
 moment_is asked.Check moment text = refl
 moment_is asked.Explain moment text = refl
 
 -- what it comes to suits it
-suits_refused : (what : Asked) (moment : ℤ) (text : List ℕ) (told : LineFault)
+pub suits_refused : (what : Asked) (moment : ℤ) (text : List ℕ) (told : LineFault)
     → Suits (question what moment text) (came.Refused told)
 suits_refused asked.Query moment text told = tt
 suits_refused asked.Check moment text told = tt
@@ -100,20 +102,17 @@ module _ (config : Config) (seen more : Histories) (moment : ℤ) (trace : Trace
   prints_alike what text =
       answer_alike (text_type config.schemas (text_of (question what moment text))) what text
 
--- ---- what a question owes
+-- ---- what a line owes that wrote nothing
 
-module _ (config : Config) (what : Asked) (moment : ℤ) (text content : List ℕ) (before after : Knowledge)
+module _ (config : Config) (form : LineForm) (content : List ℕ) (before after : Knowledge)
     (owns : OwnsAsMuch before after) where
-  abbrev pub the_line : LineTrace → RanLine
-  the_line trace = ran_line (question what moment text) content trace
-
   abbrev pub from : History → ℕ
   from = seen_of before.seen
 
   abbrev pub to : History → ℕ
   to = seen_of after.seen
 
-  keeps : KeepsItsPlace before after
+  pub keeps : KeepsItsPlace before after
   keeps = record {
     grown = owns.grown;
     number = ap (option_map (λ (kept : Kept). kept.number)) owns.own;
@@ -122,7 +121,7 @@ module _ (config : Config) (what : Asked) (moment : ℤ) (text content : List �
     lost = owns.lost;
   }
 
-  nothing_more : (history : History)
+  pub nothing_more : (history : History)
       → own_entries after.purse.own history ≡ own_entries before.purse.own history ++ []
   nothing_more history =
       ap (λ own. own_entries own history) owns.own ∙ sym (append-nil (own_entries before.purse.own history))
@@ -143,36 +142,44 @@ module _ (config : Config) (what : Asked) (moment : ℤ) (text content : List �
       (subst (P (lengths_of before.seen)) (sym (marks after.seen)) is)
 
   -- it was refused for a fault with its cause
-  refused_finds : (told : LineFault) → HasItsCause config text moment before after told
-      → Finds config after.seen from to (the_line (came.Refused told))
-  refused_finds told found = record {
+  refused_finds : (told : LineFault) → Suits form (came.Refused told) → HasItsCause config form before after told
+      → Finds config after.seen from to (pass_of before) (ran_line form content (came.Refused told))
+  refused_finds told suits found = record {
     forth = forth before.seen after.seen owns.fronts;
-    suits = suits_refused what moment text told;
+    suits = suits;
     told = tt;
-    cuts = λ leaf there. between leaf (refusal_cuts leaf told) (found.cuts leaf there);
-    found =
-        subst (λ asked. HasCause config after.seen (marked from) (marked to) asked (moment_of (question what moment
-        text)) told) (sym (text_is what moment text))
-        (subst (λ at. HasCause config after.seen (marked from) (marked to) text at told)
-        (sym (moment_is what moment text))
-        (at_marks (λ low high. HasCause config after.seen low high text moment told) found.cause));
+    cuts = λ leaf there. between leaf (refusal_cuts leaf form told) (found.cuts leaf there);
+    found = at_marks (λ low high. HasCause config after.seen low high form told) found.cause;
   }
 
-  pub refused_wrote : (told : LineFault) → HasItsCause config text moment before after told
-      → LineWrote config (the_line (came.Refused told))
-      (line_text config after.seen (the_line (came.Refused told))) before after
-  refused_wrote told found = record {
+  pub refused_wrote : (told : LineFault) → Suits form (came.Refused told) → HasItsCause config form before after told
+      → LineWrote config (ran_line form content (came.Refused told))
+      (line_text config after.seen (ran_line form content (came.Refused told))) before after
+  refused_wrote told suits found = record {
     keeps = keeps;
     made = λ history. [];
     makes = λ history. refl;
     own = nothing_more;
-    found = refused_finds told found;
+    found = refused_finds told suits found;
     prints = refl;
   }
 
+-- ---- what a question owes that was answered
+
+module _ (config : Config) (what : Asked) (moment : ℤ) (text content : List ℕ) (before after : Knowledge)
+    (owns : OwnsAsMuch before after) where
+  abbrev pub the_line : LineTrace → RanLine
+  the_line trace = ran_line (question what moment text) content trace
+
+  abbrev since : History → ℕ
+  since = seen_of before.seen
+
+  abbrev until : History → ℕ
+  until = seen_of after.seen
+
   -- it was answered by what was seen between
-  asked_finds : (trace : Trace) → LookFound config after.seen from to text moment trace
-      → Finds config after.seen from to (the_line (came.Asked moment trace))
+  asked_finds : (trace : Trace) → LookFound config after.seen since until text moment trace
+      → Finds config after.seen since until (pass_of before) (the_line (came.Asked moment trace))
   asked_finds trace look = record {
     forth = forth before.seen after.seen owns.fronts;
     suits = suits_asked what moment text trace;
@@ -180,17 +187,17 @@ module _ (config : Config) (what : Asked) (moment : ℤ) (text content : List �
     cuts = λ leaf there.
         (record { from = look.fresh.cuts leaf there; to = look.of.within leaf there }, tt);
     found =
-        subst (λ asked. LookFound config after.seen from to asked moment trace) (sym (text_is what moment text)) look;
+        subst (λ asked. LookFound config after.seen since until asked moment trace) (sym (text_is what moment text)) look;
   }
 
-  pub asked_wrote : (trace : Trace) → LookFound config after.seen from to text moment trace
+  pub asked_wrote : (trace : Trace) → LookFound config after.seen since until text moment trace
       → LineWrote config (the_line (came.Asked moment trace))
       (line_text config after.seen (the_line (came.Asked moment trace))) before after
   asked_wrote trace look = record {
-    keeps = keeps;
+    keeps = keeps config (question what moment text) content before after owns;
     made = λ history. [];
     makes = λ history. refl;
-    own = nothing_more;
+    own = nothing_more config (question what moment text) content before after owns;
     found = asked_finds trace look;
     prints = refl;
   }

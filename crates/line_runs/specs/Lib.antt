@@ -1,3 +1,5 @@
+pub mod Controls
 pub mod Feeding
 pub mod LineWrites
 pub mod Questions
+pub mod StandingLines

@@ -36,5 +36,5 @@ pub record LineWrote (config : Config) (line : RanLine) (text : List ℕ) (befor
   pub own : (history : History)
       → own_entries after.purse.own history ≡ own_entries before.purse.own history ++ made history
   pub found : Finds config after.seen (λ history. length (entries before.seen history))
-      (λ history. length (entries after.seen history)) line
+      (λ history. length (entries after.seen history)) (pass_of before) line
   pub prints : text ≡ line_text config after.seen line

@@ -98,9 +98,3 @@ pub record IsRefusedFor (zones : List ZoneSpec) (fault : QueryFault) (ran : Line
   pub told : LineFault
   pub told_is : told_fault fault ≡ Some told
   pub ran_is : ran ≡ refused_for zones told
-
--- ---- lines that ask nothing
-
--- a line that begins a block or ends it
-abbrev pub idle_line : LineRan
-idle_line = record { trace = came.Done; text = [] }

@@ -84,10 +84,42 @@ fn fed_records<N: Names, R: Wait>(
     ensures fronts { AreFronts p.old.seen p.new.seen }
 {
     let reads = read_rows(alloc, content, &store.config().schemas)?;
-    let mut fed = Fed {
-        accepted: RowList::new(alloc),
+    match none_fed(alloc, reads.len()) {
+        Ok(fed) => feed_reads(rt, alloc, store, p, reads, fed),
+        Err(failed) => {
+            drop(reads);
+            Err(failed)
+        }
+    }
+}
+
+// No record was fed so far; there is room for so many rows.
+fn none_fed(alloc: Global, count: usize) -> Result<Fed, OutOfMemory>
+    ensures accepted { IfOk result (λ fed. fed.accepted ≡ []) }
+    ensures refused { IfOk result (λ fed. fed.refused ≡ []) }
+{
+    Ok(Fed {
+        accepted: RowList::from_vec(Vec::with_capacity(alloc, count)?),
         refused: RowRefusals::new(alloc),
-    };
+    })
+}
+
+// Feeds the records that were read of a file.
+fn feed_reads<N: Names, R: Wait>(
+    rt: &R,
+    alloc: Global,
+    store: &Store<N>,
+    p: &mut Pass<N>,
+    reads: RowReads,
+    fed: Fed,
+) -> Result<Fed, OutOfMemory>
+    requires accepted { fed.accepted ≡ [] }
+    requires refused { fed.refused ≡ [] }
+    requires fit { AllByRecursion (ReadFits store.now.schemas) reads }
+    ensures fed { IfOk result (λ done. AreFed store.now 1 reads done.accepted done.refused p.old p.new) }
+    ensures fronts { AreFronts p.old.seen p.new.seen }
+{
+    let mut fed = fed;
     match feed_all(rt, alloc, store, p, reads, &mut fed) {
         Ok(()) => Ok(fed),
         Err(fault) => {

@@ -3,10 +3,13 @@
 
 mod asks;
 mod checks;
+mod controls;
 mod explanations;
 mod feed_texts;
 mod feeds;
 mod lines;
 mod refusals;
+mod standing_lines;
 
-pub use lines::{LineRan, run_line};
+pub use lines::{LineRan, run_line, run_query};
+pub use standing_lines::{add_standing, due_heading, refuse_tick};

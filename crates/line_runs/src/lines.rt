@@ -1,11 +1,13 @@
 // A line of a script.
-ghost use Rattle.std.specs.Prelude.{◌≡◌, IfOk};
+ghost use Rattle.std.specs.Prelude.{◌≡◌, ◌≤ℤ◌, pos, [], IfOk};
 ghost use Rattle.history_book.specs.Histories.{AreFronts};
 ghost use Rattle.line_runs.specs.LineWrites.{LineWrote, ran_line};
-ghost use Rattle.line_runs.specs.Questions.{idle_line};
 ghost use Rattle.mon_script.specs.Lawful.{IsLawfulForm};
+ghost use Rattle.mon_script.specs.Places.{mark_of};
+ghost use Rattle.mon_script.specs.declared.places.Mark.TheVariants.{Acts};
 
 use crate::asks::{Asked, ask};
+use crate::controls::{recover, take_down, take_up};
 use crate::feeds::feed;
 use know::Names;
 use mon_script::LineForm;
@@ -22,9 +24,8 @@ pub struct LineRan {
     pub text: Text,
 }
 
-/// Runs a line under its caller: a feed with what its file holds, a question with nothing. A line that begins a block
-/// or ends it does nothing and prints nothing. Where memory runs out, rows of a feed may have been written.
-#[tactic(auto, using(crate::proofs::OtherLines::opens_idle, crate::proofs::OtherLines::closes_idle))]
+/// Runs a line under its caller that may stand in a block: a feed with what its file holds, any other with nothing. Where
+/// memory runs out, rows of a feed may have been written, and a leaf may have been switched or recovered.
 pub fn run_line<N: Names, R: Wait>(
     rt: &R,
     alloc: Global,
@@ -33,7 +34,8 @@ pub fn run_line<N: Names, R: Wait>(
     what: &LineForm,
     content: &[u8],
 ) -> Result<LineRan, OutOfMemory>
-    requires lawful { IsLawfulForm what.now }
+    requires lawful { IsLawfulForm store.now.topology what.now }
+    requires acts { mark_of what.now ≡ Acts }
     ensures wrote { IfOk result (λ ran. LineWrote store.now (ran_line what.now content.now ran.trace) ran.text
         p.old p.new) }
     ensures fronts { AreFronts p.old.seen p.new.seen }
@@ -43,17 +45,29 @@ pub fn run_line<N: Names, R: Wait>(
         LineForm::Query(moment, text) => ask(rt, alloc, store, p, Asked::Query, *moment, text),
         LineForm::Check(moment, text) => ask(rt, alloc, store, p, Asked::Check, *moment, text),
         LineForm::Explain(moment, text) => ask(rt, alloc, store, p, Asked::Explain, *moment, text),
-        LineForm::Together => idle(alloc),
-        LineForm::End => idle(alloc),
+        LineForm::Down(leaf) => take_down(rt, alloc, store, p, *leaf),
+        LineForm::Up(leaf) => take_up(rt, alloc, store, p, *leaf),
+        LineForm::Recover(range, leaf) => recover(rt, alloc, store, p, *range, *leaf),
+        LineForm::Standing(_, _, _) => unreachable!(),
+        LineForm::Tick(_) => unreachable!(),
+        LineForm::Together => unreachable!(),
+        LineForm::End => unreachable!(),
     }
 }
 
-// A line that does nothing.
-fn idle(alloc: Global) -> Result<LineRan, OutOfMemory>
-    ensures ran { IfOk result (λ ran. ran ≡ idle_line) }
+/// Asks a text at a moment, as a line that asks for its table.
+pub fn run_query<N: Names, R: Wait>(
+    rt: &R,
+    alloc: Global,
+    store: &Store<N>,
+    p: &mut Pass<N>,
+    moment: i64,
+    text: &Text,
+) -> Result<LineRan, OutOfMemory>
+    requires moment { pos 0 ≤ℤ moment }
+    ensures wrote { IfOk result (λ ran. LineWrote store.now
+        (ran_line (LineForm.Query moment text.now) [] ran.trace) ran.text p.old p.new) }
+    ensures fronts { AreFronts p.old.seen p.new.seen }
 {
-    Ok(LineRan {
-        trace: LineTrace::Done,
-        text: Text::from_str(alloc, "")?,
-    })
+    ask(rt, alloc, store, p, Asked::Query, moment, text)
 }

@@ -1,13 +1,13 @@
-// Why a question has no table.
-ghost use Rattle.std.specs.Prelude.{◌≡◌, IfOk, string_bytes};
+// Why lines are refused.
+ghost use Rattle.std.specs.Prelude.{◌≡◌, [], IfOk, string_bytes};
 ghost use Rattle.line_runs.specs.Questions as spec;
 ghost use Rattle.line_runs.specs.Questions.{IsRefusedFor};
 ghost use Rattle.run_traces.specs.LineTexts.{line_fault_text, refused_line};
 
 use crate::lines::LineRan;
 use mon_store::QueryFault;
-use mon_topo::{Topology, down_text};
-use mon_value::{OutOfMemory, Text};
+use mon_topo::{Topology, down_text, founds_text};
+use mon_value::{OutOfMemory, Slot, Text};
 use run_traces::{LineFault, LineTrace};
 use std::alloc::{AllocError, Global};
 
@@ -38,8 +38,12 @@ fn line_fault(fault: QueryFault) -> Option<LineFault>
     }
 }
 
-// A line that is refused for a fault.
-fn refused_for(alloc: Global, topology: &Topology, fault: LineFault) -> Result<LineRan, OutOfMemory>
+/// A line that is refused for a fault.
+pub(crate) fn refused_for(
+    alloc: Global,
+    topology: &Topology,
+    fault: LineFault,
+) -> Result<LineRan, OutOfMemory>
     ensures ran { IfOk result (λ ran. ran ≡ spec.refused_for topology.now fault) }
 {
     match refused_text(alloc, topology, &fault) {
@@ -74,5 +78,27 @@ fn fault_text(alloc: Global, topology: &Topology, fault: &LineFault) -> Result<S
             format!(in alloc; "NoReplica {down}")
         }
         LineFault::StepLimit(limit, _trace) => format!(in alloc; "StepLimit {limit}"),
+        LineFault::AlreadyDown(cut) => format!(in alloc; "AlreadyDown {cut}"),
+        LineFault::AlreadyUp(cut) => format!(in alloc; "AlreadyUp {cut}"),
+        LineFault::SwitchesSpent(count) => format!(in alloc; "SwitchesSpent {count}"),
+        LineFault::Serving(slot) => serving_text(alloc, *slot),
+        LineFault::ThreeServing => String::from_str(alloc, "ThreeServing"),
+        LineFault::SlotsSpent(count) => format!(in alloc; "SlotsSpent {count}"),
+        LineFault::SourceDown(founds) => {
+            let down = founds_text(alloc, topology, founds.as_slice())?;
+            format!(in alloc; "SourceDown:{down}")
+        }
+        LineFault::TargetDown(cut) => format!(in alloc; "TargetDown {cut}"),
+        LineFault::NameTaken => String::from_str(alloc, "NameTaken"),
+        LineFault::TooManyDue(most) => format!(in alloc; "TooManyDue {most}"),
+        LineFault::Backwards(last) => format!(in alloc; "Backwards {last}"),
     }
+}
+
+// The slot that serves already.
+fn serving_text(alloc: Global, slot: Slot) -> Result<String, OutOfMemory>
+    ensures text { IfOk result (λ text. string_bytes text ≡ line_fault_text [] (LineFault.Serving slot)) }
+{
+    let number = slot.0;
+    format!(in alloc; "Serving {number}")
 }

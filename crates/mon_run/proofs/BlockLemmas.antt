@@ -1,5 +1,5 @@
 -- How the lines of a script are cut into parts.
-use Rattle.std.proofs.Common.{◌≡◌, ◌∙◌, ◌≤◌, ◌+◌, ℕ, cond, Some, None, option_map, List}
+use Rattle.std.proofs.Common.{◌≡◌, ◌∙◌, ◌≤◌, ◌+◌, ℕ, cond, true, Some, None, option_map, List}
 use Rattle.std.proofs.Common.{[], ◌∷◌, ◌++◌, length, refl, sym, ap, subst, arith}
 use Rattle.std.proofs.lemmas.List.{length-append}
 use Rattle.std.specs.List.{AllByRecursion}
@@ -9,6 +9,7 @@ use Rattle.mon_script.specs.declared.places.Mark.{Mark}
 use Rattle.mon_script.specs.declared.places.Mark.TheVariants as mark
 use Rattle.mon_script.specs.declared.places.TheConstants.{MOST_LINES_OF_BLOCK}
 use Rattle.mon_script.specs.declared.script.ScriptLine.{ScriptLine}
+use Rattle.run_traces.specs.RanLines.{acts_by}
 use Rattle.mon_run.specs.within.Blocks.{Cut, block_behind, cut_by, left_behind, left_by}
 
 abbrev pub Acts : ScriptLine → Type 0
@@ -51,6 +52,7 @@ found_by count line lines mark.Closes is few stands later = record {
     blocks = stands.1;
   };
 }
+found_by count line lines mark.Lone is few stands later = absurd stands
 found_by count line lines mark.Acts is few stands later =
     let found = later stands.1 (omega (arith, stands.0)) in
     record {
@@ -84,7 +86,7 @@ pub record IsBlock (line : ScriptLine) (behind lines left : List ScriptLine) : T
 
 -- a line stands alone
 pub record IsLine (line : ScriptLine) (behind : List ScriptLine) : Type 0 where
-  pub acts : Acts line
+  pub acts : acts_by (mark_of line.what) ≡ true
   pub blocks : AreInBlocks None behind
   pub left_is : left_behind line behind ≡ behind
 
@@ -102,6 +104,7 @@ block_by line behind lines left mark.Opens is stands cut same =
     }
 block_by line behind lines left mark.Closes is stands cut same = absurd stands
 block_by line behind lines left mark.Acts is stands cut same = absurd cc
+block_by line behind lines left mark.Lone is stands cut same = absurd cc
 
 pub is_block : (line : ScriptLine) (behind lines left : List ScriptLine) → AreInBlocks None (line ∷ behind)
     → block_behind line behind ≡ Some (lines, left) → IsBlock line behind lines left
@@ -120,7 +123,10 @@ line_by line behind mark.Opens is stands none same =
     let found = found 0 behind (omega arith) stands in
     no_cut found.block found.rest (sym found.cut_is ∙ none)
 line_by line behind mark.Closes is stands none same = absurd stands
-line_by line behind mark.Acts is stands none same = record { acts = is; blocks = stands; left_is = sym same }
+line_by line behind mark.Acts is stands none same =
+    record { acts = ap acts_by is; blocks = stands; left_is = sym same }
+line_by line behind mark.Lone is stands none same =
+    record { acts = ap acts_by is; blocks = stands; left_is = sym same }
 
 pub is_line : (line : ScriptLine) (behind : List ScriptLine) → AreInBlocks None (line ∷ behind)
     → block_behind line behind ≡ None → IsLine line behind

@@ -10,6 +10,7 @@ use Rattle.mon_config.specs.declared.config.Config.{Config}
 use Rattle.mon_script.specs.Scripts.{script_in}
 use Rattle.mon_script.specs.declared.faults.ScriptFault.{ScriptFault}
 use Rattle.mon_script.specs.declared.script.ScriptLine.{ScriptLine}
+use Rattle.mon_topo.specs.HeldHistories.{AreHeld}
 use Rattle.mon_topo.specs.FirstHistories.{first_histories, first_leaf_history, first_range_history}
 use Rattle.mon_topo.specs.Zones.{leaves_in, ranges_in}
 use Rattle.mon_topo.specs.declared.zones.ZoneSpec.{ZoneSpec}
@@ -27,16 +28,18 @@ use Rattle.mon_run.specs.declared.stop.Stop.TheVariants as stop
 use Rattle.mon_run.specs.within.Lines.{AllRanLines, LinesHalt, LinesRan, ScriptEnds, TextEnds}
 use Rattle.mon_run.specs.within.Stops.{Closes, Done, Ends, Stops, script_stop}
 use Rattle.mon_run.proofs.EndLemmas.{refused_script}
-use Rattle.mon_run.proofs.GrownLemmas.{fronts_grown, fronts_none, grown_fronts, grown_none}
+use Rattle.part_runs.proofs.GrownLemmas.{fronts_grown, fronts_none, grown_fronts, grown_none}
 use Rattle.mon_run.proofs.PartLemmas.{behind_all}
 use Rattle.mon_run.proofs.StepLemmas.{did_by, did_none}
 use Rattle.run_theory.specs.Parts.{Part}
-use Rattle.run_traces.specs.Headline.{RunHolds}
+use Rattle.run_traces.specs.Headline.{RunHolds, ScriptHolds}
 use Rattle.run_traces.specs.LineClaims.{AllRan, HaveGrown}
+use Rattle.run_traces.specs.LineDues.{AreDue, asked_parts}
 use Rattle.run_traces.specs.LineStatuses.{is_refused, lines_status}
 use Rattle.run_traces.specs.LineTexts.{line_text}
 use Rattle.run_traces.specs.RanLines.{RanLine, parts_of, ran_lines}
 use Rattle.run_traces.specs.declared.traces.LineTrace.{LineTrace}
+use Rattle.standing.specs.StandingStates.{standing_state}
 
 -- ---- the laws of runs
 
@@ -44,8 +47,10 @@ abbrev pub Begun : Type 0
 Begun = (config : Config) → AllRan config (first_histories config.topology) []
 
 abbrev pub Hold : Type 0
-Hold = (config : Config) (ended : Histories) (parts : List (Part RanLine))
-    → AreFronts (first_histories config.topology) ended → AllRan config ended parts → RunHolds config ended parts
+Hold = (config : Config) (ended whole : Histories) (parts : List (Part RanLine))
+    → AreFronts (first_histories config.topology) ended → AreFronts ended whole
+    → AreHeld config.schemas config.topology config.range_points whole → AllRan config ended parts
+    → RunHolds config ended parts
 
 abbrev ok_of : Bool → Result Bool Stop
 ok_of refused = Ok refused
@@ -96,18 +101,23 @@ abbrev first : Config → Histories
 first config = first_histories config.topology
 
 module _ (config : Config) (lines : List ScriptLine) (ended : Histories) (before after : Progress)
-    (fresh : before.ends ≡ []) (begun : Begun) (hold : Hold) where
+    (fresh : before.ends ≡ []) (begun : Begun) (hold : Hold)
+    (sound : AreHeld config.schemas config.topology config.range_points ended)
+    (dues : AreDue config.schemas (standing_state [] None) lines after.ends) where
   traces_are : (traces : List LineTrace) → after.ends ≡ before.ends ++ traces → traces ≡ after.ends
   traces_are traces ends = sym (ends ∙ ap (λ (front : List LineTrace). front ++ traces) fresh)
 
   -- the headline holds of the lines that ran
-  held : (files : Files) (known : Histories) (traces : List LineTrace) → HaveGrown (first config) known
+  holds : (files : Files) (known : Histories) (traces : List LineTrace) → traces ≡ after.ends → AreFronts known ended
+      → HaveGrown (first config) known
       → ((parts : List (Part RanLine)) → AllRan config (first config) parts
-      → AllRan config known (parts ++ parts_of (ran_lines (content_of files) lines traces)))
-      → RunHolds config known (parts_of (ran_lines (content_of files) lines traces))
-  held files known traces grown ran =
-      hold config known (parts_of (ran_lines (content_of files) lines traces))
-      (fronts_grown (first config) known grown) (ran [] (begun config))
+      → AllRan config known (parts ++ asked_parts (parts_of (ran_lines (content_of files) lines traces))))
+      → ScriptHolds config (content_of files) known lines traces
+  holds files known traces same front grown ran = record {
+    run = hold config known ended (asked_parts (parts_of (ran_lines (content_of files) lines traces)))
+        (fronts_grown (first config) known grown) front sound (ran [] (begun config));
+    dues = subst (AreDue config.schemas (standing_state [] None) lines) (sym same) dues;
+  }
 
   whole_plan : (files : Files) (status : ℕ) (ran : LinesRan config files lines (first config) ended before after)
       → lines_plan config files ended status lines ran.traces
@@ -149,7 +159,9 @@ module _ (config : Config) (lines : List ScriptLine) (ended : Histories) (before
           known = ended;
           front = fronts_none ended;
           whole = inr refl;
-          holds = held files ended lines_ran.traces lines_ran.grown lines_ran.ran;
+          held = sound;
+          holds = holds files ended lines_ran.traces (traces_are lines_ran.traces lines_ran.ends) (fronts_none ended)
+              lines_ran.grown lines_ran.ran;
         });
   }
 
@@ -179,7 +191,9 @@ module _ (config : Config) (lines : List ScriptLine) (ended : Histories) (before
           known = stops.known;
           front = stops.front;
           whole = early_as ended stopped stops.known stops.whole;
-          holds = held files stops.known stops.traces stops.grown stops.ran;
+          held = sound;
+          holds = holds files stops.known stops.traces (traces_are stops.traces stops.ends) stops.front stops.grown
+              stops.ran;
         });
   }
 
@@ -265,6 +279,7 @@ lines_tell {early} {other} {config} {files} {script} {ended} as_other tells = re
     | inl was ↦ inl (as_other was)
     | inr same ↦ inr same
   ];
+  held = tells.held;
   holds = tells.holds;
 }
 

@@ -1,8 +1,8 @@
 mod BlockLemmas
 mod ContentLemmas
+mod DueLemmas
 mod EndLemmas
 mod EndingLemmas
-mod GrownLemmas
 mod LimitLemmas
 mod LineLemmas
 mod MadeLemmas
@@ -14,3 +14,4 @@ mod RunLemmas
 mod ScriptLemmas
 mod SinkLemmas
 mod StepLemmas
+mod TrialLemmas

@@ -2,6 +2,7 @@
 use Rattle.std.proofs.Common.{◌≡◌, ◌∙◌, inr, ℕ, ◌+◌, List, [], ◌++◌, length, drop, refl, sym, ap, subst}
 use Rattle.std.proofs.Common.{append_assoc, append-nil}
 use Rattle.std.proofs.lemmas.List.{length-append}
+use Rattle.std.proofs.lemmas.List.Concat.{flat_map-append}
 use Rattle.history_book.specs.Histories.{AreFronts}
 use Rattle.mon_config.specs.declared.config.Config.{Config}
 use Rattle.mon_script.specs.declared.script.ScriptLine.{ScriptLine}
@@ -15,12 +16,13 @@ use Rattle.mon_run.specs.within.Lines.{AllRanLines, LinesHalt, LinesRan, LinesRa
 use Rattle.mon_run.specs.within.Lines.{PartWent, StandApart, StoppedEarly}
 use Rattle.mon_run.specs.within.Stops.{Counts, Ran, Stops}
 use Rattle.mon_run.proofs.EndLemmas.{causes_earlier}
-use Rattle.mon_run.proofs.GrownLemmas.{grown_none, grown_then}
+use Rattle.part_runs.proofs.GrownLemmas.{grown_none, grown_then}
 use Rattle.mon_run.proofs.PartLemmas.{IsPart, behind_both, behind_first, part_apart, part_whole, plans_both, ran_both}
 use Rattle.mon_run.proofs.PartLemmas.{ran_first}
 use Rattle.mon_run.proofs.StepLemmas.{did_none, did_then, plan_twice, stops_behind}
 use Rattle.run_theory.specs.Parts.{Part}
 use Rattle.run_traces.specs.LineClaims.{AllRan}
+use Rattle.run_traces.specs.LineDues.{asked_part, asked_parts}
 use Rattle.run_traces.specs.LineTexts.{line_text}
 use Rattle.run_traces.specs.RanLines.{RanLine, parts_of, ran_lines}
 use Rattle.run_traces.specs.declared.traces.LineTrace.{LineTrace}
@@ -40,6 +42,14 @@ plans_ran {first} {second} one other = record {
 }
 
 -- ---- lines behind lines
+
+-- parts behind parts, where ticks count as the queries that they asked
+asked_behind : (config : Config) (known : Histories) (parts one other : Parts)
+    → AllRan config known ((parts ++ asked_parts one) ++ asked_parts other)
+    → AllRan config known (parts ++ asked_parts (one ++ other))
+asked_behind config known parts one other ran =
+    subst (λ (all : Parts). AllRan config known (parts ++ all)) (sym (flat_map-append asked_part one other))
+    (subst (AllRan config known) (append_assoc parts (asked_parts one) (asked_parts other)) ran)
 
 -- no line ran
 pub none_ran : (config : Config) (files : Files) (known : Histories) (p : Progress)
@@ -67,10 +77,10 @@ module _ {config : Config} {files : Files} {lines more : List ScriptLine} {from 
     apart = subst StandApart (sym both) apart;
     grown = grown_then first.grown second.grown;
     ran = λ parts ran.
-        subst (λ (all : List RanLine). AllRan config known (parts ++ parts_of all)) (sym both)
-        (subst (λ (all : Parts). AllRan config known (parts ++ all)) (sym (first.apart other))
-        (subst (AllRan config known) (append_assoc parts (parts_of one) (parts_of other))
-        (second.ran (parts ++ parts_of one) (first.ran parts ran))));
+        subst (λ (all : List RanLine). AllRan config known (parts ++ asked_parts (parts_of all))) (sym both)
+        (subst (λ (all : Parts). AllRan config known (parts ++ asked_parts all)) (sym (first.apart other))
+        (asked_behind config known parts (parts_of one) (parts_of other)
+        (second.ran (parts ++ asked_parts (parts_of one)) (first.ran parts ran))));
     did = λ later grown.
         let went = plans_ran (first.did later (grown_then second.grown grown)) (second.did later grown) in
         record {
@@ -113,10 +123,10 @@ module _ {config : Config} {files : Files} {lines more : List ScriptLine} {from 
     front = second.front;
     whole = second.whole;
     ran = λ parts ran.
-        subst (λ (all : List RanLine). AllRan config second.known (parts ++ parts_of all)) (sym both)
-        (subst (λ (all : Parts). AllRan config second.known (parts ++ all)) (sym (first.apart other))
-        (subst (AllRan config second.known) (append_assoc parts (parts_of one) (parts_of other))
-        (second.ran (parts ++ parts_of one) (first.ran parts ran))));
+        subst (λ (all : List RanLine). AllRan config second.known (parts ++ asked_parts (parts_of all))) (sym both)
+        (subst (λ (all : Parts). AllRan config second.known (parts ++ asked_parts all)) (sym (first.apart other))
+        (asked_behind config second.known parts (parts_of one) (parts_of other)
+        (second.ran (parts ++ asked_parts (parts_of one)) (first.ran parts ran))));
     stops = λ later grown status.
         let went = first.did later (grown_then second.grown grown) in
         let rest : Plan = lines_plan config files later status more second.traces in
@@ -148,10 +158,12 @@ module _ {config : Config} {files : Files} {part : Part RanLine} {traces : List 
     {before after : Progress} (lines : List ScriptLine) (count : length traces ≡ length lines)
     (is : IsPart (ran_lines (content_of files) lines traces) part) where
   part_ran : PartDone config files part traces from known before after → (parts : Parts) → AllRan config from parts
-      → AllRan config known (parts ++ parts_of (ran_lines (content_of files) lines traces))
+      → AllRan config known (parts ++ asked_parts (parts_of (ran_lines (content_of files) lines traces)))
   part_ran done parts ran =
-      subst (λ (all : Parts). AllRan config known (parts ++ all))
-      (sym (part_whole (ran_lines (content_of files) lines traces) part is)) (done.ran parts ran)
+      subst (λ (all : Parts). AllRan config known (parts ++ asked_parts all))
+      (sym (part_whole (ran_lines (content_of files) lines traces) part is))
+      (subst (λ (all : Parts). AllRan config known (parts ++ all)) (sym (append-nil (asked_part part)))
+      (done.ran parts ran))
 
   pub lines_went : PartWent config files part traces from known before after
       → LinesRan config files lines from known before after
@@ -185,7 +197,7 @@ module _ {config : Config} {files : Files} {part : Part RanLine} {traces : List 
     front = fronts;
     whole = inr refl;
     ran = λ parts ran.
-        subst (λ (all : List RanLine). AllRan config known (parts ++ parts_of all)) (sym first)
+        subst (λ (all : List RanLine). AllRan config known (parts ++ asked_parts (parts_of all))) (sym first)
         (part_ran cut.done parts ran);
     stops = λ later grown status.
         subst (λ (p : Plan). Stops p stopped before after)
@@ -216,7 +228,7 @@ lines_early config files lines reads from ended stopped {before} {after} next no
   front = early.front;
   whole = early.whole;
   ran = λ parts ran.
-      subst (λ (all : List RanLine). AllRan config from (parts ++ parts_of all)) (sym none)
+      subst (λ (all : List RanLine). AllRan config from (parts ++ asked_parts (parts_of all))) (sym none)
       (subst (AllRan config from) (sym (append-nil parts)) ran);
   stops = λ later grown status.
       subst (λ (p : Plan). Stops p stopped before after)

@@ -1,5 +1,5 @@
 -- The parts of lines that ran, and the plans of parts.
-use Rattle.std.proofs.Common.{◌≡◌, ◌∙◌, ℕ, List, [], ◌∷◌, ◌++◌, length, map, drop, cond, Some, None, refl}
+use Rattle.std.proofs.Common.{◌≡◌, ◌∙◌, ℕ, List, [], ◌∷◌, ◌++◌, length, map, drop, cond, true, Some, None, refl}
 use Rattle.std.proofs.Common.{sym, ap, append_assoc, append-nil, arith}
 use Rattle.std.specs.List.{AllByRecursion}
 use Rattle.mon_script.specs.Blocks.{ends_by}
@@ -16,7 +16,7 @@ use Rattle.mon_run.specs.within.Lines.{StandApart, block_traces, forms_of, write
 use Rattle.mon_run.proofs.BlockLemmas.{Acts}
 use Rattle.part_runs.specs.PartsDone.{ran_beside}
 use Rattle.run_theory.specs.Parts.{Alone, Beside, Part}
-use Rattle.run_traces.specs.RanLines.{RanLine, block_behind, content_for, part_at, parts_from, parts_of, ran_lines}
+use Rattle.run_traces.specs.RanLines.{RanLine, acts_by, block_behind, content_for, part_at, parts_from, parts_of, ran_lines}
 use Rattle.run_traces.specs.declared.traces.LineTrace.{LineTrace}
 use Rattle.run_traces.specs.declared.traces.LineTrace.TheVariants as came
 
@@ -107,13 +107,14 @@ pub part_apart : (lines : List RanLine) (part : Part RanLine) → IsPart lines p
 part_apart lines part is = λ more.
     is more ∙ ap (λ (parts : List (Part RanLine)). parts ++ parts_of more) (sym (part_whole lines part is))
 
-alone_by : (line : RanLine) (more : List RanLine) (what : Mark) → what ≡ mark.Acts
+alone_by : (line : RanLine) (more : List RanLine) (what : Mark) → acts_by what ≡ true
     → part_at None line what ++ parts_from (block_behind None line what) more ≡ Alone line ∷ parts_of more
 alone_by line more mark.Acts is = refl
+alone_by line more mark.Lone is = refl
 alone_by line more mark.Opens is = absurd cc
 alone_by line more mark.Closes is = absurd cc
 
-pub alone_part : (line : RanLine) → mark_of line.what ≡ mark.Acts → IsPart (line ∷ []) (Alone line)
+pub alone_part : (line : RanLine) → acts_by (mark_of line.what) ≡ true → IsPart (line ∷ []) (Alone line)
 alone_part line acts = λ more. alone_by line more (mark_of line.what) acts
 
 within_by : (before : List RanLine) (line : RanLine) (rest : List RanLine) (what : Mark) → what ≡ mark.Acts
@@ -122,6 +123,7 @@ within_by : (before : List RanLine) (line : RanLine) (rest : List RanLine) (what
 within_by before line rest mark.Acts is = refl
 within_by before line rest mark.Opens is = absurd cc
 within_by before line rest mark.Closes is = absurd cc
+within_by before line rest mark.Lone is = absurd cc
 
 -- lines that act go on a block
 abbrev ActsThere : RanLine → Type 0
@@ -141,12 +143,14 @@ closes_by : (lines : List RanLine) (end : RanLine) (more : List RanLine) (what :
 closes_by lines end more mark.Closes is = refl
 closes_by lines end more mark.Opens is = absurd cc
 closes_by lines end more mark.Acts is = absurd cc
+closes_by lines end more mark.Lone is = absurd cc
 
 begins_by : (begin : RanLine) (rest : List RanLine) (what : Mark) → what ≡ mark.Opens
     → part_at None begin what ++ parts_from (block_behind None begin what) rest ≡ parts_from (Some []) rest
 begins_by begin rest mark.Opens is = refl
 begins_by begin rest mark.Closes is = absurd cc
 begins_by begin rest mark.Acts is = absurd cc
+begins_by begin rest mark.Lone is = absurd cc
 
 pub block_part : (begin end : RanLine) (lines : List RanLine) → mark_of begin.what ≡ mark.Opens
     → mark_of end.what ≡ mark.Closes → AllByRecursion ActsThere lines
@@ -175,11 +179,13 @@ at_end : (what : Mark) (p q : Plan) → what ≡ mark.Closes → cond (ends_by w
 at_end mark.Closes p q is = refl
 at_end mark.Opens p q is = absurd cc
 at_end mark.Acts p q is = absurd cc
+at_end mark.Lone p q is = absurd cc
 
 before_end : (what : Mark) (p q : Plan) → what ≡ mark.Acts → cond (ends_by what) p q ≡ q
 before_end mark.Acts p q is = refl
 before_end mark.Opens p q is = absurd cc
 before_end mark.Closes p q is = absurd cc
+before_end mark.Lone p q is = absurd cc
 
 -- the files of a block's lines are those up to its end
 pub block_reads : (files : Files) (lines : List ScriptLine) (end : ScriptLine) (rest : List ScriptLine)
@@ -192,15 +198,16 @@ block_reads files (line ∷ lines) end rest acts closes =
     acts.0
     ∙ ap (line_read files line.what) (block_reads files lines end rest acts.1 closes)
 
-next_by : (files : Files) (what : Mark) (form : LineForm) (lines : List ScriptLine) → what ≡ mark.Acts
+next_by : (files : Files) (what : Mark) (form : LineForm) (lines : List ScriptLine) → acts_by what ≡ true
     → next_read files what form lines ≡ line_read files form starved_plan
 next_by files mark.Acts form lines is = refl
+next_by files mark.Lone form lines is = refl
 next_by files mark.Opens form lines is = absurd cc
 next_by files mark.Closes form lines is = absurd cc
 
 -- what is left begins with a line that stands alone
-pub alone_left : (files : Files) (status : ℕ) (line : ScriptLine) (behind : List ScriptLine) → Acts line
-    → left_plan files status (line ∷ behind) ≡ line_read files line.what starved_plan
+pub alone_left : (files : Files) (status : ℕ) (line : ScriptLine) (behind : List ScriptLine)
+    → acts_by (mark_of line.what) ≡ true → left_plan files status (line ∷ behind) ≡ line_read files line.what starved_plan
 alone_left files status line behind acts = next_by files (mark_of line.what) line.what behind acts
 
 opens_by : (files : Files) (what : Mark) (form : LineForm) (lines : List ScriptLine) → what ≡ mark.Opens
@@ -208,6 +215,7 @@ opens_by : (files : Files) (what : Mark) (form : LineForm) (lines : List ScriptL
 opens_by files mark.Opens form lines is = refl
 opens_by files mark.Closes form lines is = absurd cc
 opens_by files mark.Acts form lines is = absurd cc
+opens_by files mark.Lone form lines is = absurd cc
 
 -- or with a block
 pub block_left : (files : Files) (status : ℕ) (line end : ScriptLine) (lines left : List ScriptLine)

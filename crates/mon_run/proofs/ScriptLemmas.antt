@@ -2,8 +2,7 @@
 use Rattle.std.proofs.Common.{◌≡◌, ◌∙◌, inl, inr, ℕ, suc, List, [], ◌∷◌, ◌++◌, length, map, Some}
 use Rattle.std.proofs.Common.{refl, sym, ap, subst, append_assoc, append-nil, arith}
 use Rattle.std.specs.List.{flat_map}
-use Rattle.history_book.specs.Histories.{AreFronts, book_entry_pass, entries}
-use Rattle.history_book.specs.declared.views.History.{History}
+use Rattle.history_book.specs.Histories.{AreFronts}
 use Rattle.know.specs.Knowledge.{Knowledge}
 use Rattle.mon_config.specs.declared.config.Config.{Config}
 use Rattle.mon_script.specs.declared.forms.LineForm.{LineForm}
@@ -24,66 +23,33 @@ use Rattle.mon_run.specs.within.Lines.{alone_in, block_in, block_traces, forms_o
 use Rattle.mon_run.specs.within.Stops.{Counts, Ran, Stops, WriteStops}
 use Rattle.mon_run.proofs.BlockLemmas.{IsBlock, IsLine}
 use Rattle.mon_run.proofs.EndLemmas.{causes_earlier}
-use Rattle.mon_run.proofs.GrownLemmas.{fronts_none}
+use Rattle.part_runs.proofs.GrownLemmas.{fronts_none}
 use Rattle.mon_run.proofs.LineLemmas.{lines_cut, lines_early, lines_went}
 use Rattle.mon_run.proofs.PartLemmas.{all_act, alone_left, alone_part, beside_ran, block_ends, block_left, block_part}
 use Rattle.mon_run.proofs.PartLemmas.{IsPart, ran_both, ran_forms}
 use Rattle.mon_run.proofs.RunLemmas.{cut_at}
 use Rattle.mon_run.proofs.SinkLemmas.{nothing_written}
 use Rattle.mon_run.proofs.StepLemmas.{did_by, did_none, did_then, plan_twice, starved, stops_behind}
-use Rattle.part_runs.specs.PartsDone.{PartDid, ran_beside}
-use Rattle.run_theory.specs.Marks.{IsWithin}
+use Rattle.part_runs.specs.PartsDone.{PartTells, ran_beside}
 use Rattle.run_theory.specs.Parts.{Alone, Beside, Part, lines_of}
-use Rattle.run_theory.specs.Writings.{EachWrote}
-use Rattle.run_traces.specs.LineClaims.{AllRan, Finds, HasWritten, HaveGrown, Makes}
+use Rattle.run_traces.specs.LineClaims.{HaveGrown}
 use Rattle.run_traces.specs.LineTexts.{line_text}
 use Rattle.run_traces.specs.RanLines.{RanLine, content_for, ran_lines}
 use Rattle.run_traces.specs.declared.traces.LineTrace.{LineTrace}
 use Rattle.run_traces.specs.declared.traces.LineTrace.TheVariants as came
 
--- ---- the laws of runs
-
--- a part more ran behind the others
-abbrev pub GoOn : Type 0
-GoOn = (config : Config) (before after : Histories) (parts : List (Part RanLine)) (part : Part RanLine)
-    → AllRan config before parts → HasWritten config before after part → AllRan config after (parts ++ part ∷ [])
-
--- a line prints the same over histories that are seen later
-abbrev pub Stay : Type 0
-Stay = (config : Config) (seen more : Histories) (from to : History → ℕ) (line : RanLine)
-    → HaveGrown seen more → IsWithin entries to seen → Finds config seen from to line
-    → line_text config more line ≡ line_text config seen line
-
-module _ (config : Config) (before after : Histories) (stay : Stay) (later : Histories) (grown : HaveGrown after later)
-  where
-    each_later : (numbers : List ℕ) (lines : List RanLine)
-        → EachWrote entries book_entry_pass (Makes config) (Finds config) HaveGrown before after numbers lines
-        → map (line_text config later) lines ≡ map (line_text config after) lines
-    each_later [] [] wrote = refl
-    each_later [] (line ∷ lines) wrote = absurd wrote
-    each_later (number ∷ numbers) [] wrote = absurd wrote
-    each_later (number ∷ numbers) (line ∷ lines) wrote = λ i.
-        stay config after later (λ h. length (entries before h)) (λ h. length (entries after h)) line grown
-        (λ h. omega arith) wrote.0.found i
-        ∷ each_later numbers lines wrote.1 i
-
-    -- so do the lines of a part that wrote
-    pub prints_later : (part : Part RanLine) (texts : List (List ℕ)) → HasWritten config before after part
-        → texts ≡ map (line_text config after) (lines_of part) → map (line_text config later) (lines_of part) ≡ texts
-    prints_later part texts wrote prints = each_later wrote.numbers (lines_of part) wrote.each ∙ sym prints
-
 -- ---- a part that ran, or was cut in its texts
 
 module _ {config : Config} {files : Files} {part : Part RanLine} {traces : List LineTrace} {texts : List (List ℕ)}
-    {know known : Knowledge} (steps : List Step) (go_on : GoOn) (did : PartDid config part texts know known)
+    {know known : Knowledge} (steps : List Step) (did : PartTells config part texts know known)
     (same : (later : Histories) → HaveGrown known.seen later → (rest : Plan)
     → part_plan files (line_text config later) part rest ≡ plan_behind steps (plan_behind (writes texts) rest)) where
   part_done : {before after : Progress} → after.ends ≡ before.ends ++ traces
       → PartDone config files part traces know.seen known.seen before after
   part_done ends = record {
     ends = ends;
-    grown = did.written.goes;
-    ran = λ parts ran. go_on config know.seen known.seen parts part ran did.written;
+    grown = did.grown;
+    ran = did.ran;
   }
 
   pub part_went : {before mid : Progress} (after : Progress) → after.ends ≡ before.ends ++ traces
@@ -157,20 +123,20 @@ alone_same config files what trace text later read prints rest =
 
 alone_did : (config : Config) (files : Files) (what : LineForm) (content : List ℕ) (trace : LineTrace)
     (texts : List (List ℕ)) (know known : Knowledge) → content ≡ content_for (content_of files) what
-    → PartDid config (Alone (record { what = what; content = content; trace = trace })) texts know known
-    → PartDid config (alone_in files what trace) texts know known
+    → PartTells config (Alone (record { what = what; content = content; trace = trace })) texts know known
+    → PartTells config (alone_in files what trace) texts know known
 alone_did config files what content trace texts know known same did =
-    subst (λ (c : List ℕ). PartDid config (Alone (record { what = what; content = c; trace = trace })) texts know known)
+    subst (λ (c : List ℕ). PartTells config (Alone (record { what = what; content = c; trace = trace })) texts know known)
     same did
 
 module _ {config : Config} {what : LineForm} {content : List ℕ} {trace : LineTrace} {text : List ℕ}
-    {know known : Knowledge} {before read ended : Progress} (go_on : GoOn) (stay : Stay)
+    {know known : Knowledge} {before read ended : Progress}
     (holds : Told before.folder (λ files. content ≡ content_for (content_of files) what))
     (has_read : FileRead what before read)
-    (did : PartDid config (Alone (record { what = what; content = content; trace = trace })) (text ∷ []) know known)
+    (did : PartTells config (Alone (record { what = what; content = content; trace = trace })) (text ∷ []) know known)
     (ends : Did (End trace ∷ []) read ended) (first : read.ends ≡ before.ends) where
   module _ (files : Files) (told : before.folder.files ≡ Some files) where
-    there : PartDid config (alone_in files what trace) (text ∷ []) know known
+    there : PartTells config (alone_in files what trace) (text ∷ []) know known
     there = alone_did config files what content trace (text ∷ []) know known (holds files told) did
 
     same : (later : Histories) → HaveGrown known.seen later → (rest : Plan)
@@ -178,8 +144,7 @@ module _ {config : Config} {what : LineForm} {content : List ℕ} {trace : LineT
         ≡ plan_behind ((has_read files told).steps ++ End trace ∷ []) (plan_behind (writes (text ∷ [])) rest)
     same later grown rest =
         alone_same config files what trace text later (has_read files told)
-        (prints_later config know.seen known.seen stay later grown (alone_in files what trace) (text ∷ []) there.written
-        there.prints) rest
+        (there.prints later grown) rest
 
   ended_behind : ended.ends ≡ before.ends ++ trace ∷ []
   ended_behind = ends.ends ∙ ap (λ (xs : List LineTrace). xs ++ trace ∷ []) first
@@ -188,7 +153,7 @@ module _ {config : Config} {what : LineForm} {content : List ℕ} {trace : LineT
       → AloneRan config what know.seen known.seen before after
   alone_ran after wrote last = λ files told. record {
     trace = trace;
-    went = part_went ((has_read files told).steps ++ End trace ∷ []) go_on (there files told) (same files told) after
+    went = part_went ((has_read files told).steps ++ End trace ∷ []) (there files told) (same files told) after
         (last ∙ ended_behind) (did_then (has_read files told).did ends) wrote;
   }
 
@@ -200,7 +165,7 @@ module _ {config : Config} {what : LineForm} {content : List ℕ} {trace : LineT
       (record {
         told = λ files told. inr (record {
           trace = trace;
-          cut = part_cut ((has_read files told).steps ++ End trace ∷ []) go_on (there files told) (same files told)
+          cut = part_cut ((has_read files told).steps ++ End trace ∷ []) (there files told) (same files told)
               after stop.WriteFailed (last ∙ ended_behind) (did_then (has_read files told).did ends)
               (λ rest. cut_at [] text rest refl (did_none ended) stops.front);
         });
@@ -273,20 +238,20 @@ block_same config files lines traces texts later read count prints rest =
 block_did : (config : Config) (files : Files) (lines : List ScriptLine) (contents : List (List ℕ))
     (traces : List LineTrace) (texts : List (List ℕ)) (know known : Knowledge)
     → contents ≡ map (content_for (content_of files)) (forms_of lines)
-    → PartDid config (Beside (ran_beside lines contents traces)) texts know known
-    → PartDid config (block_in files lines traces) texts know known
+    → PartTells config (Beside (ran_beside lines contents traces)) texts know known
+    → PartTells config (block_in files lines traces) texts know known
 block_did config files lines contents traces texts know known same did =
-    subst (λ (ran : List RanLine). PartDid config (Beside ran) texts know known)
+    subst (λ (ran : List RanLine). PartTells config (Beside ran) texts know known)
     (ap (λ (c : List (List ℕ)). ran_beside lines c traces) same ∙ beside_ran (content_of files) lines traces) did
 
 module _ (config : Config) (lines : List ScriptLine) (contents : List (List ℕ)) (traces : List LineTrace)
-    (texts : List (List ℕ)) (know known : Knowledge) (before read ended : Progress) (go_on : GoOn) (stay : Stay)
+    (texts : List (List ℕ)) (know known : Knowledge) (before read ended : Progress)
     (has_read : FilesRead lines contents before read) (count : length traces ≡ length lines)
-    (did : PartDid config (Beside (ran_beside lines contents traces)) texts know known)
+    (did : PartTells config (Beside (ran_beside lines contents traces)) texts know known)
     (ends : Did (map (λ trace. End trace) (block_traces traces)) read ended) (first : read.ends ≡ before.ends)
     (noted : ended.ends ≡ read.ends ++ block_traces traces) where
   module _ (files : Files) (told : before.folder.files ≡ Some files) where
-    block_there : PartDid config (block_in files lines traces) texts know known
+    block_there : PartTells config (block_in files lines traces) texts know known
     block_there = block_did config files lines contents traces texts know known (has_read files told).held did
 
     block_plan : (later : Histories) → HaveGrown known.seen later → (rest : Plan)
@@ -295,8 +260,7 @@ module _ (config : Config) (lines : List ScriptLine) (contents : List (List ℕ)
         (plan_behind (writes texts) rest)
     block_plan later grown rest =
         block_same config files lines traces texts later (has_read files told).read count
-        (prints_later config know.seen known.seen stay later grown (block_in files lines traces) texts
-        block_there.written block_there.prints) rest
+        (block_there.prints later grown) rest
 
   block_noted : ended.ends ≡ before.ends ++ block_traces traces
   block_noted = noted ∙ ap (λ (xs : List LineTrace). xs ++ block_traces traces) first
@@ -306,7 +270,7 @@ module _ (config : Config) (lines : List ScriptLine) (contents : List (List ℕ)
   block_ran after wrote last = λ files told. record {
     traces = traces;
     count = count;
-    went = part_went ((has_read files told).read.steps ++ map (λ trace. End trace) (block_traces traces)) go_on
+    went = part_went ((has_read files told).read.steps ++ map (λ trace. End trace) (block_traces traces))
         (block_there files told) (block_plan files told) after (last ∙ block_noted)
         (did_then (has_read files told).read.did ends) wrote;
   }
@@ -318,7 +282,7 @@ module _ (config : Config) (lines : List ScriptLine) (contents : List (List ℕ)
     told = λ files told. inr (record {
       traces = traces;
       count = count;
-      cut = part_cut ((has_read files told).read.steps ++ map (λ trace. End trace) (block_traces traces)) go_on
+      cut = part_cut ((has_read files told).read.steps ++ map (λ trace. End trace) (block_traces traces))
           (block_there files told) (block_plan files told) after stopped (last ∙ block_noted)
           (did_then (has_read files told).read.did ends)
           (stops.told files (ends.files ∙ (has_read files told).read.did.files ∙ told));
@@ -378,10 +342,10 @@ alone_halts {config} {line} {behind} {from} {known} stopped is halts = record {
 }
 
 -- the lines of a block, with the one that begins it and the one that ends it
-abbrev block_lines : ScriptLine → ScriptLine → List ScriptLine → List ScriptLine
+abbrev pub block_lines : ScriptLine → ScriptLine → List ScriptLine → List ScriptLine
 block_lines line end lines = line ∷ (lines ++ end ∷ [])
 
-block_whole : (line : ScriptLine) (behind lines left : List ScriptLine) (is : IsBlock line behind lines left)
+pub block_whole : (line : ScriptLine) (behind lines left : List ScriptLine) (is : IsBlock line behind lines left)
     → line ∷ behind ≡ block_lines line is.ends.end lines ++ left
 block_whole line behind lines left is = ap (λ (rest : List ScriptLine). line ∷ rest)
     (is.ends.split ∙ sym (append_assoc lines (is.ends.end ∷ []) left))
@@ -394,7 +358,7 @@ counted end (trace ∷ traces) [] count = absurd cc
 counted end (trace ∷ traces) (other ∷ lines) count =
     ap (λ (n : ℕ). suc n) (counted end traces lines (omega (arith, count)))
 
-block_count : (line end : ScriptLine) (traces : List LineTrace) (lines : List ScriptLine)
+pub block_count : (line end : ScriptLine) (traces : List LineTrace) (lines : List ScriptLine)
     → length traces ≡ length lines → length (block_traces traces) ≡ length (block_lines line end lines)
 block_count line end traces lines count = ap (λ (n : ℕ). suc n) (counted end traces lines count)
 

@@ -7,4 +7,5 @@ pub mod Sinks
 pub mod Steps
 pub mod Tellings
 pub mod Texts
+pub mod Trials
 pub mod within

@@ -40,6 +40,11 @@ module _ (files : Files) where
   line_read (form.Query moment text) rest = rest
   line_read (form.Check moment text) rest = rest
   line_read (form.Explain moment text) rest = rest
+  line_read (form.Down leaf) rest = rest
+  line_read (form.Up leaf) rest = rest
+  line_read (form.Recover range leaf) rest = rest
+  line_read (form.Standing name period text) rest = rest
+  line_read (form.Tick moment) rest = rest
   line_read form.Together rest = rest
   line_read form.End rest = rest
 
@@ -59,6 +64,7 @@ module _ (files : Files) where
   next_read mark.Opens what lines = block_read lines
   next_read mark.Closes what lines = starved_plan
   next_read mark.Acts what lines = line_read what starved_plan
+  next_read mark.Lone what lines = line_read what starved_plan
 
   -- where all lines ran, the run has a status; else the files of the next line or block are read, and memory runs out
   abbrev pub left_plan : ℕ → List ScriptLine → Plan

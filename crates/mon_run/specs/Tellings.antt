@@ -6,6 +6,7 @@ use Rattle.mon_config.specs.Configs.{config_in}
 use Rattle.mon_config.specs.declared.config.Config.{Config}
 use Rattle.mon_script.specs.Scripts.{script_in}
 use Rattle.mon_script.specs.declared.script.ScriptLine.{ScriptLine}
+use Rattle.mon_topo.specs.HeldHistories.{AreHeld}
 use Rattle.mon_value.specs.declared.histories.Histories.{Histories}
 use Rattle.mon_run.specs.Folders.{Files, content_of}
 use Rattle.mon_run.specs.Plans.{Command, command_of}
@@ -18,12 +19,14 @@ abbrev pub seen_by : Option Ending → Option Histories
 seen_by = option_map (λ (ended : Ending). ended.seen)
 
 -- The headline holds of the lines that ran, over all that the script's caller had seen at the end; or, where memory ran
--- out early, over what it had seen before the part in which it did
+-- out early, over what it had seen before the part in which it did. The histories at the end bear one another out: what
+-- a range acknowledged, its leaves took
 pub record LinesTell (early : Type 0) (config : Config) (files : Files) (script : List ScriptLine) (ended : Histories)
     (traces : List LineTrace) : Type 0 where
   pub known : Histories
   pub front : AreFronts known ended
   pub whole : early ⊎ (known ≡ ended)
+  pub held : AreHeld config.schemas config.topology config.range_points ended
   pub holds : ScriptHolds config (content_of files) known script traces
 
 -- a text is a script over the zones of the configuration

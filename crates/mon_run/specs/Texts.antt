@@ -26,7 +26,7 @@ kind_text kind.Nested = codes "Nested"
 kind_text kind.NoEnd = codes "NoEnd"
 kind_text kind.BlockFull = codes "BlockFull"
 kind_text kind.TooManyLines = codes "TooManyLines"
-kind_text kind.NotBuilt = codes "NotBuilt"
+kind_text kind.NotInBlock = codes "NotInBlock"
 
 abbrev pub script_text : ScriptFault → List ℕ
 script_text fault = codes "script line " ++ (decimal fault.line ++ (codes ": " ++ (kind_text fault.kind ++ newline)))

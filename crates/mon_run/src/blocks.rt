@@ -15,6 +15,7 @@ pub(crate) fn block_behind<'a>(
         Mark::Opens => cut_block(behind),
         Mark::Closes => None,
         Mark::Acts => None,
+        Mark::Lone => None,
     }
 }
 

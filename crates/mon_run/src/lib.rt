@@ -4,6 +4,7 @@
 
 mod blocks;
 mod command;
+mod entry;
 mod outcome;
 mod outside;
 mod parts;
@@ -12,9 +13,10 @@ mod schedules;
 mod scripts;
 mod stop;
 mod texts;
+mod trial;
 mod words;
 
-pub use command::run;
+pub use entry::run;
 pub use mon_store::{Gate, HoldGate, OpenGate};
 pub use outcome::Outcome;
 pub use outside::{

@@ -1,6 +1,6 @@
 // The run of a part of a script: a line alone, or the lines of a block.
 ghost use Rattle.std.specs.Prelude.{◌≡◌, ◌≤◌, ◌<◌, ◌+◌, ◌∷◌, ◌++◌, ℕ, [], length, map, vec_capacity, vec_len, IfErr};
-ghost use Rattle.std.specs.Prelude.{IfOk, None, OnOk, Some};
+ghost use Rattle.std.specs.Prelude.{◌⊎◌, true, IfOk, None, OnErr, OnOk, Some};
 ghost use Rattle.std.specs.List.{AllByRecursion};
 ghost use Rattle.history_book.specs.Seats.{HasEveryNumber};
 ghost use Rattle.line_runs.specs.declared.lines.LineRan.{LineRan as Ran};
@@ -11,12 +11,13 @@ ghost use Rattle.mon_script.specs.declared.places.Mark.TheVariants.{Acts};
 ghost use Rattle.mon_run.specs.Folders.{Told, content_of};
 ghost use Rattle.mon_run.specs.Endings.{Did};
 ghost use Rattle.mon_run.specs.within.Blocks.{block_behind as block, left_behind as left};
+ghost use Rattle.mon_run.specs.within.Dues.{AloneDue, BlockDue, DueSoFar, DueTo};
 ghost use Rattle.mon_run.specs.within.Lines.{AloneHalts, AloneRan, BlockHalts, BlockRan, FileRead, FileStops};
 ghost use Rattle.mon_run.specs.within.Lines.{FilesRead};
 ghost use Rattle.mon_run.specs.within.Lines.{FilesStop, LinesHalt, LinesRanTo, Noted, TextsStop, block_traces, writes};
 ghost use Rattle.mon_run.specs.within.Stops.{Between, Continues, StopsBetween};
 ghost use Rattle.part_runs.specs.PartsDone.{CanSplit};
-ghost use Rattle.run_traces.specs.RanLines.{content_for};
+ghost use Rattle.run_traces.specs.RanLines.{acts_by, content_for};
 
 use crate::blocks::block_behind;
 use crate::outside::{Folder, Sink};
@@ -28,7 +29,8 @@ use mon_script::{LineForm, MOST_LINES_OF_BLOCK, ScriptLine};
 use mon_store::{Gate, Pass, Store};
 use mon_value::{ListOf, Text};
 use part_runs::{LineRans, run_alone, run_beside};
-use run_traces::{LineTrace, runs_go_on, texts_stay};
+use run_traces::LineTrace;
+use standing::Standing;
 use std::sync::Wait;
 use std::thread::Threads;
 
@@ -43,10 +45,11 @@ impl<'f, 'o, 'l, F: Folder, O: Sink> Run<'f, 'o, 'l, F, O> {
         gate: &G,
         store: &Store<N>,
         p: &mut Pass<N>,
+        standing: &mut Standing,
         line: &ScriptLine,
         behind: &[ScriptLine],
     ) -> Result<(), Stop>
-        requires lawful { AllByRecursion IsLawfulLine (line.now ∷ behind.now) }
+        requires lawful { AllByRecursion (IsLawfulLine store.now.topology) (line.now ∷ behind.now) }
         requires blocks { AreInBlocks None (line.now ∷ behind.now) }
         requires every { HasEveryNumber p.old.purse }
         requires stock { CanSplit (1 + length behind.now) p.old }
@@ -55,12 +58,16 @@ impl<'f, 'o, 'l, F: Folder, O: Sink> Run<'f, 'o, 'l, F, O> {
             (left line.now behind.now) p.old.seen p.new.seen) self.old self.new) }
         ensures stops { IfErr result (StopsBetween F.state O.state
             (LinesHalt store.now (line.now ∷ behind.now) p.old.seen p.new.seen) self.old self.new) }
+        ensures due { OnOk result (DueTo store.now.schemas (line.now ∷ behind.now) (left line.now behind.now)
+            standing.old standing.new self.old.log.now.traces.items self.new.log.now.traces.items) }
+        ensures due_so_far { OnErr result (DueSoFar store.now.schemas (line.now ∷ behind.now) standing.old
+            self.old.log.now.traces.items self.new.log.now.traces.items) }
         ensures every { OnOk result (HasEveryNumber p.new.purse) }
         ensures stock { OnOk result (CanSplit (length (left line.now behind.now)) p.new) }
     {
         match block_behind(line, behind) {
             Some((lines, _left)) => self.block(rt, gate, store, p, lines),
-            None => self.alone(rt, store, p, &line.what),
+            None => self.alone(rt, store, p, standing, &line.what),
         }
     }
 
@@ -70,23 +77,27 @@ impl<'f, 'o, 'l, F: Folder, O: Sink> Run<'f, 'o, 'l, F, O> {
         rt: &R,
         store: &Store<N>,
         p: &mut Pass<N>,
+        standing: &mut Standing,
         what: &LineForm,
     ) -> Result<(), Stop>
-        requires lawful { IsLawfulForm what.now }
-        requires acts { mark_of what.now ≡ Acts }
+        requires lawful { IsLawfulForm store.now.topology what.now }
+        requires acts { acts_by (mark_of what.now) ≡ true }
         requires every { HasEveryNumber p.old.purse }
         ensures continues { Continues F.state O.state self.old self.new }
         ensures ran { OnOk result (Between F.state O.state
             (AloneRan store.now what.now p.old.seen p.new.seen) self.old self.new) }
         ensures stops { IfErr result (StopsBetween F.state O.state
             (AloneHalts store.now what.now p.old.seen p.new.seen) self.old self.new) }
+        ensures due { OnOk result (AloneDue store.now.schemas what.now standing.old standing.new
+            self.old.log.now.traces.items self.new.log.now.traces.items) }
+        ensures due_so_far { OnErr result ((self.new.log.now.traces.items ≡ self.old.log.now.traces.items)
+            ⊎ AloneDue store.now.schemas what.now standing.old standing.new self.old.log.now.traces.items
+            self.new.log.now.traces.items) }
         ensures every { OnOk result (HasEveryNumber p.new.purse) }
         ensures stock { OnOk result (p.new.purse.stock ≡ p.old.purse.stock) }
     {
-        runs_go_on();
-        texts_stay();
         let content = self.content(what)?;
-        let ran = run_alone(rt, self.alloc, store, p, what, content.as_slice())?;
+        let ran = run_alone(rt, self.alloc, store, p, standing, what, content.as_slice())?;
         let LineRan { trace, text } = ran;
         self.end(trace)?;
         self.write(text.as_bytes())
@@ -101,7 +112,7 @@ impl<'f, 'o, 'l, F: Folder, O: Sink> Run<'f, 'o, 'l, F, O> {
         p: &mut Pass<N>,
         lines: &[ScriptLine],
     ) -> Result<(), Stop>
-        requires lawful { AllByRecursion IsLawfulLine lines.now }
+        requires lawful { AllByRecursion (IsLawfulLine store.now.topology) lines.now }
         requires acts { AllByRecursion (λ line. mark_of line.what ≡ Acts) lines.now }
         requires few { length lines.now ≤ MOST_LINES_OF_BLOCK }
         requires every { HasEveryNumber p.old.purse }
@@ -111,11 +122,12 @@ impl<'f, 'o, 'l, F: Folder, O: Sink> Run<'f, 'o, 'l, F, O> {
             (BlockRan store.now lines.now p.old.seen p.new.seen) self.old self.new) }
         ensures stops { IfErr result (StopsBetween F.state O.state
             (BlockHalts store.now lines.now p.old.seen p.new.seen) self.old self.new) }
+        ensures due { OnOk result (BlockDue lines.now self.old.log.now.traces.items self.new.log.now.traces.items) }
+        ensures due_so_far { OnErr result ((self.new.log.now.traces.items ≡ self.old.log.now.traces.items)
+            ⊎ BlockDue lines.now self.old.log.now.traces.items self.new.log.now.traces.items) }
         ensures every { OnOk result (HasEveryNumber p.new.purse) }
         ensures stock { OnOk result ((n : ℕ) → CanSplit (length lines.now + n) p.old → CanSplit n p.new) }
     {
-        runs_go_on();
-        texts_stay();
         let contents = self.contents(lines)?;
         let mut texts = self.room()?;
         let rans = run_beside(rt, self.alloc, store, gate, p, lines, contents.as_slice())?;
@@ -185,6 +197,11 @@ impl<'f, 'o, 'l, F: Folder, O: Sink> Run<'f, 'o, 'l, F, O> {
             LineForm::Query(_, _) => Ok(ListOf::new(self.alloc)),
             LineForm::Check(_, _) => Ok(ListOf::new(self.alloc)),
             LineForm::Explain(_, _) => Ok(ListOf::new(self.alloc)),
+            LineForm::Down(_) => Ok(ListOf::new(self.alloc)),
+            LineForm::Up(_) => Ok(ListOf::new(self.alloc)),
+            LineForm::Recover(_, _) => Ok(ListOf::new(self.alloc)),
+            LineForm::Standing(_, _, _) => Ok(ListOf::new(self.alloc)),
+            LineForm::Tick(_) => Ok(ListOf::new(self.alloc)),
             LineForm::Together => Ok(ListOf::new(self.alloc)),
             LineForm::End => Ok(ListOf::new(self.alloc)),
         }

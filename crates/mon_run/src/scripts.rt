@@ -7,10 +7,13 @@ ghost use Rattle.mon_script.specs.Blocks.{AreInBlocks};
 ghost use Rattle.mon_script.specs.Lawful.{IsLawfulLine};
 ghost use Rattle.mon_store.specs.Beginnings.{IsFirst};
 ghost use Rattle.mon_store.specs.Blanks.{IsNamed};
+ghost use Rattle.mon_run.specs.within.Dues.{DueSoFar};
 ghost use Rattle.mon_run.specs.within.Lines.{AllRanLines, LinesHalt, ScriptEnds, TextEnds};
 ghost use Rattle.mon_run.specs.within.Stops.{Between, Continues, StopsBetween, noted};
 ghost use Rattle.part_runs.specs.PartsDone.{CanSplit};
-ghost use Rattle.run_traces.specs.LineStatuses.{is_refused as refuses};
+ghost use Rattle.run_traces.specs.LineStatuses.{is_due_refused as due_refuses, is_refused as refuses};
+ghost use Rattle.run_traces.specs.declared.traces.DueTrace.{DueTrace as Asked};
+ghost use Rattle.standing.specs.StandingStates.{standing_state};
 
 use crate::blocks::left_behind;
 use crate::outside::{Folder, Sink};
@@ -20,7 +23,8 @@ use know::{Ended, Names};
 use mon_config::Config;
 use mon_script::{MOST_LINES, ScriptLine, read_script};
 use mon_store::{Gate, Pass, Store, StoreBlank};
-use run_traces::{LineTrace, runs_go_on, runs_hold};
+use run_traces::{DueEnd, DueTrace, LineTrace, runs_go_on, runs_hold};
+use standing::Standing;
 use std::marker::Brand;
 use std::mem;
 use std::sync::Wait;
@@ -59,7 +63,7 @@ impl<'f, 'o, 'l, F: Folder, O: Sink> Run<'f, 'o, 'l, F, O> {
         lines: &[ScriptLine],
     ) -> Result<bool, Stop>
         requires limited { IsLimited config }
-        requires lawful { AllByRecursion IsLawfulLine lines.now }
+        requires lawful { AllByRecursion (IsLawfulLine config.topology) lines.now }
         requires blocks { AreInBlocks None lines.now }
         requires few { length lines.now ≤ MOST_LINES }
         requires fresh { self.old.log.now.traces.items ≡ [] }
@@ -83,7 +87,7 @@ impl<'f, 'o, 'l, F: Folder, O: Sink> Run<'f, 'o, 'l, F, O> {
         lines: &[ScriptLine],
     ) -> Result<bool, Stop>
         requires named { IsNamed N.raise N.book N.setting blank }
-        requires lawful { AllByRecursion IsLawfulLine lines.now }
+        requires lawful { AllByRecursion (IsLawfulLine blank.config.topology) lines.now }
         requires blocks { AreInBlocks None lines.now }
         requires few { length lines.now ≤ MOST_LINES }
         requires fresh { self.old.log.now.traces.items ≡ [] }
@@ -108,7 +112,7 @@ impl<'f, 'o, 'l, F: Folder, O: Sink> Run<'f, 'o, 'l, F, O> {
         lines: &[ScriptLine],
     ) -> Result<bool, Stop>
         requires first { IsFirst store pass }
-        requires lawful { AllByRecursion IsLawfulLine lines.now }
+        requires lawful { AllByRecursion (IsLawfulLine store.topology) lines.now }
         requires blocks { AreInBlocks None lines.now }
         requires few { length lines.now ≤ MOST_LINES }
         requires fresh { self.old.log.now.traces.items ≡ [] }
@@ -146,7 +150,7 @@ impl<'f, 'o, 'l, F: Folder, O: Sink> Run<'f, 'o, 'l, F, O> {
         p: &mut Pass<N>,
         lines: &[ScriptLine],
     ) -> Result<(), Stop>
-        requires lawful { AllByRecursion IsLawfulLine lines.now }
+        requires lawful { AllByRecursion (IsLawfulLine store.now.topology) lines.now }
         requires blocks { AreInBlocks None lines.now }
         requires every { HasEveryNumber p.old.purse }
         requires stock { CanSplit (length lines.now) p.old }
@@ -155,17 +159,20 @@ impl<'f, 'o, 'l, F: Folder, O: Sink> Run<'f, 'o, 'l, F, O> {
             (AllRanLines store.now lines.now p.old.seen p.new.seen) self.old self.new) }
         ensures stops { IfErr result (StopsBetween F.state O.state
             (LinesHalt store.now lines.now p.old.seen p.new.seen) self.old self.new) }
+        ensures due { DueSoFar store.now.schemas lines.now (standing_state [] None) self.old.log.now.traces.items
+            self.new.log.now.traces.items }
     {
+        let mut standing = Standing::new(self.alloc);
         let mut left = lines;
         while let Some((line, behind)) = left.split_first() {
-            self.part(rt, gate, store, p, line, behind)?;
+            self.part(rt, gate, store, p, &mut standing, line, behind)?;
             left = left_behind(line, behind);
         }
         Ok(())
     }
 }
 
-// Whether one of the lines was refused.
+// Whether one of the lines was refused, or a query that was due.
 fn is_one_refused(traces: &[LineTrace]) -> bool
     ensures refused { result ≡ list_any refuses traces.now }
 {
@@ -175,5 +182,26 @@ fn is_one_refused(traces: &[LineTrace]) -> bool
 fn is_refused(trace: &LineTrace) -> bool
     ensures refused { result ≡ refuses trace.now }
 {
-    matches!(trace, LineTrace::Refused(_))
+    match trace {
+        LineTrace::Ticked(dues) => is_one_due_refused(dues.as_slice()),
+        LineTrace::Refused(_) => true,
+        LineTrace::Fed { .. } => false,
+        LineTrace::Asked { .. } => false,
+        LineTrace::Switched(_) => false,
+        LineTrace::Recovered(_) => false,
+        LineTrace::Done => false,
+    }
+}
+
+// Whether one of the queries that were due was refused.
+fn is_one_due_refused(dues: &[DueTrace]) -> bool
+    ensures refused { result ≡ list_any (λ (one : Asked). due_refuses one.end) dues.now }
+{
+    dues.iter().any(is_due_refused)
+}
+
+fn is_due_refused(one: &DueTrace) -> bool
+    ensures refused { result ≡ due_refuses one.now.end }
+{
+    matches!(one.end, DueEnd::Refused(_))
 }

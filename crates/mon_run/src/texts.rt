@@ -50,7 +50,7 @@ fn kind_text(kind: ScriptKind) -> &'static str
         ScriptKind::NoEnd => "NoEnd",
         ScriptKind::BlockFull => "BlockFull",
         ScriptKind::TooManyLines => "TooManyLines",
-        ScriptKind::NotBuilt => "NotBuilt",
+        ScriptKind::NotInBlock => "NotInBlock",
     }
 }
 

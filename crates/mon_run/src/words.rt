@@ -2,6 +2,7 @@
 ghost use Rattle.std.specs.Prelude.{◌≡◌, map, option_map, string_bytes};
 ghost use Rattle.std.specs.Str.{all_ascii_digits};
 ghost use Rattle.mon_run.specs.Plans as plan;
+ghost use Rattle.mon_run.specs.Trials as trial;
 
 /// What a command does with its second file.
 #[derive(Clone, Copy)]
@@ -35,6 +36,16 @@ pub(crate) fn made_number(words: &[String]) -> Option<u64>
 {
     match words {
         [verb, number] if verb.as_str() == "gen" => number_in(number.as_str()),
+        _ => None,
+    }
+}
+
+/// The number whose input the words try, if they do.
+pub(crate) fn trial_number(words: &[String]) -> Option<u64>
+    ensures number { result ≡ trial.trial_number (map string_bytes words.now) }
+{
+    match words {
+        [verb, number] if verb.as_str() == "trial" => number_in(number.as_str()),
         _ => None,
     }
 }

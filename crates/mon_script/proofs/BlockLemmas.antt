@@ -78,6 +78,9 @@ record MayStand (place : Option ℕ) (what : Mark) (next : Option ℕ) (left : L
   closed : IsClosed next left
   stands : (rest : List ScriptLine) → AreInBlocks next rest → StandsBefore place what (λ n. AreInBlocks n rest)
 
+abbrev bad_place : ScriptKind → Result (Option ℕ) ScriptKind
+bad_place why = Err why
+
 if_some : {X : Type 0} (test : Bool) (x : X) (why : ScriptKind) (y : X) → cond test (Ok x) (Err why) ≡ Ok y
     → (test ≡ true) × (x ≡ y)
 if_some true x why y e = (refl, cc)
@@ -87,6 +90,11 @@ if_none : {X : Type 0} (test : Bool) (x : X) (why : ScriptKind) (y : X) → cond
     → (test ≡ false) × (x ≡ y)
 if_none false x why y e = (refl, cc)
 if_none true x why y e = absurd cc
+
+never_stands : (one : Result (Option ℕ) ScriptKind) (why : ScriptKind) (next : Option ℕ)
+    → one >>= (λ (n : Option ℕ). bad_place why) ≡ Ok next → ⊥
+never_stands (Ok n) why next e = absurd cc
+never_stands (Err other) why next e = absurd cc
 
 may_stand : (place : Option ℕ) (what : Mark) (next : Option ℕ) (line : List ℕ) (left : List (List ℕ))
     → IsClosed place (line ∷ left) → (what ≡ mark.Acts → is_end line ≡ false) → next_place place what left ≡ Ok next
@@ -100,6 +108,10 @@ may_stand None mark.Acts next line left closed acts e =
     let same : None ≡ next = cc in
     subst (λ (n : Option ℕ). MayStand None mark.Acts n left) same
     (record { closed = tt; stands = λ lines rest. rest })
+may_stand None mark.Lone next line left closed acts e =
+    let same : None ≡ next = cc in
+    subst (λ (n : Option ℕ). MayStand None mark.Lone n left) same
+    (record { closed = tt; stands = λ lines rest. rest })
 may_stand (Some count) mark.Opens next line left closed acts e = absurd cc
 may_stand (Some count) mark.Closes next line left closed acts e =
     let both = if_none (count == 0) None kind.NoEnd next e in
@@ -112,6 +124,8 @@ may_stand (Some count) mark.Acts next line left closed acts e =
       closed = behind_none line left (acts refl) closed;
       stands = λ lines rest. (grind (arith, nat_tests, both.0), rest);
     })
+may_stand (Some count) mark.Lone next line left closed acts e =
+    absurd (never_stands (one_more count) kind.NotInBlock next e)
 
 -- ---- a line that was read
 

@@ -1,19 +1,18 @@
--- The moments of a script's questions.
+-- The lines of a script that was read are lawful.
 use Rattle.std.proofs.Common.{◌≡◌, ℕ, ◌+◌, ℤ, ◌≤ℤ◌, ◌^◌, ◌-◌, ◌&&◌, pos, int_le, Option, Some, None, option_and_then}
 use Rattle.std.proofs.Common.{Bool, true, false, cond, List, [], ◌∷◌, ◌++◌, Result, Ok, Err, refl, subst, arith}
-use Rattle.std.specs.Prelude.{codes}
 use Rattle.std.specs.List.{AllByRecursion}
 use Rattle.std.specs.Option.{ok_or}
+use Rattle.std.specs.Prelude.{codes}
 use Rattle.std.specs.Str.{is_utf8}
 use Rattle.std.proofs.lemmas.Int.{ints}
-use Rattle.mon_script.specs.Forms.{Said, ask_named, asked_at, asking, form_by, form_cut, form_of, lone_form, said_by}
+use Rattle.mon_script.specs.Forms.{Said, ask_named, asked_at, asking, form_cut, form_of, said_by}
 use Rattle.mon_script.specs.Forms.{timed}
 use Rattle.mon_script.specs.Lawful.{IsLawfulForm, IsLawfulLine}
 use Rattle.mon_script.specs.Lines.{cut_at, is_remark}
-use Rattle.mon_script.specs.Others.{other_fault}
 use Rattle.mon_script.specs.Places.{mark_of, stand_at}
-use Rattle.mon_script.specs.Scripts.{fault_read, form_read, line_at, line_read, lines_read, numbered, read_as}
-use Rattle.mon_script.specs.Scripts.{remark_read, said_read, script_from}
+use Rattle.mon_script.specs.Scripts.{line_read, lines_read, numbered, read_as}
+use Rattle.mon_script.specs.Scripts.{said_read, script_from}
 use Rattle.mon_script.specs.Words.{is_file_name, is_moment, moment_of, space}
 use Rattle.mon_script.specs.declared.faults.ScriptFault.{ScriptFault}
 use Rattle.mon_script.specs.declared.faults.ScriptKind.{ScriptKind}
@@ -27,158 +26,151 @@ use Rattle.mon_script.specs.declared.script.ScriptLine.{ScriptLine}
 use Rattle.mon_topo.specs.declared.zones.ZoneSpec.{ZoneSpec}
 use Rattle.mon_value.specs.Answers.{◌>>=◌}
 use Rattle.mon_value.specs.Numbers.{number_of}
-
-in_bounds : (z moment : ℤ) (low high : Bool) → int_le (pos 0) z ≡ low → cond (low && high) (Some z) None ≡ Some moment
-    → pos 0 ≤ℤ moment
-in_bounds z moment true true h e =
-    let same : z ≡ moment = cc in
-    subst (λ (m : ℤ). pos 0 ≤ℤ m) same (grind (arith, ints))
-in_bounds z moment true false h e = cc
-in_bounds z moment false high h e = cc
-
-number_lawful : (number : Option ℤ) (moment : ℤ)
-    → option_and_then (λ z. cond (is_moment z) (Some z) None) number ≡ Some moment → pos 0 ≤ℤ moment
-number_lawful None moment e = cc
-number_lawful (Some z) moment e = in_bounds z moment (int_le (pos 0) z) (int_le z (pos (2 ^ 63 - 1))) refl e
+use Rattle.mon_value.specs.Same.{same_text}
+use Rattle.mon_script.proofs.ControlLemmas.{control_lawful}
+use Rattle.mon_script.proofs.StandingLineLemmas.{moment_lawful, standing_lawful}
 
 -- ---- what a line says
 
-abbrev fault_of : ScriptKind → Said
-fault_of why = Err why
+module _ (zones : List ZoneSpec) where
+  abbrev fault_of : ScriptKind → Said
+  fault_of why = Err why
 
-asking_lawful : (what : Ask) (moment : ℤ) (text : List ℕ) → pos 0 ≤ℤ moment → IsLawfulForm (asking what moment text)
-asking_lawful ask.Query moment text lawful = lawful
-asking_lawful ask.Check moment text lawful = lawful
-asking_lawful ask.Explain moment text lawful = lawful
+  asking_lawful : (what : Ask) (moment : ℤ) (text : List ℕ) → pos 0 ≤ℤ moment → IsLawfulForm zones (asking what moment text)
+  asking_lawful ask.Query moment text lawful = lawful
+  asking_lawful ask.Check moment text lawful = lawful
+  asking_lawful ask.Explain moment text lawful = lawful
 
-timed_lawful : (what : Ask) (text : List ℕ) (moment : Option ℤ) (said : LineForm)
-    → ((m : ℤ) → moment ≡ Some m → pos 0 ≤ℤ m)
-    → ok_or moment kind.BadNumber >>= (λ m. Ok (asking what m text)) ≡ Ok said → IsLawfulForm said
-timed_lawful what text None said all e = cc
-timed_lawful what text (Some m) said all e =
-    let same : asking what m text ≡ said = cc in
-    subst IsLawfulForm same (asking_lawful what m text (all m refl))
+  timed_lawful : (what : Ask) (text : List ℕ) (moment : Option ℤ) (said : LineForm)
+      → ((m : ℤ) → moment ≡ Some m → pos 0 ≤ℤ m)
+      → ok_or moment kind.BadNumber >>= (λ m. Ok (asking what m text)) ≡ Ok said → IsLawfulForm zones said
+  timed_lawful what text None said all e = cc
+  timed_lawful what text (Some m) said all e =
+      let same : asking what m text ≡ said = cc in
+      subst (IsLawfulForm zones) same (asking_lawful what m text (all m refl))
 
-asked_lawful : (what : Ask) (word text : List ℕ) (utf8 : Bool) (said : LineForm)
-    → cond utf8 (timed what word text) (Err kind.BadWord) ≡ Ok said → IsLawfulForm said
-asked_lawful what word text true said e =
-    timed_lawful what text (moment_of word) said (λ m. number_lawful (number_of word) m) e
-asked_lawful what word text false said e = cc
+  asked_lawful : (what : Ask) (word text : List ℕ) (utf8 : Bool) (said : LineForm)
+      → cond utf8 (timed what word text) (Err kind.BadWord) ≡ Ok said → IsLawfulForm zones said
+  asked_lawful what word text true said e =
+      timed_lawful what text (moment_of word) said (λ m. moment_lawful (number_of word) m) e
+  asked_lawful what word text false said e = cc
 
-words_lawful : (what : Ask) (cut : Option (List ℕ × List ℕ)) (said : LineForm)
-    → ok_or cut kind.BadWord >>= (λ words. asked_at what words.0 words.1) ≡ Ok said → IsLawfulForm said
-words_lawful what None said e = cc
-words_lawful what (Some words) said e = asked_lawful what words.0 words.1 (is_utf8 words.1) said e
+  words_lawful : (what : Ask) (cut : Option (List ℕ × List ℕ)) (said : LineForm)
+      → ok_or cut kind.BadWord >>= (λ words. asked_at what words.0 words.1) ≡ Ok said → IsLawfulForm zones said
+  words_lawful what None said e = cc
+  words_lawful what (Some words) said e = asked_lawful what words.0 words.1 (is_utf8 words.1) said e
 
-said_lawful : (zones : List ZoneSpec) (word rest : List ℕ) (named : Option Ask) (said : LineForm)
-    → said_by zones word rest named ≡ Ok said → IsLawfulForm said
-said_lawful zones word rest (Some what) said e = words_lawful what (cut_at space rest) said e
-said_lawful zones word rest None said e = cc
+  by_lawful : (feed : Bool) (a b : Said) (said : LineForm) → (a ≡ Ok said → IsLawfulForm zones said)
+      → (b ≡ Ok said → IsLawfulForm zones said) → cond feed a b ≡ Ok said → IsLawfulForm zones said
+  by_lawful true a b said first second e = first e
+  by_lawful false a b said first second e = second e
 
-file_lawful : (name : List ℕ) (fits : Bool) (said : LineForm)
-    → cond fits (Ok (form.Feed name)) (fault_of kind.BadWord) ≡ Ok said → IsLawfulForm said
-file_lawful name true said e = let same : form.Feed name ≡ said = cc in subst IsLawfulForm same tt
-file_lawful name false said e = cc
+  said_lawful : (word rest : List ℕ) (named : Option Ask) (said : LineForm)
+      → said_by zones word rest named ≡ Ok said → IsLawfulForm zones said
+  said_lawful word rest (Some what) said e = words_lawful what (cut_at space rest) said e
+  said_lawful word rest None said e =
+      by_lawful (same_text word (codes "standing")) _ _ said (standing_lawful zones rest said)
+      (control_lawful zones word rest said) e
 
-by_lawful : (feed : Bool) (a b : Said) (said : LineForm) → (a ≡ Ok said → IsLawfulForm said)
-    → (b ≡ Ok said → IsLawfulForm said) → cond feed a b ≡ Ok said → IsLawfulForm said
-by_lawful true a b said first second e = first e
-by_lawful false a b said first second e = second e
+  file_lawful : (name : List ℕ) (fits : Bool) (said : LineForm)
+      → cond fits (Ok (form.Feed name)) (fault_of kind.BadWord) ≡ Ok said → IsLawfulForm zones said
+  file_lawful name true said e = let same : form.Feed name ≡ said = cc in subst (IsLawfulForm zones) same tt
+  file_lawful name false said e = cc
 
-abbrev said_form : LineForm → Said
-said_form what = Ok what
+  abbrev said_form : LineForm → Said
+  said_form what = Ok what
 
-mark_lawful : (what said : LineForm) → IsLawfulForm what → said_form what ≡ Ok said → IsLawfulForm said
-mark_lawful what said lawful e = let same : what ≡ said = cc in subst IsLawfulForm same lawful
+  mark_lawful : (what said : LineForm) → IsLawfulForm zones what → said_form what ≡ Ok said → IsLawfulForm zones said
+  mark_lawful what said lawful e = let same : what ≡ said = cc in subst (IsLawfulForm zones) same lawful
 
-bad_lawful : (said : LineForm) → fault_of kind.BadWord ≡ Ok said → IsLawfulForm said
-bad_lawful said e = absurd cc
+  bad_lawful : (said : LineForm) → fault_of kind.BadWord ≡ Ok said → IsLawfulForm zones said
+  bad_lawful said e = absurd cc
 
-cut_lawful : (zones : List ZoneSpec) (line : List ℕ) (cut : Option (List ℕ × List ℕ)) (said : LineForm)
-    → form_cut zones line cut ≡ Ok said → IsLawfulForm said
-cut_lawful zones line (Some words) said e =
-    by_lawful _ _ _ said (file_lawful words.1 (is_file_name words.1) said)
-    (said_lawful zones words.0 words.1 (ask_named words.0) said) e
-cut_lawful zones line None said e =
-    by_lawful _ _ _ said (mark_lawful form.Together said tt)
-    (by_lawful _ _ _ said (mark_lawful form.End said tt) (bad_lawful said)) e
+  cut_lawful : (line : List ℕ) (cut : Option (List ℕ × List ℕ)) (said : LineForm)
+      → form_cut zones line cut ≡ Ok said → IsLawfulForm zones said
+  cut_lawful line (Some words) said e =
+      by_lawful _ _ _ said (file_lawful words.1 (is_file_name words.1) said)
+      (said_lawful words.0 words.1 (ask_named words.0) said) e
+  cut_lawful line None said e =
+      by_lawful _ _ _ said (mark_lawful form.Together said tt)
+      (by_lawful _ _ _ said (mark_lawful form.End said tt) (bad_lawful said)) e
 
--- a form that a line says is lawful
-pub form_lawful : (zones : List ZoneSpec) (line : List ℕ) (said : LineForm) → form_of zones line ≡ Ok said
-    → IsLawfulForm said
-form_lawful zones line said e = cut_lawful zones line (cut_at space line) said e
+  -- a form that a line says is lawful
+  pub form_lawful : (line : List ℕ) (said : LineForm) → form_of zones line ≡ Ok said
+      → IsLawfulForm zones said
+  form_lawful line said e = cut_lawful line (cut_at space line) said e
 
--- ---- lines
+  -- ---- lines
 
-abbrev pub AreLawful : List ScriptLine → Type 0
-AreLawful script = AllByRecursion IsLawfulLine script
+  abbrev pub AreLawful : List ScriptLine → Type 0
+  AreLawful script = AllByRecursion (IsLawfulLine zones) script
 
-abbrev IfLawful : Option LineForm → Type 0
-IfLawful None = Unit {0}
-IfLawful (Some what) = IsLawfulForm what
+  abbrev IfLawful : Option LineForm → Type 0
+  IfLawful None = Unit {0}
+  IfLawful (Some what) = IsLawfulForm zones what
 
-read_lawful : (number : ℕ) (what : Option LineForm) (rest : List ScriptLine) → IfLawful what → AreLawful rest
-    → AreLawful (lines_read number what ++ rest)
-read_lawful number None rest lawful all = all
-read_lawful number (Some what) rest lawful all = (lawful, all)
+  read_lawful : (number : ℕ) (what : Option LineForm) (rest : List ScriptLine) → IfLawful what → AreLawful rest
+      → AreLawful (lines_read number what ++ rest)
+  read_lawful number None rest lawful all = all
+  read_lawful number (Some what) rest lawful all = (lawful, all)
 
-stood_lawful : (what : LineForm) (next : Result (Option ℕ) ScriptKind) (read : LineRead) → IsLawfulForm what
-    → next >>= (λ behind. Ok (read_as (Some what) behind)) ≡ Ok read → IfLawful read.what
-stood_lawful what (Ok behind) read lawful e =
-    let same : read_as (Some what) behind ≡ read = cc in
-    subst (λ (r : LineRead). IfLawful r.what) same lawful
-stood_lawful what (Err why) read lawful e = cc
+  stood_lawful : (what : LineForm) (next : Result (Option ℕ) ScriptKind) (read : LineRead) → IsLawfulForm zones what
+      → next >>= (λ behind. Ok (read_as (Some what) behind)) ≡ Ok read → IfLawful read.what
+  stood_lawful what (Ok behind) read lawful e =
+      let same : read_as (Some what) behind ≡ read = cc in
+      subst (λ (r : LineRead). IfLawful r.what) same lawful
+  stood_lawful what (Err why) read lawful e = cc
 
-form_read_lawful : (number : ℕ) (place : Option ℕ) (left : List (List ℕ)) (said : Said) (read : LineRead)
-    → ((what : LineForm) → said ≡ Ok what → IsLawfulForm what) → said_read number place said left ≡ Ok read
-    → IfLawful read.what
-form_read_lawful number place left (Ok what) read all e =
-    stood_lawful what (stand_at number place (mark_of what) left) read (all what refl) e
-form_read_lawful number place left (Err why) read all e = cc
+  form_read_lawful : (number : ℕ) (place : Option ℕ) (left : List (List ℕ)) (said : Said) (read : LineRead)
+      → ((what : LineForm) → said ≡ Ok what → IsLawfulForm zones what) → said_read number place said left ≡ Ok read
+      → IfLawful read.what
+  form_read_lawful number place left (Ok what) read all e =
+      stood_lawful what (stand_at number place (mark_of what) left) read (all what refl) e
+  form_read_lawful number place left (Err why) read all e = cc
 
-remark_lawful : (place : Option ℕ) (over : Bool) (read : LineRead)
-    → cond over (Err kind.TooManyLines) (Ok (read_as None place)) ≡ Ok read → IfLawful read.what
-remark_lawful place true read e = cc
-remark_lawful place false read e =
-    let same : read_as None place ≡ read = cc in
-    subst (λ (r : LineRead). IfLawful r.what) same tt
+  remark_lawful : (place : Option ℕ) (over : Bool) (read : LineRead)
+      → cond over (Err kind.TooManyLines) (Ok (read_as None place)) ≡ Ok read → IfLawful read.what
+  remark_lawful place true read e = cc
+  remark_lawful place false read e =
+      let same : read_as None place ≡ read = cc in
+      subst (λ (r : LineRead). IfLawful r.what) same tt
 
-either_lawful : (remark : Bool) (a b : Result LineRead ScriptKind) (read : LineRead)
-    → (a ≡ Ok read → IfLawful read.what) → (b ≡ Ok read → IfLawful read.what) → cond remark a b ≡ Ok read
-    → IfLawful read.what
-either_lawful true a b read first second e = first e
-either_lawful false a b read first second e = second e
+  either_lawful : (remark : Bool) (a b : Result LineRead ScriptKind) (read : LineRead)
+      → (a ≡ Ok read → IfLawful read.what) → (b ≡ Ok read → IfLawful read.what) → cond remark a b ≡ Ok read
+      → IfLawful read.what
+  either_lawful true a b read first second e = first e
+  either_lawful false a b read first second e = second e
 
-line_lawful : (zones : List ZoneSpec) (number : ℕ) (place : Option ℕ) (line : List ℕ) (left : List (List ℕ))
-    (read : LineRead) → line_read zones number place line left ≡ Ok read → IfLawful read.what
-line_lawful zones number place line left read e =
-    either_lawful (is_remark line) _ _ read (remark_lawful place _ read)
-    (form_read_lawful number place left (form_of zones line) read (form_lawful zones line)) e
+  line_lawful : (number : ℕ) (place : Option ℕ) (line : List ℕ) (left : List (List ℕ))
+      (read : LineRead) → line_read zones number place line left ≡ Ok read → IfLawful read.what
+  line_lawful number place line left read e =
+      either_lawful (is_remark line) _ _ read (remark_lawful place _ read)
+      (form_read_lawful number place left (form_of zones line) read (form_lawful line)) e
 
-rest_lawful : (number : ℕ) (what : Option LineForm) (rest : Result (List ScriptLine) ScriptFault)
-    (script : List ScriptLine) → IfLawful what → ((lines : List ScriptLine) → rest ≡ Ok lines → AreLawful lines)
-    → rest >>= (λ lines. Ok (lines_read number what ++ lines)) ≡ Ok script → AreLawful script
-rest_lawful number what (Err fault) script lawful all e = cc
-rest_lawful number what (Ok lines) script lawful all e =
-    let same : lines_read number what ++ lines ≡ script = cc in
-    subst AreLawful same (read_lawful number what lines lawful (all lines refl))
+  rest_lawful : (number : ℕ) (what : Option LineForm) (rest : Result (List ScriptLine) ScriptFault)
+      (script : List ScriptLine) → IfLawful what → ((lines : List ScriptLine) → rest ≡ Ok lines → AreLawful lines)
+      → rest >>= (λ lines. Ok (lines_read number what ++ lines)) ≡ Ok script → AreLawful script
+  rest_lawful number what (Err fault) script lawful all e = cc
+  rest_lawful number what (Ok lines) script lawful all e =
+      let same : lines_read number what ++ lines ≡ script = cc in
+      subst AreLawful same (read_lawful number what lines lawful (all lines refl))
 
-step_lawful : (number : ℕ) (one : Result LineRead ScriptKind)
-    (rest : LineRead → Result (List ScriptLine) ScriptFault) (script : List ScriptLine)
-    → ((read : LineRead) → one ≡ Ok read → IfLawful read.what)
-    → ((read : LineRead) (lines : List ScriptLine) → rest read ≡ Ok lines → AreLawful lines)
-    → numbered number one >>= (λ read. rest read >>= λ lines. Ok (lines_read number read.what ++ lines)) ≡ Ok script
-    → AreLawful script
-step_lawful number (Err why) rest script each all e = cc
-step_lawful number (Ok read) rest script each all e =
-    rest_lawful number read.what (rest read) script (each read refl) (all read) e
+  step_lawful : (number : ℕ) (one : Result LineRead ScriptKind)
+      (rest : LineRead → Result (List ScriptLine) ScriptFault) (script : List ScriptLine)
+      → ((read : LineRead) → one ≡ Ok read → IfLawful read.what)
+      → ((read : LineRead) (lines : List ScriptLine) → rest read ≡ Ok lines → AreLawful lines)
+      → numbered number one >>= (λ read. rest read >>= λ lines. Ok (lines_read number read.what ++ lines)) ≡ Ok script
+      → AreLawful script
+  step_lawful number (Err why) rest script each all e = cc
+  step_lawful number (Ok read) rest script each all e =
+      rest_lawful number read.what (rest read) script (each read refl) (all read) e
 
--- each line of a script that was read is lawful
-pub script_lawful : (zones : List ZoneSpec) (number : ℕ) (place : Option ℕ) (lines : List (List ℕ))
-    (script : List ScriptLine) → script_from zones number place lines ≡ Ok script → AreLawful script
-script_lawful zones number place [] script e =
-    let same : [] ≡ script = cc in subst AreLawful same tt
-script_lawful zones number place (line ∷ left) script e =
-    step_lawful number (line_read zones number place line left)
-    (λ read. script_from zones (number + 1) read.next left) script (line_lawful zones number place line left)
-    (λ read. script_lawful zones (number + 1) read.next left) e
+  -- each line of a script that was read is lawful
+  pub script_lawful : (number : ℕ) (place : Option ℕ) (lines : List (List ℕ))
+      (script : List ScriptLine) → script_from zones number place lines ≡ Ok script → AreLawful script
+  script_lawful number place [] script e =
+      let same : [] ≡ script = cc in subst AreLawful same tt
+  script_lawful number place (line ∷ left) script e =
+      step_lawful number (line_read zones number place line left)
+      (λ read. script_from zones (number + 1) read.next left) script (line_lawful number place line left)
+      (λ read. script_lawful (number + 1) read.next left) e

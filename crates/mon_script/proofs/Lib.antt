@@ -1,6 +1,8 @@
 mod BlockLemmas
+mod ControlLemmas
 mod Fronts
 mod LawfulLemmas
 mod LineLemmas
 pub mod MadeLemmas
 pub mod MadePlaceLemmas
+mod StandingLineLemmas

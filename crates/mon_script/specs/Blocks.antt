@@ -13,9 +13,11 @@ abbrev pub StandsBefore : Option ℕ → Mark → (Option ℕ → Type 0) → Ty
 StandsBefore None mark.Opens Rest = Rest (Some 0)
 StandsBefore None mark.Closes Rest = ⊥
 StandsBefore None mark.Acts Rest = Rest None
+StandsBefore None mark.Lone Rest = Rest None
 StandsBefore (Some lines) mark.Opens Rest = ⊥
 StandsBefore (Some lines) mark.Closes Rest = (0 < lines) × Rest None
 StandsBefore (Some lines) mark.Acts Rest = (lines < MOST_LINES_OF_BLOCK) × Rest (Some (lines + 1))
+StandsBefore (Some lines) mark.Lone Rest = ⊥
 
 -- each line may stand where it does, from outside of blocks or from a block with so many lines; and all blocks end
 abbrev pub AreInBlocks : Option ℕ → List ScriptLine → Type 0
@@ -27,6 +29,7 @@ abbrev pub ends_by : Mark → Bool
 ends_by mark.Opens = false
 ends_by mark.Closes = true
 ends_by mark.Acts = false
+ends_by mark.Lone = false
 
 -- whether a line ends a block
 abbrev pub ends_block : ScriptLine → Bool

@@ -7,7 +7,8 @@ use Rattle.mon_script.specs.Words.{is_file_name, moment_of, space}
 use Rattle.mon_topo.specs.declared.zones.ZoneSpec.{ZoneSpec}
 use Rattle.mon_value.specs.Answers.{◌>>=◌}
 use Rattle.mon_value.specs.Same.{same_text}
-use Rattle.mon_script.specs.Others.{other_fault}
+use Rattle.mon_script.specs.Controls.{control_form}
+use Rattle.mon_script.specs.StandingLines.{standing_form}
 use Rattle.mon_script.specs.declared.faults.ScriptKind.{ScriptKind}
 use Rattle.mon_script.specs.declared.faults.ScriptKind.TheVariants as kind
 use Rattle.mon_script.specs.declared.forms.Ask.{Ask}
@@ -49,10 +50,15 @@ asked_form what rest = do
   words ← ok_or (cut_at space rest) kind.BadWord
   asked_at what words.0 words.1
 
+-- what the rest says behind a word that neither feeds nor asks
+abbrev pub other_form : List ZoneSpec → List ℕ → List ℕ → Said
+other_form zones word rest =
+    if same_text word (codes "standing") then standing_form rest else control_form zones word rest
+
 -- what the rest says behind a word that asks, or behind any other
 abbrev pub said_by : List ZoneSpec → List ℕ → List ℕ → Option Ask → Said
 said_by zones word rest (Some what) = asked_form what rest
-said_by zones word rest None = Err (other_fault zones word rest)
+said_by zones word rest None = other_form zones word rest
 
 -- what the first word and the rest of a line say
 abbrev pub form_by : List ZoneSpec → List ℕ → List ℕ → Said

@@ -17,6 +17,11 @@ mark_of (form.Feed name) = mark.Acts
 mark_of (form.Query moment text) = mark.Acts
 mark_of (form.Check moment text) = mark.Acts
 mark_of (form.Explain moment text) = mark.Acts
+mark_of (form.Down leaf) = mark.Acts
+mark_of (form.Up leaf) = mark.Acts
+mark_of (form.Recover range leaf) = mark.Acts
+mark_of (form.Standing name period text) = mark.Lone
+mark_of (form.Tick moment) = mark.Lone
 mark_of form.Together = mark.Opens
 mark_of form.End = mark.Closes
 
@@ -27,17 +32,22 @@ has_end = list_any (λ line. same_text line (codes "end"))
 abbrev pub one_more : ℕ → Result (Option ℕ) ScriptKind
 one_more lines = if nat_lt lines MOST_LINES_OF_BLOCK then Ok (Some (lines + 1)) else Err kind.BlockFull
 
--- in a block, behind so many lines: no other block begins, and its end isn't the first
+-- in a block, behind so many lines: no other block begins, its end isn't the first, and what is to stand outside of
+-- blocks doesn't stand there
 abbrev pub in_block : ℕ → Mark → Result (Option ℕ) ScriptKind
 in_block lines mark.Opens = Err kind.Nested
 in_block lines mark.Closes = if lines == 0 then Err kind.NoEnd else Ok None
 in_block lines mark.Acts = one_more lines
+in_block lines mark.Lone = do
+  next ← one_more lines
+  Err kind.NotInBlock
 
 -- outside of blocks: one begins where some line behind ends it
 abbrev pub outside : Mark → List (List ℕ) → Result (Option ℕ) ScriptKind
 outside mark.Opens left = if has_end left then Ok (Some 0) else Err kind.NoEnd
 outside mark.Closes left = Err kind.NoEnd
 outside mark.Acts left = Ok None
+outside mark.Lone left = Ok None
 
 -- where the next line stands, or why this one may not stand here
 abbrev pub next_place : Option ℕ → Mark → List (List ℕ) → Result (Option ℕ) ScriptKind

@@ -10,7 +10,6 @@ use Rattle.mon_script.specs.declared.faults.ScriptFault.{ScriptFault}
 use Rattle.mon_script.specs.declared.faults.ScriptKind.{ScriptKind}
 use Rattle.mon_script.specs.declared.faults.ScriptKind.TheVariants as kind
 use Rattle.mon_script.specs.declared.forms.LineForm.{LineForm}
-use Rattle.mon_script.specs.declared.places.Mark.TheVariants as mark
 use Rattle.mon_script.specs.declared.places.TheConstants.{MOST_LINES}
 use Rattle.mon_script.specs.declared.script.LineRead.{LineRead}
 use Rattle.mon_script.specs.declared.script.ScriptLine.{ScriptLine}
@@ -30,22 +29,9 @@ form_read number place form left = do
   next ← stand_at number place (mark_of form) left
   Ok (read_as (Some form) next)
 
-abbrev pub fault_behind : ScriptKind → Result (Option ℕ) ScriptKind → ScriptKind
-fault_behind why (Ok next) = why
-fault_behind why (Err other) = other
-
-abbrev pub is_not_built : ScriptKind → Bool
-is_not_built kind.NotBuilt = true
-is_not_built why = false
-
--- where a line's form alone is not carried out, a fault of its place comes first
-abbrev pub fault_read : ℕ → Option ℕ → ScriptKind → List (List ℕ) → ScriptKind
-fault_read number place why left =
-    if is_not_built why then fault_behind why (stand_at number place mark.Acts left) else why
-
 abbrev pub said_read : ℕ → Option ℕ → Said → List (List ℕ) → Result LineRead ScriptKind
 said_read number place (Ok form) left = form_read number place form left
-said_read number place (Err why) left = Err (fault_read number place why left)
+said_read number place (Err why) left = Err why
 
 -- what a line says, which stands at a place in front of others
 abbrev pub line_read : List ZoneSpec → ℕ → Option ℕ → List ℕ → List (List ℕ) → Result LineRead ScriptKind

@@ -25,5 +25,6 @@ fn ends_block(line: &ScriptLine) -> bool
         Mark::Opens => false,
         Mark::Closes => true,
         Mark::Acts => false,
+        Mark::Lone => false,
     }
 }

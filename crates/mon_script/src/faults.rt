@@ -19,10 +19,10 @@ pub enum ScriptKind {
     NoEnd,
     /// A block has too many lines.
     BlockFull,
+    /// A line stands in a block that may stand outside of blocks alone.
+    NotInBlock,
     /// The script has too many lines.
     TooManyLines,
-    /// The line is of a form that is not carried out so far.
-    NotBuilt,
 }
 
 /// The first line of a script that is refused. Lines are numbered from 1.

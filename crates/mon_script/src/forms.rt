@@ -4,11 +4,12 @@ ghost use Rattle.mon_script.specs.Words.{is_file_name};
 ghost use Rattle.mon_value.specs.Answers.{Gives};
 ghost use Rattle.mon_script.specs.Forms as spec;
 
+use crate::controls::control_form;
 use crate::faults::ScriptKind;
 use crate::lines::cut_at;
-use crate::others::other_fault;
+use crate::standing_lines::standing_form;
 use crate::words::moment_of;
-use mon_topo::Topology;
+use mon_topo::{Leaf, Range, Topology};
 use mon_value::{OutOfMemory, Refusal, Text};
 use std::alloc::Global;
 
@@ -23,6 +24,16 @@ pub enum LineForm {
     Check(i64, Text),
     /// Print the table, the level of each operation, and which leaves were read.
     Explain(i64, Text),
+    /// Take a leaf down.
+    Down(Leaf),
+    /// Take a leaf that is down up again.
+    Up(Leaf),
+    /// Open one replica more of a range on a leaf of its zone.
+    Recover(Range, Leaf),
+    /// Have a query of a name, a period in seconds and a text stand.
+    Standing(Text, i64, Text),
+    /// Ask the standing queries that are due at a moment, in seconds from the epoch.
+    Tick(i64),
     /// Run the lines up to the next end beside each other.
     Together,
     /// The block ends.
@@ -78,7 +89,25 @@ fn form_by(
     }
     match ask_named(word) {
         Some(ask) => asked_form(alloc, ask, rest),
-        None => Err(Refusal::Fault(other_fault(topology, word, rest))),
+        None => other_form(alloc, topology, word, rest),
+    }
+}
+
+// What a line says that neither feeds nor asks.
+fn other_form(
+    alloc: Global,
+    topology: &Topology,
+    word: &[u8],
+    rest: &[u8],
+) -> Result<LineForm, Refusal<ScriptKind>>
+    ensures form { Gives result (spec.other_form topology.now word.now rest.now) }
+{
+    if word == b"standing".as_slice() {
+        return standing_form(alloc, rest);
+    }
+    match control_form(topology, word, rest) {
+        Ok(form) => Ok(form),
+        Err(kind) => Err(Refusal::Fault(kind)),
     }
 }
 

@@ -3,15 +3,16 @@
 #![tactic(auto)]
 
 mod blocks;
+mod controls;
 mod faults;
 mod forms;
 mod generator;
 mod lines;
 mod made_input;
 mod made_texts;
-mod others;
 mod places;
 mod script;
+mod standing_lines;
 mod words;
 
 pub use blocks::cut_block;

@@ -16,9 +16,14 @@ pub const MOST_LINES_OF_BLOCK: u32 = 16;
 /// What a line does to blocks.
 #[derive(Clone, Copy)]
 pub enum Mark {
+    /// It begins one.
     Opens,
+    /// It ends one.
     Closes,
+    /// It may stand in one.
     Acts,
+    /// It may stand outside of them alone.
+    Lone,
 }
 
 /// What a line of a form does to blocks.
@@ -32,6 +37,11 @@ pub fn mark_of(form: &LineForm) -> Mark
         LineForm::Query(_, _) => Mark::Acts,
         LineForm::Check(_, _) => Mark::Acts,
         LineForm::Explain(_, _) => Mark::Acts,
+        LineForm::Down(_) => Mark::Acts,
+        LineForm::Up(_) => Mark::Acts,
+        LineForm::Recover(_, _) => Mark::Acts,
+        LineForm::Standing(_, _, _) => Mark::Lone,
+        LineForm::Tick(_) => Mark::Lone,
     }
 }
 
@@ -69,6 +79,10 @@ fn in_block(lines: u32, mark: Mark) -> Result<Option<u32>, ScriptKind>
             }
         }
         Mark::Acts => one_more(lines),
+        Mark::Lone => {
+            one_more(lines)?;
+            Err(ScriptKind::NotInBlock)
+        }
     }
 }
 
@@ -97,6 +111,7 @@ fn outside(mark: Mark, left: &[u8]) -> Result<Option<u32>, ScriptKind>
         }
         Mark::Closes => Err(ScriptKind::NoEnd),
         Mark::Acts => Ok(None),
+        Mark::Lone => Ok(None),
     }
 }
 

@@ -10,7 +10,7 @@ ghost use Rattle.mon_script.specs.Scripts as spec;
 use crate::faults::{ScriptFault, ScriptKind};
 use crate::forms::{LineForm, form_of};
 use crate::lines::{is_remark, next_line};
-use crate::places::{MOST_LINES, Mark, mark_of, stand_at};
+use crate::places::{MOST_LINES, mark_of, stand_at};
 use mon_topo::Topology;
 use mon_value::{ListOf, OutOfMemory, Refusal};
 use std::alloc::Global;
@@ -40,7 +40,7 @@ pub fn read_script(
     topology: &Topology,
 ) -> Result<Script, Refusal<ScriptFault>>
     ensures exact { Gives result (spec.script_in topology.now text.now) }
-    ensures lawful { IfOk result (λ script. AllByRecursion IsLawfulLine script) }
+    ensures lawful { IfOk result (λ script. AllByRecursion (IsLawfulLine topology.now) script) }
     ensures few { IfOk result (λ script. length script ≤ MOST_LINES) }
     ensures blocks { IfOk result (λ script. AreInBlocks None script) }
 {
@@ -103,8 +103,7 @@ fn line_read(
     }
     match form_of(alloc, topology, line) {
         Ok(form) => form_read(number, place, form, left),
-        Err(Refusal::Fault(kind)) => Err(Refusal::Fault(fault_read(number, place, kind, left))),
-        Err(Refusal::OutOfMemory) => Err(Refusal::OutOfMemory),
+        Err(refusal) => Err(refusal),
     }
 }
 
@@ -138,18 +137,5 @@ fn form_read(
             next,
         }),
         Err(kind) => Err(Refusal::Fault(kind)),
-    }
-}
-
-// A line that says nothing. Where its form alone is not carried out, a fault of its place comes first.
-fn fault_read(number: u32, place: Option<u32>, kind: ScriptKind, left: &[u8]) -> ScriptKind
-    ensures fault { result ≡ spec.fault_read number place kind (lines_of left.now) }
-{
-    if !matches!(kind, ScriptKind::NotBuilt) {
-        return kind;
-    }
-    match stand_at(number, place, Mark::Acts, left) {
-        Ok(_next) => kind,
-        Err(kind) => kind,
     }
 }

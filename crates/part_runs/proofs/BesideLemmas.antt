@@ -130,10 +130,10 @@ module _ (later : (config : Config) (seen more : Histories) (from : History → 
     (made : History → List BookEntry) → HaveGrown seen more
     → ((history : History) → filter (λ e. nat_eq (book_entry_pass e) number) (entries more history)
     ≡ filter (λ e. nat_eq (book_entry_pass e) number) (entries seen history))
-    → Makes config number line made → Finds config seen from (λ history. length (entries seen history)) line
-    → Finds config more from (λ history. length (entries more history)) line)
-    (texts : (config : Config) (seen more : Histories) (from to : History → ℕ) (line : RanLine) → HaveGrown seen more
-    → IsWithin entries to seen → Finds config seen from to line
+    → Makes config number line made → Finds config seen from (λ history. length (entries seen history)) number line
+    → Finds config more from (λ history. length (entries more history)) number line)
+    (texts : (config : Config) (seen more : Histories) (from to : History → ℕ) (number : ℕ) (line : RanLine)
+    → HaveGrown seen more → IsWithin entries to seen → Finds config seen from to number line
     → line_text config more line ≡ line_text config seen line)
     (setting : Setting) (config : Config) (last : Knowledge) (ended : IsPass setting last)
     (held : AreHeld setting.held setting.zones setting.points last.seen) where
@@ -187,7 +187,8 @@ module _ (later : (config : Config) (seen more : Histories) (from : History → 
 
     line_prints : ran.text ≡ line_text config last.seen (ran_line what content ran.trace)
     line_prints = wrote.prints ∙ sym (texts config way.know.seen last.seen (λ h. length (entries know.seen h))
-        (λ h. length (entries way.know.seen h)) (ran_line what content ran.trace) grown (λ h. omega arith) wrote.found)
+        (λ h. length (entries way.know.seen h)) number (ran_line what content ran.trace) grown (λ h. omega arith)
+        wrote.found)
 
     line_times : (n : ℕ) → times_number n way.know.purse ≡ times_number n (first_handed know.purse)
     line_times n = kept_times n (numbered_knowledge know) way.know wrote.keeps

@@ -1,6 +1,10 @@
 pub mod AloneLemmas
 pub mod BesideLemmas
 pub mod CourseLemmas
+pub mod GrownLemmas
 pub mod ListLemmas
 pub mod NumberLemmas
 pub mod PassLemmas
+pub mod StandLemmas
+pub mod TellLemmas
+pub mod TickLemmas

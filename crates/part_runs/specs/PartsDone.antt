@@ -1,14 +1,22 @@
 -- What a part of a script did, by what the script's caller knew before it and knows behind it.
-use Rattle.std.specs.Prelude.{◌≡◌, ◌≤◌, ◌+◌, ◌*◌, ◌^◌, ℕ, List, [], ◌∷◌, map}
+use Rattle.std.specs.Prelude.{◌≡◌, ◌≤◌, ◌+◌, ◌*◌, ◌^◌, ℕ, List, [], ◌∷◌, ◌++◌, map}
 use Rattle.history_book.specs.Seats.{HasEveryNumber}
 use Rattle.know.specs.Knowledge.{Knowledge}
+use Rattle.line_runs.specs.LineWrites.{ran_line}
+use Rattle.line_runs.specs.declared.lines.LineRan.{LineRan}
 use Rattle.mon_config.specs.declared.config.Config.{Config}
-use Rattle.run_theory.specs.Parts.{Part, lines_of}
-use Rattle.run_traces.specs.LineClaims.{HasWritten}
+use Rattle.mon_script.specs.Places.{mark_of}
+use Rattle.mon_script.specs.declared.forms.LineForm.{LineForm}
+use Rattle.mon_script.specs.declared.places.Mark.TheVariants as mark
+use Rattle.mon_script.specs.declared.script.ScriptLine.{ScriptLine}
+use Rattle.mon_value.specs.declared.histories.Histories.{Histories}
+use Rattle.run_theory.specs.Parts.{Alone, Part, lines_of}
+use Rattle.run_traces.specs.LineClaims.{AllRan, HasWritten, HaveGrown}
+use Rattle.run_traces.specs.LineDues.{IsDueBy, asked_part, stands_behind}
 use Rattle.run_traces.specs.LineTexts.{line_text}
 use Rattle.run_traces.specs.RanLines.{RanLine}
 use Rattle.run_traces.specs.declared.traces.LineTrace.{LineTrace}
-use Rattle.mon_script.specs.declared.script.ScriptLine.{ScriptLine}
+use Rattle.standing.specs.StandingStates.{StandingState}
 
 -- lines that ran beside each other, with what their files hold and what they came to
 abbrev pub ran_beside : List ScriptLine → List (List ℕ) → List LineTrace → List RanLine
@@ -17,6 +25,10 @@ ran_beside (line ∷ lines) [] traces = []
 ran_beside (line ∷ lines) (content ∷ contents) [] = []
 ran_beside (line ∷ lines) (content ∷ contents) (trace ∷ traces) =
     record { what = line.what; content = content; trace = trace } ∷ ran_beside lines contents traces
+
+-- a line may stand in a block
+abbrev pub ActsThere : ScriptLine → Type 0
+ActsThere line = mark_of line.what ≡ mark.Acts
 
 -- so many callers more can be split off: each takes no more than 2 ^ 32 + 1 numbers of the stock
 pub record CanSplit (count : ℕ) (know : Knowledge) : Type 0 where
@@ -29,3 +41,20 @@ pub record PartDid (config : Config) (part : Part RanLine) (texts : List (List �
   pub written : HasWritten config before.seen after.seen part
   pub prints : texts ≡ map (line_text config after.seen) (lines_of part)
   pub every : HasEveryNumber after.purse
+
+-- A part ran behind whatever ran before, where a tick counts as the queries that it asked; these are the texts of its
+-- lines, by whatever is seen later; and the script's caller keeps every number
+pub record PartTells (config : Config) (part : Part RanLine) (texts : List (List ℕ)) (before after : Knowledge)
+    : Type 0 where
+  pub grown : HaveGrown before.seen after.seen
+  pub ran : (parts : List (Part RanLine)) → AllRan config before.seen parts
+      → AllRan config after.seen (parts ++ asked_part part)
+  pub prints : (later : Histories) → HaveGrown after.seen later → map (line_text config later) (lines_of part) ≡ texts
+  pub every : HasEveryNumber after.purse
+
+-- A line alone did so, and did with the queries that stand what is to be done with them
+pub record AloneDid (config : Config) (what : LineForm) (content : List ℕ) (ran : LineRan) (before after : Knowledge)
+    (state stands : StandingState) : Type 0 where
+  pub tells : PartTells config (Alone (ran_line what content ran.trace)) (ran.text ∷ []) before after
+  pub due : IsDueBy config.schemas state what ran.trace
+  pub stood : stands ≡ stands_behind state what ran.trace

@@ -1,22 +1,55 @@
 // A line alone.
-ghost use Rattle.std.specs.Prelude.{◌≡◌, ◌∷◌, [], IfOk, OnOk};
+ghost use Rattle.std.specs.Prelude.{◌≡◌, ◌≤ℤ◌, pos, ◌∷◌, [], false, true, IfOk, OnOk};
 ghost use Rattle.history_book.specs.Histories.{AreFronts};
 ghost use Rattle.history_book.specs.Seats.{HasEveryNumber};
 ghost use Rattle.line_runs.specs.LineWrites.{ran_line};
-ghost use Rattle.part_runs.specs.PartsDone.{PartDid};
-ghost use Rattle.run_theory.specs.Parts.{Alone};
 ghost use Rattle.mon_script.specs.Lawful.{IsLawfulForm};
+ghost use Rattle.mon_script.specs.Places.{mark_of};
+ghost use Rattle.mon_script.specs.declared.places.Mark.TheVariants.{Acts, Lone};
+ghost use Rattle.part_runs.specs.PartsDone.{AloneDid, PartTells};
+ghost use Rattle.run_theory.specs.Parts.{Alone};
+ghost use Rattle.run_traces.specs.LineDues.{is_ticked};
+ghost use Rattle.run_traces.specs.RanLines.{acts_by};
 
+use crate::ticks::tick;
 use know::Names;
-use line_runs::{LineRan, run_line};
-use mon_script::LineForm;
+use line_runs::{LineRan, add_standing, run_line};
+use mon_script::{LineForm, Mark, mark_of};
 use mon_store::{Pass, Store};
-use mon_value::OutOfMemory;
+use mon_value::{OutOfMemory, Text};
+use run_traces::{runs_go_on, texts_stay};
+use standing::Standing;
 use std::alloc::Global;
 use std::sync::Wait;
 
-/// Runs a line under the script's caller. Where memory runs out, rows of a feed may have been written.
+/// Runs a line under the script's caller, which knows the queries that stand. Where memory runs out, rows of a feed may
+/// have been written, a leaf may have been switched or recovered, and a query may stand.
 pub fn run_alone<N: Names, R: Wait>(
+    rt: &R,
+    alloc: Global,
+    store: &Store<N>,
+    p: &mut Pass<N>,
+    standing: &mut Standing,
+    what: &LineForm,
+    content: &[u8],
+) -> Result<LineRan, OutOfMemory>
+    requires lawful { IsLawfulForm store.now.topology what.now }
+    requires acts { acts_by (mark_of what.now) ≡ true }
+    requires every { HasEveryNumber p.old.purse }
+    ensures ran { IfOk result (λ ran. AloneDid store.now what.now content.now ran p.old p.new standing.old standing.new) }
+    ensures stock { OnOk result (p.new.purse.stock ≡ p.old.purse.stock) }
+    ensures fronts { AreFronts p.old.seen p.new.seen }
+{
+    match mark_of(what) {
+        Mark::Acts => acting(rt, alloc, store, p, what, content),
+        Mark::Lone => lone(rt, alloc, store, p, standing, what, content),
+        Mark::Opens => unreachable!(),
+        Mark::Closes => unreachable!(),
+    }
+}
+
+// A line that may stand in a block.
+fn acting<N: Names, R: Wait>(
     rt: &R,
     alloc: Global,
     store: &Store<N>,
@@ -24,15 +57,85 @@ pub fn run_alone<N: Names, R: Wait>(
     what: &LineForm,
     content: &[u8],
 ) -> Result<LineRan, OutOfMemory>
-    requires lawful { IsLawfulForm what.now }
+    requires lawful { IsLawfulForm store.now.topology what.now }
+    requires acts { mark_of what.now ≡ Acts }
     requires every { HasEveryNumber p.old.purse }
-    ensures ran { IfOk result (λ ran. PartDid store.now (Alone (ran_line what.now content.now ran.trace))
+    ensures ran { IfOk result (λ ran. PartTells store.now (Alone (ran_line what.now content.now ran.trace))
         (ran.text ∷ []) p.old p.new) }
+    ensures plain { IfOk result (λ ran. is_ticked ran.trace ≡ false) }
     ensures stock { OnOk result (p.new.purse.stock ≡ p.old.purse.stock) }
     ensures fronts { AreFronts p.old.seen p.new.seen }
 {
+    runs_go_on();
+    texts_stay();
     p.is_sound();
     let ran = run_line(rt, alloc, store, p, what, content);
     p.is_sound();
     ran
+}
+
+// A line that may stand outside of blocks alone.
+fn lone<N: Names, R: Wait>(
+    rt: &R,
+    alloc: Global,
+    store: &Store<N>,
+    p: &mut Pass<N>,
+    standing: &mut Standing,
+    what: &LineForm,
+    content: &[u8],
+) -> Result<LineRan, OutOfMemory>
+    requires lawful { IsLawfulForm store.now.topology what.now }
+    requires lone { mark_of what.now ≡ Lone }
+    requires every { HasEveryNumber p.old.purse }
+    ensures ran { IfOk result (λ ran. AloneDid store.now what.now content.now ran p.old p.new standing.old standing.new) }
+    ensures stock { OnOk result (p.new.purse.stock ≡ p.old.purse.stock) }
+    ensures fronts { AreFronts p.old.seen p.new.seen }
+{
+    match what {
+        LineForm::Standing(name, period, text) => {
+            stand(alloc, store, p, standing, name, *period, text, content)
+        }
+        LineForm::Tick(moment) => tick(rt, alloc, store, p, standing, *moment, content),
+        LineForm::Feed(_) => unreachable!(),
+        LineForm::Query(_, _) => unreachable!(),
+        LineForm::Check(_, _) => unreachable!(),
+        LineForm::Explain(_, _) => unreachable!(),
+        LineForm::Down(_) => unreachable!(),
+        LineForm::Up(_) => unreachable!(),
+        LineForm::Recover(_, _) => unreachable!(),
+        LineForm::Together => unreachable!(),
+        LineForm::End => unreachable!(),
+    }
+}
+
+// A query is to stand.
+fn stand<N: Names>(
+    alloc: Global,
+    store: &Store<N>,
+    p: &mut Pass<N>,
+    standing: &mut Standing,
+    name: &Text,
+    period: i64,
+    text: &Text,
+    content: &[u8],
+) -> Result<LineRan, OutOfMemory>
+    requires period { pos 1 ≤ℤ period }
+    requires every { HasEveryNumber p.old.purse }
+    ensures ran { IfOk result (λ ran. AloneDid store.now (LineForm.Standing name.now period text.now) content.now ran
+        p.old p.new standing.old standing.new) }
+    ensures same { p.new ≡ p.old }
+{
+    runs_go_on();
+    texts_stay();
+    p.is_sound();
+    let config = store.config();
+    add_standing(
+        alloc,
+        &config.topology,
+        &config.schemas,
+        standing,
+        name,
+        period,
+        text,
+    )
 }

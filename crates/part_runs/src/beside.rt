@@ -1,12 +1,13 @@
 // The lines of a block.
-ghost use Rattle.std.specs.Prelude.{◌≡◌, ◌≤◌, ◌+◌, ℕ, [], length, map, vec_capacity, IfOk, OnOk};
+ghost use Rattle.std.specs.Prelude.{◌≡◌, false, ◌≤◌, ◌+◌, ℕ, [], length, map, vec_capacity, IfOk, OnOk};
 ghost use Rattle.std.specs.List.{AllByRecursion};
 ghost use Rattle.history_book.specs.Histories.{AreFronts};
 ghost use Rattle.history_book.specs.Seats.{HasEveryNumber};
 ghost use Rattle.line_runs.specs.declared.lines.LineRan.{LineRan as Ran};
 ghost use Rattle.part_runs.specs.Courses.{BlockRan};
-ghost use Rattle.part_runs.specs.PartsDone.{CanSplit, PartDid, ran_beside};
+ghost use Rattle.part_runs.specs.PartsDone.{ActsThere, CanSplit, PartTells, ran_beside};
 ghost use Rattle.run_theory.specs.Parts.{Beside};
+ghost use Rattle.run_traces.specs.LineDues.{is_ticked};
 ghost use Rattle.mon_script.specs.Lawful.{IsLawfulLine};
 
 use crate::courses::{begin, meet_all, run_all};
@@ -16,7 +17,7 @@ use line_runs::LineRan;
 use mon_script::{MOST_LINES_OF_BLOCK, ScriptLine};
 use mon_store::{Gate, Pass, Store};
 use mon_value::{ListOf, OutOfMemory};
-use run_traces::{finds_stay, texts_stay};
+use run_traces::{finds_stay, runs_go_on, texts_stay};
 use std::alloc::{AllocError, Global};
 use std::sync::Wait;
 use std::thread::Threads;
@@ -35,18 +36,21 @@ pub fn run_beside<N: Names + Send + Sync, R: Threads + Wait + Sync, G: Gate + Sy
     lines: &[ScriptLine],
     contents: &[ListOf<u8>],
 ) -> Result<LineRans, OutOfMemory>
-    requires lawful { AllByRecursion IsLawfulLine lines.now }
+    requires lawful { AllByRecursion (IsLawfulLine store.now.topology) lines.now }
+    requires acts { AllByRecursion ActsThere lines.now }
     requires few { length lines.now ≤ MOST_LINES_OF_BLOCK }
     requires contents { length contents.now ≡ length lines.now }
     requires every { HasEveryNumber p.old.purse }
     requires stock { CanSplit (length lines.now) p.old }
-    ensures ran { IfOk result (λ rans. PartDid store.now
+    ensures ran { IfOk result (λ rans. PartTells store.now
         (Beside (ran_beside lines.now contents.now (map (λ (ran : Ran). ran.trace) rans)))
         (map (λ (ran : Ran). ran.text) rans) p.old p.new) }
+    ensures plain { IfOk result (AllByRecursion (λ (ran : Ran). is_ticked ran.trace ≡ false)) }
     ensures each { IfOk result (λ rans. length rans ≡ length lines.now) }
     ensures stock { OnOk result ((n : ℕ) → CanSplit (length lines.now + n) p.old → CanSplit n p.new) }
     ensures fronts { AreFronts p.old.seen p.new.seen }
 {
+    runs_go_on();
     finds_stay();
     texts_stay();
     numbers_are_counted();
@@ -73,7 +77,8 @@ fn run_courses<N: Names + Send + Sync, R: Threads + Wait + Sync, G: Gate + Sync>
     contents: &[ListOf<u8>],
     rans: &mut Vec<LineRan>,
 ) -> Result<(), OutOfMemory>
-    requires lawful { AllByRecursion IsLawfulLine lines.now }
+    requires lawful { AllByRecursion (IsLawfulLine store.now.topology) lines.now }
+    requires acts { AllByRecursion ActsThere lines.now }
     requires contents { length contents.now ≡ length lines.now }
     requires stock { CanSplit (length lines.now) p.old }
     requires none { rans.old.items ≡ [] }

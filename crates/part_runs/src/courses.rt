@@ -4,7 +4,7 @@ ghost use Rattle.std.specs.List.{AllByRecursion};
 ghost use Rattle.history_book.specs.Histories.{AreFronts};
 ghost use Rattle.know.specs.Knowledge.{after_numbering, meeting, numbered_knowledge};
 ghost use Rattle.part_runs.specs.Courses.{EachHasRun, HasRun, HasRunAt, HaveMet, after_begun, begun, ended_in};
-ghost use Rattle.part_runs.specs.PartsDone.{CanSplit};
+ghost use Rattle.part_runs.specs.PartsDone.{ActsThere, CanSplit};
 ghost use Rattle.mon_script.specs.Lawful.{IsLawfulForm, IsLawfulLine};
 
 use know::Names;
@@ -92,7 +92,8 @@ pub(crate) fn run_all<N: Names + Send + Sync, R: Threads + Wait + Sync, G: Gate 
     contents: &[ListOf<u8>],
     courses: &mut Vec<Course<N>>,
 )
-    requires lawful { AllByRecursion IsLawfulLine lines.now }
+    requires lawful { AllByRecursion (IsLawfulLine store.now.topology) lines.now }
+    requires acts { AllByRecursion ActsThere lines.now }
     requires contents { length contents.now ≡ length lines.now }
     requires count { length courses.old.items ≡ length lines.now }
     ensures count { length courses.new.items ≡ length lines.now }
@@ -119,14 +120,16 @@ fn run_each<N: Names + Send + Sync, R: Threads + Wait + Sync, G: Gate + Sync>(
     contents: &[ListOf<u8>],
     courses: &mut [Course<N>],
 )
-    requires lawful { AllByRecursion IsLawfulLine lines.now }
+    requires lawful { AllByRecursion (IsLawfulLine store.now.topology) lines.now }
+    requires acts { AllByRecursion ActsThere lines.now }
     requires contents { length contents.now ≡ length lines.now }
     requires count { length courses.old ≡ length lines.now }
     ensures count { length courses.new ≡ length courses.old }
     ensures ran { EachHasRun N.setting store.now lines.now contents.now courses.old courses.new }
 {
     let ran = |place: usize, course: &mut Course<N>|
-        requires lawful { AllByRecursion IsLawfulLine lines.now }
+        requires lawful { AllByRecursion (IsLawfulLine store.now.topology) lines.now }
+        requires acts { AllByRecursion ActsThere lines.now }
         requires line { place < length lines.now }
         requires content { place < length contents.now }
         ensures ran { HasRunAt N.setting store.entry.now lines.entry.now contents.entry.now place course.old course.new }
@@ -147,7 +150,8 @@ fn run_at<N: Names, R: Wait, G: Gate>(
     place: usize,
     course: &mut Course<N>,
 )
-    requires lawful { AllByRecursion IsLawfulLine lines.now }
+    requires lawful { AllByRecursion (IsLawfulLine store.now.topology) lines.now }
+    requires acts { AllByRecursion ActsThere lines.now }
     requires line { place < length lines.now }
     requires content { place < length contents.now }
     ensures ran { HasRunAt N.setting store.now lines.now contents.now place course.old course.new }
@@ -173,7 +177,8 @@ fn run_course<N: Names, R: Wait, G: Gate>(
     content: &[u8],
     course: &mut Course<N>,
 )
-    requires lawful { IsLawfulForm line.now.what }
+    requires lawful { IsLawfulForm store.now.topology line.now.what }
+    requires acts { ActsThere line.now }
     ensures ran { HasRun N.setting store.now line.now.what content.now course.old course.new }
 {
     gate.arrive(line.number);

@@ -4,6 +4,7 @@
 mod alone;
 mod beside;
 mod courses;
+mod ticks;
 
 pub use alone::run_alone;
 pub use beside::{LineRans, run_beside};

@@ -18,7 +18,7 @@ module _ {R : Type 0} where
   all_as P Q f (x ∷ xs) p = (f x p.0, all_as P Q f xs p.1)
 
 module _ {W H E R : Type 0} (content : W → H → List E) (under : E → ℕ)
-    (Makes : ℕ → R → (H → List E) → Type 0) (Finds : W → (H → ℕ) → (H → ℕ) → R → Type 0) where
+    (Makes : ℕ → R → (H → List E) → Type 0) (Finds : W → (H → ℕ) → (H → ℕ) → ℕ → R → Type 0) where
   pub parts_below : (whole : W) (from to : H → ℕ) (parts : List (Part R))
       → PartsRan content under Makes Finds whole from to parts → AreBelow from to
   parts_below whole from to [] ran = λ h. let e : from h ≡ to h = ap (λ f. f h) ran in omega arith
@@ -140,7 +140,7 @@ module _ {W H E R : Type 0} (content : W → H → List E) (under : E → ℕ)
     )
 
 module _ {W H E R : Type 0} (content : W → H → List E) (under : E → ℕ)
-    (Makes : ℕ → R → (H → List E) → Type 0) (Finds : W → (H → ℕ) → (H → ℕ) → R → Type 0)
+    (Makes : ℕ → R → (H → List E) → Type 0) (Finds : W → (H → ℕ) → (H → ℕ) → ℕ → R → Type 0)
     (grown : W → W → Type 0) (grows : GrowAlong content grown Finds) where
   -- ---- growth
 
@@ -153,7 +153,7 @@ module _ {W H E R : Type 0} (content : W → H → List E) (under : E → ℕ)
     exact = λ h. ap (filter (λ e. nat_eq (under e) number))
         (sym (between_stays (from h) (to h) (content whole h) (content more h) (within h)
         (grows.goes whole more goes h))) ∙ ran.exact h;
-    found = grows.finds whole more from to line within goes ran.found;
+    found = grows.finds whole more from to number line within goes ran.found;
   }
 
   pub each_grows : (whole more : W) (from to : H → ℕ) (numbers : List ℕ) (lines : List R) → IsWithin content to whole

@@ -54,7 +54,7 @@ module _ {X : Type 0} where
       all_between P from to xs k x all there (omega arith) (omega arith)
 
 module _ {W H E R : Type 0} (content : W → H → List E) (under : E → ℕ)
-    (Makes : ℕ → R → (H → List E) → Type 0) (Finds : W → (H → ℕ) → (H → ℕ) → R → Type 0)
+    (Makes : ℕ → R → (H → List E) → Type 0) (Finds : W → (H → ℕ) → (H → ℕ) → ℕ → R → Type 0)
     (is_of : R → H → ℕ → E → Bool) (whole : W)
     (theirs : AreTheirs content under Makes Finds is_of whole) where
   -- what stands under one of the numbers is of the line of that number

@@ -10,7 +10,7 @@ use Rattle.run_theory.proofs.Marks.{each_from}
 use Rattle.run_theory.proofs.Shares.{not_later, part_alone}
 
 module _ {W H E R : Type 0} (content : W → H → List E) (under : E → ℕ)
-    (Makes : ℕ → R → (H → List E) → Type 0) (Finds : W → (H → ℕ) → (H → ℕ) → R → Type 0)
+    (Makes : ℕ → R → (H → List E) → Type 0) (Finds : W → (H → ℕ) → (H → ℕ) → ℕ → R → Type 0)
     (is_of : R → H → ℕ → E → Bool) (whole : W)
     (placed : ArePlaced content under Makes Finds is_of whole) where
   between_marks : (from to : H → ℕ) (number : ℕ) (line : R) (h : H) (k : ℕ) (e : E)
@@ -65,7 +65,7 @@ module _ {W H E R : Type 0} (content : W → H → List E) (under : E → ℕ)
       within tt ran
 
 module _ {W H E R : Type 0} (content : W → H → List E) (under : E → ℕ)
-    (Makes : ℕ → R → (H → List E) → Type 0) (Finds : W → (H → ℕ) → (H → ℕ) → R → Type 0)
+    (Makes : ℕ → R → (H → List E) → Type 0) (Finds : W → (H → ℕ) → (H → ℕ) → ℕ → R → Type 0)
     (is_of : R → H → ℕ → E → Bool) (whole : W)
     (placed : ArePlaced content under Makes Finds is_of whole) where
   -- nor has one of those that ran beside it

@@ -9,7 +9,7 @@ use Rattle.run_theory.proofs.Placed.{each_alone, each_in_place, parts_alone}
 use Rattle.run_theory.proofs.Stands.{all_there, there_placed}
 
 module _ {W H E R : Type 0} (content : W → H → List E) (under : E → ℕ)
-    (Makes : ℕ → R → (H → List E) → Type 0) (Finds : W → (H → ℕ) → (H → ℕ) → R → Type 0)
+    (Makes : ℕ → R → (H → List E) → Type 0) (Finds : W → (H → ℕ) → (H → ℕ) → ℕ → R → Type 0)
     (is_of : R → H → ℕ → E → Bool) (whole : W) (begin end : H → ℕ)
     (mine : AreUnder content under Makes Finds is_of whole)
     (distinct : AreDistinct content under Makes Finds is_of whole)

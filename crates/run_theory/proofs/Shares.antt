@@ -20,7 +20,7 @@ none_by true never = absurd (never refl)
 none_by false never = refl
 
 module _ {W H E R : Type 0} (content : W → H → List E) (under : E → ℕ)
-    (Makes : ℕ → R → (H → List E) → Type 0) (Finds : W → (H → ℕ) → (H → ℕ) → R → Type 0)
+    (Makes : ℕ → R → (H → List E) → Type 0) (Finds : W → (H → ℕ) → (H → ℕ) → ℕ → R → Type 0)
     (is_of : R → H → ℕ → E → Bool) (whole : W)
     (placed : (from to : H → ℕ) (number : ℕ) (line : R) (h : H) (k : ℕ) (e : E)
     → Ran content under Makes Finds whole from to number line → slice_get (content whole h) k ≡ Some e

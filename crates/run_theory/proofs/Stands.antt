@@ -68,11 +68,11 @@ either_by true r is here there = here refl
 either_by false r is here there = there is
 
 module _ {W H E R : Type 0} (content : W → H → List E) (under : E → ℕ)
-    (Makes : ℕ → R → (H → List E) → Type 0) (Finds : W → (H → ℕ) → (H → ℕ) → R → Type 0) (whole : W) where
+    (Makes : ℕ → R → (H → List E) → Type 0) (Finds : W → (H → ℕ) → (H → ℕ) → ℕ → R → Type 0) (whole : W) where
   -- ---- who made an entry
 
   -- a line ran between two marks that made an entry
-  record Owner (from to : H → ℕ) (h : H) (e : E) : Type 0 where
+  record Owner (from to : H → ℕ) (h : H) (k : ℕ) (e : E) : Type 0 where
     pub line : R
     pub first : H → ℕ
     pub last : H → ℕ
@@ -81,10 +81,13 @@ module _ {W H E R : Type 0} (content : W → H → List E) (under : E → ℕ)
     pub there : Stands (ran.made h) e
     pub low : AreBelow from first
     pub high : AreBelow last to
+    pub since : first h ≤ k
+    pub until : k < last h
 
-  owned_wider : (from to less more : H → ℕ) (h : H) (e : E) → AreBelow less from → AreBelow to more → Owner from to h e
-      → Owner less more h e
-  owned_wider from to less more h e low high owner = record {
+  owned_wider : (from to less more : H → ℕ) (h : H) (k : ℕ) (e : E) → AreBelow less from → AreBelow to more
+      → Owner from to h k e
+      → Owner less more h k e
+  owned_wider from to less more h k e low high owner = record {
     line = owner.line;
     first = owner.first;
     last = owner.last;
@@ -93,11 +96,13 @@ module _ {W H E R : Type 0} (content : W → H → List E) (under : E → ℕ)
     there = owner.there;
     low = λ g. let a = low g in let b = owner.low g in omega arith;
     high = λ g. let a = high g in let b = owner.high g in omega arith;
+    since = owner.since;
+    until = owner.until;
   }
 
   owned_by : (from to : H → ℕ) (number : ℕ) (line : R) (h : H) (k : ℕ) (e : E)
       → Ran content under Makes Finds whole from to number line → slice_get (content whole h) k ≡ Some e → from h ≤ k
-      → k < to h → under e ≡ number → Owner from to h e
+      → k < to h → under e ≡ number → Owner from to h k e
   owned_by from to number line h k e ran there low high mine =
       let at = between_stands (from h) (to h) (content whole h) k e there low high in
       let kept = kept_stands (λ x. nat_eq (under x) number) (between (from h) (to h) (content whole h)) at.0 e at.1
@@ -111,11 +116,13 @@ module _ {W H E R : Type 0} (content : W → H → List E) (under : E → ℕ)
         there = subst (λ w. Stands w e) (ran.exact h) kept;
         low = λ g. omega arith;
         high = λ g. omega arith;
+        since = low;
+        until = high;
       }
 
   owner_in : (from to : H → ℕ) (numbers : List ℕ) (lines : List R) (h : H) (k : ℕ) (e : E)
       → EachRan content under Makes Finds whole from to numbers lines → list_any (nat_eq (under e)) numbers ≡ true
-      → slice_get (content whole h) k ≡ Some e → from h ≤ k → k < to h → Owner from to h e
+      → slice_get (content whole h) k ≡ Some e → from h ≤ k → k < to h → Owner from to h k e
   owner_in from to [] lines h k e each has there low high = absurd (false≢true has)
   owner_in from to (number ∷ numbers) [] h k e each has there low high = absurd each
   owner_in from to (number ∷ numbers) (line ∷ lines) h k e each has there low high =
@@ -125,7 +132,7 @@ module _ {W H E R : Type 0} (content : W → H → List E) (under : E → ℕ)
 
   owner_of_part : (from to : H → ℕ) (part : Part R) (h : H) (k : ℕ) (e : E)
       → PartRan content under Makes Finds whole from to part → slice_get (content whole h) k ≡ Some e → from h ≤ k
-      → k < to h → Owner from to h e
+      → k < to h → Owner from to h k e
   owner_of_part from to part h k e ran there low high =
       owner_in from to ran.numbers (lines_of part) h k e ran.each
       (all_between (λ x. list_any (nat_eq (under x)) ran.numbers ≡ true) (from h) (to h) (content whole h) k e
@@ -139,15 +146,15 @@ module _ {W H E R : Type 0} (content : W → H → List E) (under : E → ℕ)
   -- some line made what stands where the parts ran
   owner_of : (from to : H → ℕ) (parts : List (Part R)) (h : H) (k : ℕ) (e : E)
       → PartsRan content under Makes Finds whole from to parts → slice_get (content whole h) k ≡ Some e → from h ≤ k
-      → k < to h → Owner from to h e
+      → k < to h → Owner from to h k e
   owner_of from to [] h k e ran there low high =
       let same : from h ≡ to h = ap (λ f. f h) ran in absurd (omega arith)
   owner_of from to (part ∷ parts) h k e ran there low high =
       let below = parts_below content under Makes Finds whole ran.0 to parts ran.3 in
       by_place k (ran.0 h) (cases_lt k (ran.0 h))
-      (λ less. owned_wider from ran.0 from to h e (λ g. omega arith) below
+      (λ less. owned_wider from ran.0 from to h k e (λ g. omega arith) below
       (owner_of_part from ran.0 part h k e ran.2 there low less))
-      (λ more. owned_wider ran.0 to from to h e ran.1 (λ g. omega arith)
+      (λ more. owned_wider ran.0 to from to h k e ran.1 (λ g. omega arith)
       (owner_of ran.0 to parts h k e ran.3 there more high))
 
   -- ---- entries in their places
@@ -156,7 +163,7 @@ module _ {W H E R : Type 0} (content : W → H → List E) (under : E → ℕ)
       (distinct : AreDistinct content under Makes Finds is_of whole)
       (first : AreNotFirst content under Makes Finds is_of whole begin)
       (all : (h : H) → length (content whole h) ≤ end h) where
-    abbrev There : W → (H → ℕ) → (H → ℕ) → R → Type 0
+    abbrev There : W → (H → ℕ) → (H → ℕ) → ℕ → R → Type 0
     There = FoundThere content is_of Finds
 
     in_list : (xs : List E) (k : ℕ) (e : E) → slice_get xs k ≡ Some e → k < length xs
@@ -172,7 +179,7 @@ module _ {W H E R : Type 0} (content : W → H → List E) (under : E → ℕ)
       not_before h k e there is low high =
           let owner = owner_of begin from front h k e before there low high in
           (distinct owner.first owner.last from to owner.number number owner.line line h owner.there.0 k e owner.ran ran
-          owner.high).0 owner.there.1 is
+          owner.high there).0 owner.there.1 owner.until is
 
       not_behind : (h : H) (k : ℕ) (e : E) → slice_get (content whole h) k ≡ Some e → is_of line h k e ≡ true
           → to h ≤ k → ⊥
@@ -180,13 +187,14 @@ module _ {W H E R : Type 0} (content : W → H → List E) (under : E → ℕ)
           let within = in_list (content whole h) k e there in let most = all h in
           let owner = owner_of to end parts h k e behind there low (omega arith) in
           (distinct from to owner.first owner.last number owner.number line owner.line h owner.there.0 k e ran owner.ran
-          owner.low).1 owner.there.1 is
+          owner.low there).1 owner.there.1 owner.since is
 
       at_least : (h : H) (k : ℕ) (e : E) → slice_get (content whole h) k ≡ Some e → is_of line h k e ≡ true
           → from h ≤ k
       at_least h k e there is = by_place k (from h) (cases_lt k (from h))
           (λ less. by_place k (begin h) (cases_lt k (begin h))
-          (λ none. absurd (first line h k e there none is))
+          (λ none. absurd (first from to number line h k e ran
+          (parts_below content under Makes Finds whole begin from front before) there none is))
           (λ more. absurd (not_before h k e there is more less)))
           (λ more. more)
 
@@ -247,4 +255,4 @@ module _ {W H E R : Type 0} (content : W → H → List E) (under : E → ℕ)
           exact = ran.exact;
           found = ran.found.0;
         } in
-        (at.0, at.1, mine from to number line h k e plain is)
+        (at.0, at.1, mine from to number line h k e plain there at.0 at.1 is)

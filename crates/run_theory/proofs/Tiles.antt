@@ -39,7 +39,7 @@ not_among : (n m : ℕ) (numbers : List ℕ) → list_any (nat_eq m) numbers ≡
 not_among n m numbers has none = not_by n m numbers (nat_eq m n) refl has none
 
 module _ {W H E R X : Type 0} (content : W → H → List E) (under : E → ℕ)
-    (Makes : ℕ → R → (H → List E) → Type 0) (Finds : W → (H → ℕ) → (H → ℕ) → R → Type 0) (told : E → List X)
+    (Makes : ℕ → R → (H → List E) → Type 0) (Finds : W → (H → ℕ) → (H → ℕ) → ℕ → R → Type 0) (told : E → List X)
     (tells : ℕ → R → H → List X)
     (own : (number : ℕ) (line : R) (made : H → List E) (h : H) → Makes number line made
     → flat_map told (made h) ≡ tells number line h)

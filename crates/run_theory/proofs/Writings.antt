@@ -9,7 +9,7 @@ use Rattle.run_theory.proofs.Lists.{prefix_longer}
 use Rattle.run_theory.proofs.Marks.{parts_grow, parts_push}
 
 module _ {W H E R : Type 0} (content : W → H → List E) (under : E → ℕ)
-    (Makes : ℕ → R → (H → List E) → Type 0) (Finds : W → (H → ℕ) → (H → ℕ) → R → Type 0)
+    (Makes : ℕ → R → (H → List E) → Type 0) (Finds : W → (H → ℕ) → (H → ℕ) → ℕ → R → Type 0)
     (grown : W → W → Type 0) (grows : GrowAlong content grown Finds) where
   each_wrote : (before after : W) (numbers : List ℕ) (lines : List R) → GoesOn content before after
       → EachWrote content under Makes Finds grown before after numbers lines

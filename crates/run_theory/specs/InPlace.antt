@@ -14,7 +14,7 @@ module _ {H E R : Type 0} (is_of : R → H → ℕ → E → Bool) (whole : H �
   high lines h = first_place (λ k e. list_any (λ line. is_of line h k e) lines) (whole h)
 
 module _ {W H E R : Type 0} (content : W → H → List E) (under : E → ℕ)
-    (Makes : ℕ → R → (H → List E) → Type 0) (Finds : W → (H → ℕ) → (H → ℕ) → R → Type 0)
+    (Makes : ℕ → R → (H → List E) → Type 0) (Finds : W → (H → ℕ) → (H → ℕ) → ℕ → R → Type 0)
     (is_of : R → H → ℕ → E → Bool) (whole : W) where
   -- an entry that is a line's stands where the line ran, under its number
   abbrev pub ArePlaced : Type 0
@@ -45,29 +45,33 @@ module _ {W H E R : Type 0} (content : W → H → List E) (under : E → ℕ)
     pub before : AllByRecursion (RanBefore content under Makes Finds whole from) seen
     pub behind : AllByRecursion (RanBehind content under Makes Finds whole to) later
 
-  -- ---- which entries may be told to be a line's
+  -- ---- which entries may be told to be a line's, by themselves and by their places
 
-  -- they are under its number
+  -- those where it ran are under its number
   abbrev pub AreUnder : Type 0
   AreUnder = (from to : H → ℕ) (number : ℕ) (line : R) (h : H) (k : ℕ) (e : E)
-      → Ran content under Makes Finds whole from to number line → is_of line h k e ≡ true → under e ≡ number
+      → Ran content under Makes Finds whole from to number line → slice_get (content whole h) k ≡ Some e
+      → from h ≤ k → k < to h
+      → is_of line h k e ≡ true → under e ≡ number
 
-  -- none of them was made by a line that ran before it, or behind it
+  -- none was made by another line where that one ran: neither by one that ran before it nor by one behind it
   abbrev pub AreDistinct : Type 0
   AreDistinct = (a b c d : H → ℕ) (n m : ℕ) (sooner later : R) (h : H) (j k : ℕ) (e : E)
       (one : Ran content under Makes Finds whole a b n sooner) (other : Ran content under Makes Finds whole c d m later)
-      → AreBelow b c
-      → (slice_get (one.made h) j ≡ Some e → is_of later h k e ≡ true → ⊥)
-      × (slice_get (other.made h) j ≡ Some e → is_of sooner h k e ≡ true → ⊥)
+      → AreBelow b c → slice_get (content whole h) k ≡ Some e
+      → (slice_get (one.made h) j ≡ Some e → k < b h → is_of later h k e ≡ true → ⊥)
+      × (slice_get (other.made h) j ≡ Some e → c h ≤ k → is_of sooner h k e ≡ true → ⊥)
 
   -- and none stands before the first line
   abbrev pub AreNotFirst : (H → ℕ) → Type 0
-  AreNotFirst begin = (line : R) (h : H) (k : ℕ) (e : E) → slice_get (content whole h) k ≡ Some e → k < begin h
+  AreNotFirst begin = (from to : H → ℕ) (number : ℕ) (line : R) (h : H) (k : ℕ) (e : E)
+      → Ran content under Makes Finds whole from to number line → AreBelow begin from
+      → slice_get (content whole h) k ≡ Some e → k < begin h
       → is_of line h k e ≡ true → ⊥
 
 -- What a line found, and that each entry that is its own stands where it ran
 abbrev pub FoundThere : {W H E R : Type 0} → (W → H → List E) → (R → H → ℕ → E → Bool)
-    → (W → (H → ℕ) → (H → ℕ) → R → Type 0) → W → (H → ℕ) → (H → ℕ) → R → Type 0
-FoundThere {W} {H} {E} {R} content is_of Finds whole from to line = Finds whole from to line
+    → (W → (H → ℕ) → (H → ℕ) → ℕ → R → Type 0) → W → (H → ℕ) → (H → ℕ) → ℕ → R → Type 0
+FoundThere {W} {H} {E} {R} content is_of Finds whole from to number line = Finds whole from to number line
     × ((h : H) (k : ℕ) (e : E) → slice_get (content whole h) k ≡ Some e → is_of line h k e ≡ true
     → (from h ≤ k) × (k < to h))

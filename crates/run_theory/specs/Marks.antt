@@ -30,20 +30,21 @@ AreBelow {H} from to = (h : H) → from h ≤ to h
 
 -- as histories grow each goes on, and what was found stays found
 pub record GrowAlong {W H E R : Type 0} (content : W → H → List E) (grown : W → W → Type 0)
-    (Finds : W → (H → ℕ) → (H → ℕ) → R → Type 0) : Type 0 where
+    (Finds : W → (H → ℕ) → (H → ℕ) → ℕ → R → Type 0) : Type 0 where
   pub goes : (whole more : W) → grown whole more → GoesOn content whole more
-  pub finds : (whole more : W) (from to : H → ℕ) (line : R) → IsWithin content to whole → grown whole more
-      → Finds whole from to line → Finds more from to line
+  pub finds : (whole more : W) (from to : H → ℕ) (number : ℕ) (line : R) → IsWithin content to whole
+      → grown whole more
+      → Finds whole from to number line → Finds more from to number line
 
 module _ {W H E R : Type 0} (content : W → H → List E) (under : E → ℕ)
-    (Makes : ℕ → R → (H → List E) → Type 0) (Finds : W → (H → ℕ) → (H → ℕ) → R → Type 0) where
+    (Makes : ℕ → R → (H → List E) → Type 0) (Finds : W → (H → ℕ) → (H → ℕ) → ℕ → R → Type 0) where
   -- A line ran under a number between two lengths of each history: there it has just these entries under the number,
   -- and what it found stands there
   pub record Ran (whole : W) (from to : H → ℕ) (number : ℕ) (line : R) : Type 0 where
     pub made : H → List E
     pub makes : Makes number line made
     pub exact : (h : H) → filter (λ e. nat_eq (under e) number) (between (from h) (to h) (content whole h)) ≡ made h
-    pub found : Finds whole from to line
+    pub found : Finds whole from to number line
 
   abbrev pub EachRan : W → (H → ℕ) → (H → ℕ) → List ℕ → List R → Type 0
   EachRan whole from to [] [] = ⊤

@@ -6,7 +6,7 @@ use Rattle.run_theory.specs.Marks.{AreApart}
 use Rattle.run_theory.specs.Parts.{Part, lines_of}
 
 module _ {W H E R : Type 0} (content : W → H → List E) (under : E → ℕ)
-    (Makes : ℕ → R → (H → List E) → Type 0) (Finds : W → (H → ℕ) → (H → ℕ) → R → Type 0) (grown : W → W → Type 0)
+    (Makes : ℕ → R → (H → List E) → Type 0) (Finds : W → (H → ℕ) → (H → ℕ) → ℕ → R → Type 0) (grown : W → W → Type 0)
     (before after : W) where
   abbrev pub seen_under : ℕ → List E → List E
   seen_under n = filter (λ e. nat_eq (under e) n)
@@ -18,7 +18,7 @@ module _ {W H E R : Type 0} (content : W → H → List E) (under : E → ℕ)
     pub makes : Makes number line made
     pub first : (h : H) → seen_under number (content before h) ≡ own h
     pub then : (h : H) → seen_under number (content after h) ≡ own h ++ made h
-    pub found : Finds after (λ h. length (content before h)) (λ h. length (content after h)) line
+    pub found : Finds after (λ h. length (content before h)) (λ h. length (content after h)) number line
 
   abbrev pub EachWrote : List ℕ → List R → Type 0
   EachWrote [] [] = ⊤

@@ -25,6 +25,6 @@ pub trait Lines {
     /// What a line under a number makes in each history.
     ghost makes: { ℕ → Self.Line → (Self.History → List Self.Entry) → Type 0 };
 
-    /// What a line found in histories, from one length of each to another.
-    ghost finds: { Self.Seen → (Self.History → ℕ) → (Self.History → ℕ) → Self.Line → Type 0 };
+    /// What a line under a number found in histories, from one length of each to another.
+    ghost finds: { Self.Seen → (Self.History → ℕ) → (Self.History → ℕ) → ℕ → Self.Line → Type 0 };
 }

@@ -3,7 +3,7 @@ use Rattle.std.proofs.Common.{◌≡◌, ℕ, zero, suc, ◌+◌, ◌<◌, ◌�
 use Rattle.std.proofs.Common.{[], ◌∷◌, ◌++◌, length, take, drop, slice_get, Some, refl, ap, ◌∙◌, arith}
 use Rattle.std.proofs.Common.{subst, sym}
 use Rattle.std.specs.Prelude.{ℤ}
-use Rattle.std.specs.List.{AllByRecursion, list_any}
+use Rattle.std.specs.List.{AllByRecursion, count_by, list_any}
 use Rattle.std.proofs.lemmas.Bool.{false≢true}
 use Rattle.std.proofs.lemmas.List.{take_all}
 use Rattle.history_book.specs.Histories.{book_entry_pass, entries}
@@ -18,10 +18,12 @@ use Rattle.mon_points.specs.declared.records.RowRead.TheVariants as read
 use Rattle.mon_topo.specs.RangeHistories.{serving}
 use Rattle.mon_topo.specs.Serving.{is_avoided}
 use Rattle.mon_value.specs.Histories.{leaf_history, range_history}
+use Rattle.mon_value.specs.LeafHistories.{is_down, is_switch}
 use Rattle.mon_value.specs.declared.histories.Entry.TheVariants as entry
 use Rattle.mon_value.specs.declared.histories.Histories.{Histories}
 use Rattle.mon_value.specs.declared.histories.RangeEntry.TheVariants as range_entry
 use Rattle.mon_value.specs.declared.positions.FoundDown.{FoundDown}
+use Rattle.mon_value.specs.declared.positions.Leaf.{Leaf}
 use Rattle.mon_value.specs.declared.positions.Range.{Range}
 use Rattle.mon_value.specs.declared.rows.Row.{Row}
 use Rattle.mql_types.specs.Loads.{load}
@@ -34,8 +36,9 @@ use Rattle.range_cell.specs.declared.answers.WriteFault.TheVariants as unwritten
 use Rattle.run_theory.specs.InPlace as theory
 use Rattle.run_theory.specs.Marks.{RanBefore, RanBehind}
 use Rattle.run_theory.proofs.Lists.{first_place_behind, last_end_within}
-use Rattle.run_traces.specs.LineCauses.{HasCause, HasNoneUp, HasRowCause, IsCaused, IsRefusedByRange}
-use Rattle.run_traces.specs.LineCauses.{IsUnwritten, LineIsCaused}
+use Rattle.run_traces.specs.LineCauses.{HasCause, HasNoSource, HasNoTarget, HasNoneUp, HasRowCause, HasSwitchedEnough}
+use Rattle.run_traces.specs.LineCauses.{IsCaused, IsDenied, IsOverLimit, IsRefusedByRange, IsUnwritten, LineIsCaused}
+use Rattle.run_traces.specs.LineCauses.{WasAlready}
 use Rattle.run_traces.specs.LineCauses.{RowHasCause, RowsHaveCauses, fed, rows_before}
 use Rattle.run_traces.specs.LineClaims.{HasFound, Makes, RowFound, RowsFound, marked}
 use Rattle.run_traces.specs.LinePlaces.{first_length, high, highs, is_entry_of, is_fed, is_row, is_traced, low, lows}
@@ -48,7 +51,11 @@ use Rattle.run_traces.specs.declared.traces.LineTrace.TheVariants as came
 use Rattle.run_traces.specs.declared.traces.RowRefusal.{RowRefusal}
 use Rattle.run_traces.specs.declared.traces.RowRefused.{RowRefused}
 use Rattle.run_traces.specs.declared.traces.RowRefused.TheVariants as refused
+use Rattle.mon_script.specs.declared.forms.LineForm.{LineForm}
+use Rattle.write_core.specs.Openings.{denial_of}
 use Rattle.write_core.specs.RangeAnswers.{refusal}
+use Rattle.write_core.specs.declared.copies.Denial.{Denial}
+use Rattle.write_core.specs.declared.copies.Denial.TheVariants as denial
 use Rattle.write_core.specs.declared.refusals.Refused.{Refused}
 use Rattle.write_core.specs.declared.refusals.Refused.TheVariants as ranged
 use Rattle.run_traces.proofs.ListFacts.{all_as, all_at, any_at}
@@ -160,12 +167,10 @@ module _ (widen : (typed : TypedTree) (moment : ℤ) (from to earlier later : Le
           (front_stays range none.found none.between) none.all_down;
     }
 
-    pub line_wider : (text : List ℕ) (moment : ℤ) (fault : LineFault) → HasCause config seen from to text moment fault
-        → HasCause config more first last text moment fault
-    line_wider text moment (why.Parse parse) cause = cause
-    line_wider text moment (why.Typing typing) cause = cause
-    line_wider text moment (why.NoReplica range founds) cause = none_wider range founds cause
-    line_wider text moment (why.StepLimit limit trace) cause = record {
+    over_wider : (text : List ℕ) (moment : ℤ) (limit : ℕ) (trace : Trace)
+        → IsOverLimit config seen from to text moment limit trace
+        → IsOverLimit config more first last text moment limit trace
+    over_wider text moment limit trace cause = record {
       typed = cause.typed;
       type_is = cause.type_is;
       of = widen cause.typed moment from to first last seen more trace wide cause.of;
@@ -173,6 +178,94 @@ module _ (widen : (typed : TypedTree) (moment : ℤ) (from to earlier later : Le
       above = subst (λ w. config.limit < load cause.typed w moment)
           (sym (rows cause.typed moment from to first last seen more trace wide cause.of)) cause.above;
     }
+
+    -- ---- of leaves that are switched
+
+    cut_wider : (leaf : Leaf) (cut : ℕ) → IsBetween (from.leaves leaf) (to.leaves leaf) cut
+        → IsBetween (first.leaves leaf) (last.leaves leaf) cut
+    cut_wider leaf cut between = record {
+      from = let a = wide.sooner.leaves leaf in let b = between.from in omega arith;
+      to = let a = wide.later.leaves leaf in let b = between.to in omega arith;
+    }
+
+    leaf_front_stays : (leaf : Leaf) (cut : ℕ) → IsBetween (from.leaves leaf) (to.leaves leaf) cut
+        → take cut (leaf_history seen leaf) ≡ take cut (leaf_history more leaf)
+    leaf_front_stays leaf cut between =
+        sym (ap (take cut) (wide.grown.leaves leaf))
+        ∙ take_front cut (length (leaf_history seen leaf)) (leaf_history more leaf)
+        (let a = wide.within.leaves leaf in let b = between.to in omega arith)
+
+    already_wider : (what : LineForm) (down : Bool) (cut : ℕ) → WasAlready config seen from to what down cut
+        → WasAlready config more first last what down cut
+    already_wider what down cut was = record {
+      switch = was.switch;
+      asked = was.asked;
+      way = was.way;
+      between = cut_wider was.switch.leaf cut was.between;
+      already = ap is_down (sym (leaf_front_stays was.switch.leaf cut was.between)) ∙ was.already;
+    }
+
+    enough_wider : (what : LineForm) (count : ℕ) → HasSwitchedEnough config seen from to what count
+        → HasSwitchedEnough config more first last what count
+    enough_wider what count has =
+        let stays = leaf_front_stays has.switch.leaf has.found has.between in
+        record {
+          switch = has.switch;
+          asked = has.asked;
+          found = has.found;
+          between = cut_wider has.switch.leaf has.found has.between;
+          other = ap is_down (sym stays) ∙ has.other;
+          most = has.most;
+          spent = ap (count_by is_switch) (sym stays) ∙ has.spent;
+        }
+
+    -- ---- of recoveries
+
+    denied_wider : (what : LineForm) (told : Denial) → IsDenied config seen from to what told
+        → IsDenied config more first last what told
+    denied_wider what told is = record {
+      recovery = is.recovery;
+      asked = is.asked;
+      found = is.found;
+      between = length_wider is.recovery.range is.found is.between;
+      denied = ap (λ w. denial_of w is.recovery.leaf) (sym (front_stays is.recovery.range is.found is.between))
+          ∙ is.denied;
+    }
+
+    source_wider : (what : LineForm) (founds : List FoundDown) → HasNoSource config seen from to what founds
+        → HasNoSource config more first last what founds
+    source_wider what founds has = record {
+      recovery = has.recovery;
+      asked = has.asked;
+      none_up = none_wider has.recovery.range founds has.none_up;
+    }
+
+    target_wider : (what : LineForm) (cut : ℕ) → HasNoTarget config seen from to what cut
+        → HasNoTarget config more first last what cut
+    target_wider what cut has = record {
+      recovery = has.recovery;
+      asked = has.asked;
+      down = find from to first last seen more (record { leaf = has.recovery.leaf; cut = cut }) wide has.down;
+    }
+
+    pub line_wider : (what : LineForm) (fault : LineFault) → HasCause config seen from to what fault
+        → HasCause config more first last what fault
+    line_wider what (why.Parse parse) cause = cause
+    line_wider what (why.Typing typing) cause = cause
+    line_wider what (why.NoReplica range founds) cause = none_wider range founds cause
+    line_wider what (why.StepLimit limit trace) cause =
+        over_wider (text_of what) (moment_of what) limit trace cause
+    line_wider what (why.AlreadyDown cut) cause = already_wider what true cut cause
+    line_wider what (why.AlreadyUp cut) cause = already_wider what false cut cause
+    line_wider what (why.SwitchesSpent count) cause = enough_wider what count cause
+    line_wider what (why.Serving slot) cause = denied_wider what (denial.ServesThere slot) cause
+    line_wider what why.ThreeServing cause = denied_wider what denial.ServesFully cause
+    line_wider what (why.SlotsSpent count) cause = denied_wider what (denial.SlotsSpent count) cause
+    line_wider what (why.SourceDown founds) cause = source_wider what founds cause
+    line_wider what (why.TargetDown cut) cause = target_wider what cut cause
+    line_wider what why.NameTaken cause = cause
+    line_wider what (why.TooManyDue most) cause = cause
+    line_wider what (why.Backwards last) cause = cause
 
     range_wider : (row : Row) (told : Refused) → IsRefusedByRange config seen from to row told
         → IsRefusedByRange config more first last row told
@@ -211,7 +304,7 @@ module _ (widen : (typed : TypedTree) (moment : ℤ) (from to earlier later : Le
     -- an entry of the feed stands where it ran
     there : (h : History) (k : ℕ) (e : BookEntry) → slice_get (entries ended h) k ≡ Some e
         → is_fed pass accepted e ≡ true → (place.from h ≤ k) × (k < place.to h)
-    there h k e at fed_is = place.ran.found.1 h k e at (ap (λ (trace : LineTrace). is_traced trace e) is ∙ fed_is)
+    there h k e at fed_is = place.ran.found.1 h k e at (ap (λ (trace : LineTrace). is_traced line.what trace h k e) is ∙ fed_is)
 
     module _ (reads : List RowRead) (others : ℕ) (refusal : RowRefusal)
         (found : RowFound config ended place.from place.to reads pass accepted others refusal) where
@@ -322,15 +415,18 @@ module _ (widen : (typed : TypedTree) (moment : ℤ) (from to earlier later : Le
 
   module _ (ended : Histories) (seen later : List RanLine) (line : RanLine)
       (place : InPlace config ended seen later line) where
-    caused_by : (trace : LineTrace) → line.trace ≡ trace → HasFound config ended place.from place.to line trace
+    caused_by : (trace : LineTrace) → line.trace ≡ trace → HasFound config ended place.from place.to place.number line trace
         → IsCaused config ended seen later line trace
     caused_by (came.Fed pass rows refusals) is found =
         rows_caused ended seen later line place pass rows refusals is (reads_of config.schemas line.content) 0 refusals
         found.refused
     caused_by (came.Asked moment trace) is found = tt
+    caused_by (came.Switched cut) is found = tt
+    caused_by (came.Recovered slot) is found = tt
     caused_by (came.Refused fault) is found = line_wider ended ended (marked place.from) (marked place.to)
         (lows config.topology ended seen) (highs config.topology ended later)
-        (wider config ended seen later line place) (text_of line.what) (moment_of line.what) fault found
+        (wider config ended seen later line place) line.what fault found
+    caused_by (came.Ticked dues) is found = tt
     caused_by came.Done is found = tt
 
     pub is_caused : LineIsCaused config ended seen later line

@@ -32,7 +32,6 @@ use Rattle.run_theory.proofs.Writings.{one_more}
 use Rattle.run_traces.specs.LineClaims.{AllRan, Finds, HasFound, HasRange, HasWritten, HaveGrown, IsNewIn, Makes}
 use Rattle.run_traces.specs.LineClaims.{RowFound, RowsFound, StandsAmong, marked}
 use Rattle.run_traces.specs.LinePlaces.{first_length, is_row}
-use Rattle.run_traces.specs.LineTables.{moment_of, text_of}
 use Rattle.run_traces.specs.RanLines.{RanLine}
 use Rattle.run_traces.specs.declared.traces.LineTrace.{LineTrace}
 use Rattle.run_traces.specs.declared.traces.LineTrace.TheVariants as came
@@ -41,6 +40,7 @@ use Rattle.run_traces.proofs.Causes.{line_wider, row_wider, take_front}
 use Rattle.run_traces.proofs.ListFacts.{all_as}
 use Rattle.run_traces.proofs.Owners.{map_front}
 use Rattle.run_traces.proofs.RunFacts.{book_length, range_length}
+use Rattle.run_traces.proofs.Switched.{recovered_wider, switched_wider}
 
 -- ---- lists
 
@@ -180,16 +180,23 @@ module _ (widen : (typed : TypedTree) (moment : ℤ) (from to earlier later : Le
 
       -- ---- lines
 
-      found_still : (trace : LineTrace) → HasFound config seen from to line trace
-          → HasFound config more from to line trace
-      found_still (came.Fed pass accepted refusals) found = record {
+      leaf_goes_on : (leaf : Leaf) → IsPrefix (leaf_history seen leaf) (leaf_history more leaf)
+      leaf_goes_on leaf = front_of (leaf_history seen leaf) (leaf_history more leaf) (grown.within.leaves leaf)
+
+      range_goes_on : (range : Range) → IsPrefix (range_history seen range) (range_history more range)
+      range_goes_on range =
+          front_of (range_history seen range) (range_history more range) (grown.within.ranges range)
+
+      found_still : (number : ℕ) (trace : LineTrace) → HasFound config seen from to number line trace
+          → HasFound config more from to number line trace
+      found_still number (came.Fed pass accepted refusals) found = record {
         ranged = all_as (HasRange config seen from to) (HasRange config more from to) ranged_still accepted
             found.ranged;
         new = λ range. all_as (IsNewIn config seen from to range) (IsNewIn config more from to range) (new_still range)
             accepted (found.new range);
         refused = rows_still _ pass accepted 0 refusals found.refused;
       }
-      found_still (came.Asked moment trace) found = record {
+      found_still number (came.Asked moment trace) found = record {
         typed = found.typed;
         type_is = found.type_is;
         of = widen found.typed moment (marked from) (marked to) (marked from) (marked to) seen more trace wide found.of;
@@ -207,23 +214,29 @@ module _ (widen : (typed : TypedTree) (moment : ℤ) (from to earlier later : Le
               (found.read.read leaf (subst (λ w. leaf.0 < w) grown.leaves there));
         };
       }
-      found_still (came.Refused fault) found = line_wider widen find rows config seen more (marked from) (marked to)
-          (marked from) (marked to) wide (text_of line.what) (moment_of line.what) fault found
-      found_still came.Done found = tt
+      found_still number (came.Switched cut) found = switched_wider seen more from to from to (λ h. omega arith)
+          (λ h. omega arith) leaf_goes_on range_goes_on number line.what cut found
+      found_still number (came.Recovered slot) found = recovered_wider seen more from to from to (λ h. omega arith)
+          (λ h. omega arith) leaf_goes_on range_goes_on number line.what slot found
+      found_still number (came.Refused fault) found = line_wider widen find rows config seen more (marked from)
+          (marked to) (marked from) (marked to) wide line.what fault found
+      found_still number (came.Ticked dues) found = absurd found
+      found_still number came.Done found = tt
 
-    finds_still : Finds config seen from to line → Finds config more from to line
-    finds_still found = record {
+    finds_still : (number : ℕ) → Finds config seen from to number line → Finds config more from to number line
+    finds_still number found = record {
       forth = found.forth;
       suits = found.suits;
       told = found.told;
       cuts = λ leaf there. found.cuts leaf (subst (λ w. leaf.0 < w) grown.leaves there);
-      found = found_still found.forth line.trace found.found;
+      found = found_still found.forth number line.trace found.found;
     }
 
   pub claims_grow : GrowAlong entries HaveGrown (Finds config)
   claims_grow = record {
     goes = goes_on;
-    finds = λ seen more from to line within grown found. finds_still seen more from to line within grown found;
+    finds = λ seen more from to number line within grown found.
+        finds_still seen more from to line within grown number found;
   }
 
   pub one_part_more : (before after : Histories) (parts : List (Part RanLine)) (part : Part RanLine)

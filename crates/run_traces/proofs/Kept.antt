@@ -23,6 +23,9 @@ step (Some some) line lines mark.Closes rest = ap (λ w. some ++ w) (rest None)
 step None line lines mark.Acts rest = ap (λ w. line ∷ w) (rest None)
 step (Some some) line lines mark.Acts rest =
     rest (Some (some ++ line ∷ [])) ∙ append_assoc some (line ∷ []) (filter acts lines)
+step None line lines mark.Lone rest = ap (λ w. line ∷ w) (rest None)
+step (Some some) line lines mark.Lone rest =
+    rest (Some (some ++ line ∷ [])) ∙ append_assoc some (line ∷ []) (filter acts lines)
 
 kept_from : (lines : List RanLine) (block : Block)
     → all_lines (parts_from block lines) ≡ open_lines block ++ filter acts lines

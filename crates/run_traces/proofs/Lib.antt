@@ -1,5 +1,6 @@
 pub mod Acks
 pub mod Causes
+pub mod Controlled
 pub mod Growth
 pub mod Kept
 pub mod ListFacts
@@ -7,4 +8,5 @@ pub mod Owners
 pub mod Rising
 pub mod RowFacts
 pub mod RunFacts
+pub mod Switched
 pub mod Whole

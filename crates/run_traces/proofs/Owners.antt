@@ -1,5 +1,5 @@
 -- Whose the entries of a run are: those that are told to be a line's were made by it alone.
-use Rattle.std.proofs.Common.{◌≡◌, ℕ, zero, suc, ◌<◌, nat_eq, Bool, true, false, List, [], ◌∷◌, ◌++◌, length}
+use Rattle.std.proofs.Common.{◌≡◌, ℕ, zero, suc, ◌<◌, ◌≤◌, nat_eq, ◌&&◌, Bool, true, false, List, [], ◌∷◌, ◌++◌, length}
 use Rattle.std.proofs.Common.{map, filter, slice_get, Some, refl, sym, ap, ◌∙◌, subst, arith, ◌+◌, if◌then◌else◌}
 use Rattle.std.specs.List.{AllByRecursion, flat_map, list_any, range_with_len, slice_index_or}
 use Rattle.std.proofs.lemmas.Bool.{false≢true}
@@ -19,55 +19,126 @@ use Rattle.mon_topo.specs.declared.zones.ZoneSpec.{ZoneSpec}
 use Rattle.mon_value.specs.Histories.{leaf_history, range_history}
 use Rattle.mon_value.specs.Positions.{leaf_numbered, range_numbered, same_leaf}
 use Rattle.mon_value.specs.declared.histories.Entry.{Entry}
-use Rattle.mon_value.specs.declared.histories.Entry.TheVariants as entry
 use Rattle.mon_value.specs.declared.histories.Histories.{Histories}
 use Rattle.mon_value.specs.declared.histories.RangeEntry.{RangeEntry}
-use Rattle.mon_value.specs.declared.histories.RangeEntry.TheVariants as range_entry
 use Rattle.mon_value.specs.declared.positions.Leaf.{Leaf}
 use Rattle.mon_value.specs.declared.positions.Range.{Range}
 use Rattle.mon_value.specs.declared.rows.Row.{Row}
 use Rattle.run_theory.specs.InPlace.{AreDistinct, AreNotFirst, AreTheirs, AreUnder}
 use Rattle.run_theory.specs.Marks.{AreBelow, Ran, between}
 use Rattle.run_theory.proofs.Stands.{between_stands, kept_stands, same_to}
-use Rattle.run_traces.specs.LineClaims.{FeedMade, Finds, HasFound, HasMade, HasRange, IsNewIn, Makes}
+use Rattle.mon_topo.specs.HeldHistories.{AreHeld}
+use Rattle.mon_value.specs.declared.positions.Slot.{Slot}
+use Rattle.run_traces.specs.LineClaims.{FeedMade, Finds, HasFound, HasMade, HasRange, IsNewIn, Makes, SwitchMade}
 use Rattle.run_traces.specs.LineFeeds.{lies_in}
 use Rattle.run_traces.specs.LinePlaces.{first_length, is_entry_of, is_fed, is_row, is_traced}
+use Rattle.run_traces.specs.LineSwitches.{IsSwitchedBetween, recovers, recovery_of, switch_entry, switch_of, switches}
 use Rattle.run_traces.specs.RanLines.{RanLine}
 use Rattle.run_traces.specs.declared.traces.LineTrace.{LineTrace}
 use Rattle.run_traces.specs.declared.traces.LineTrace.TheVariants as came
+use Rattle.run_traces.specs.declared.traces.RowRefusal.{RowRefusal}
 use Rattle.run_traces.proofs.ListFacts.{all_at, any_at, both_all, no_item}
+use Rattle.run_traces.proofs.Switched.{IsTheirs, lone_between, not_recovering, not_switching, recovered_there}
+use Rattle.run_traces.proofs.Switched.{switch_pass, switched_entry, switched_leaf, switched_there}
 use Rattle.run_traces.proofs.RowFacts.{fed_pass, fed_row, lies_as, row_joined, row_key, rows_before}
 
-module _ (config : Config) (ended : Histories) where
+both_hold : (a b : Bool) → a ≡ true → b ≡ true → (a && b) ≡ true
+both_hold true b first second = second
+both_hold false b first second = absurd (false≢true first)
+
+-- what a line that neither feeds nor switches nor recovers made is nothing
+none_made : (made : History → List BookEntry) (h : History) (j : ℕ) (e : BookEntry)
+    → ((history : History) → made history ≡ []) → slice_get (made h) j ≡ Some e → ⊥
+none_made made h j e none there = no_item j e (ap (λ w. slice_get w j) (sym (none h)) ∙ there)
+
+module _ (config : Config) (ended : Histories)
+    (whole : Histories) (fronts : AreFronts ended whole)
+    (held : AreHeld config.schemas config.topology config.range_points whole) where
   abbrev LineRan : (History → ℕ) → (History → ℕ) → ℕ → RanLine → Type 0
   LineRan = Ran entries book_entry_pass (Makes config) (Finds config) ended
 
+  -- ---- switches and recoveries, by their places
+
+  switch_place : (from to : History → ℕ) (number : ℕ) (line : RanLine) (cut : ℕ) (h : History) (k : ℕ) (e : BookEntry)
+      → HasFound config ended from to number line (came.Switched cut) → slice_get (entries ended h) k ≡ Some e
+      → is_traced line.what (came.Switched cut) h k e ≡ true → IsTheirs from to number h k e
+  switch_place from to number line cut h k e found there is =
+      switched_there config ended from to number line.what cut found h k e there is
+
+  recovery_place : (from to : History → ℕ) (number : ℕ) (line : RanLine) (slot : Slot) (h : History) (k : ℕ)
+      (e : BookEntry) → HasFound config ended from to number line (came.Recovered slot)
+      → slice_get (entries ended h) k ≡ Some e
+      → is_traced line.what (came.Recovered slot) h k e ≡ true → IsTheirs from to number h k e
+  recovery_place from to number line slot h k e found there is =
+      recovered_there config ended from to number line.what slot found whole fronts held h k e there is
+
   -- ---- numbers
 
-  under_by : (from to : History → ℕ) (number : ℕ) (line : RanLine) (e : BookEntry) (trace : LineTrace)
-      (made : History → List BookEntry) → HasMade config number trace made → is_traced trace e ≡ true
-      → book_entry_pass e ≡ number
-  under_by from to number line e (came.Fed pass accepted refused) made makes is =
+  under_by : (from to : History → ℕ) (number : ℕ) (line : RanLine) (h : History) (k : ℕ) (e : BookEntry)
+      (trace : LineTrace) (made : History → List BookEntry) → HasMade config number line.what trace made
+      → HasFound config ended from to number line trace → slice_get (entries ended h) k ≡ Some e
+      → is_traced line.what trace h k e ≡ true → book_entry_pass e ≡ number
+  under_by from to number line h k e (came.Fed pass accepted refused) made makes found there is =
       fed_pass pass accepted e is ∙ makes.0
-  under_by from to number line e (came.Asked moment trace) made makes is = absurd (false≢true is)
-  under_by from to number line e (came.Refused why) made makes is = absurd (false≢true is)
-  under_by from to number line e came.Done made makes is = absurd (false≢true is)
+  under_by from to number line h k e (came.Asked moment trace) made makes found there is = absurd (false≢true is)
+  under_by from to number line h k e (came.Switched cut) made makes found there is =
+      (switch_place from to number line cut h k e found there is).under
+  under_by from to number line h k e (came.Recovered slot) made makes found there is =
+      (recovery_place from to number line slot h k e found there is).under
+  under_by from to number line h k e (came.Refused why) made makes found there is = absurd (false≢true is)
+  under_by from to number line h k e (came.Ticked dues) made makes found there is = absurd (false≢true is)
+  under_by from to number line h k e came.Done made makes found there is = absurd (false≢true is)
 
   pub are_under : AreUnder entries book_entry_pass (Makes config) (Finds config) is_entry_of ended
-  are_under from to number line h k e ran is = under_by from to number line e line.trace ran.made ran.makes is
+  are_under from to number line h k e ran there low high is =
+      under_by from to number line h k e line.trace ran.made ran.makes ran.found.found there is
 
   -- ---- what was made
 
-  made_by : (number : ℕ) (trace : LineTrace) (made : History → List BookEntry) (h : History) (j : ℕ) (e : BookEntry)
-      → HasMade config number trace made → slice_get (made h) j ≡ Some e → is_traced trace e ≡ true
-  made_by number (came.Fed pass accepted refused) made h j e makes there =
-      all_at (λ x. is_fed pass accepted x ≡ true) (made h) j e (makes.1.own h) there
-  made_by number (came.Asked moment trace) made h j e makes there =
-      absurd (no_item j e (ap (λ w. slice_get w j) (sym (makes h)) ∙ there))
-  made_by number (came.Refused why) made h j e makes there =
-      absurd (no_item j e (ap (λ w. slice_get w j) (sym (makes h)) ∙ there))
-  made_by number came.Done made h j e makes there =
-      absurd (no_item j e (ap (λ w. slice_get w j) (sym (makes h)) ∙ there))
+  -- the one entry of a switch is the last of so many
+  switch_made : (from to : History → ℕ) (number : ℕ) (line : RanLine) (cut : ℕ) (h : History) (k j : ℕ) (e : BookEntry)
+      (made : History → List BookEntry) → SwitchMade config line.what made
+      → IsSwitchedBetween ended from to number line.what cut
+      → filter (λ x. nat_eq (book_entry_pass x) number) (between (from h) (to h) (entries ended h)) ≡ made h
+      → slice_get (entries ended h) k ≡ Some e → from h ≤ k → k < to h → book_entry_pass e ≡ number
+      → slice_get (made h) j ≡ Some e
+      → is_traced line.what (came.Switched cut) h k e ≡ true
+  switch_made from to number line cut h k j e made makes found exact there low high mine at =
+      let own = all_at (λ x. switches (switch_of line.what) h x ≡ true) (made h) j e (makes.own h) at in
+      let leaf = switched_leaf config ended from to number line.what cut found h e own in
+      let entered = switched_entry config ended from to number line.what cut found h leaf in
+      let few = subst (λ w. length w ≤ 1) (sym exact) (makes.few h) in
+      let stands = found.stands in
+      let since = subst (λ w. from w ≤ stands.place) leaf stands.since in
+      let until = subst (λ w. stands.place < to w) leaf stands.until in
+      let place : stands.place ≡ k = lone_between (λ x. nat_eq (book_entry_pass x) number) (from h) (to h)
+      (entries ended h) stands.place k (one.Leaf (switch_entry found.switch.down number)) e few entered since until
+      (same_to (book_entry_pass (one.Leaf (switch_entry found.switch.down number))) number
+      (switch_pass found.switch.down number))
+      there low high (same_to (book_entry_pass e) number mine) in
+      let counted : stands.place + 1 ≡ cut = found.last in
+      both_hold (switches (switch_of line.what) h e) (nat_eq (k + 1) cut) own (same_to (k + 1) cut (omega arith))
+
+  made_by : (from to : History → ℕ) (number : ℕ) (line : RanLine) (trace : LineTrace) (made : History → List BookEntry)
+      (h : History) (k j : ℕ) (e : BookEntry) → HasMade config number line.what trace made
+      → HasFound config ended from to number line trace
+      → filter (λ x. nat_eq (book_entry_pass x) number) (between (from h) (to h) (entries ended h)) ≡ made h
+      → slice_get (entries ended h) k ≡ Some e → from h ≤ k → k < to h → book_entry_pass e ≡ number
+      → slice_get (made h) j ≡ Some e → is_traced line.what trace h k e ≡ true
+  made_by from to number line (came.Fed pass accepted refused) made h k j e makes found exact there low high mine at =
+      all_at (λ x. is_fed pass accepted x ≡ true) (made h) j e (makes.1.own h) at
+  made_by from to number line (came.Asked moment trace) made h k j e makes found exact there low high mine at =
+      absurd (none_made made h j e makes at)
+  made_by from to number line (came.Switched cut) made h k j e makes found exact there low high mine at =
+      switch_made from to number line cut h k j e made makes found exact there low high mine at
+  made_by from to number line (came.Recovered slot) made h k j e makes found exact there low high mine at =
+      all_at (λ x. recovers (recovery_of line.what) slot h x ≡ true) (made h) j e (makes h) at
+  made_by from to number line (came.Refused why) made h k j e makes found exact there low high mine at =
+      absurd (none_made made h j e makes at)
+  made_by from to number line (came.Ticked dues) made h k j e makes found exact there low high mine at =
+      absurd (none_made made h j e makes at)
+  made_by from to number line came.Done made h k j e makes found exact there low high mine at =
+      absurd (none_made made h j e makes at)
 
   -- what stands where a line ran, under its number, is the line's
   pub are_theirs : AreTheirs entries book_entry_pass (Makes config) (Finds config) is_entry_of ended
@@ -75,8 +146,8 @@ module _ (config : Config) (ended : Histories) where
       let at = between_stands (from h) (to h) (entries ended h) k e there low high in
       let kept = kept_stands (λ x. nat_eq (book_entry_pass x) number) (between (from h) (to h) (entries ended h)) at.0 e
       at.1 (same_to (book_entry_pass e) number mine) in
-      made_by number line.trace ran.made h kept.0 e ran.makes
-      (ap (λ w. slice_get w kept.0) (sym (ran.exact h)) ∙ kept.1)
+      made_by from to number line line.trace ran.made h k kept.0 e ran.makes ran.found.found (ran.exact h) there low high
+      mine (ap (λ w. slice_get w kept.0) (sym (ran.exact h)) ∙ kept.1)
 
   -- ---- no line has an entry that another made
 
@@ -101,46 +172,106 @@ module _ (config : Config) (ended : Histories) where
         false≢true (sym (all_at (λ (old : Row). is_row row' old ≡ false) (filter (lies_in config r) rows) kept.0 row
         none kept.1) ∙ same)))
 
-    both_fed : (trace trace' : LineTrace) (e : BookEntry) → HasMade config n trace one.made
-        → HasFound config ended a b sooner trace → HasFound config ended c d later trace'
-        → is_traced trace e ≡ true → is_traced trace' e ≡ true → ⊥
-    both_fed (came.Fed pass rows refused) (came.Fed pass' rows' refused') e makes found found' is is' =
-        fed_row pass rows ⊥ e is
+    two_feeds : (pass pass' : ℕ) (rows rows' : List Row) (refused refused' : List RowRefusal) (e : BookEntry)
+        → HasMade config n sooner.what (came.Fed pass rows refused) one.made
+        → HasFound config ended a b n sooner (came.Fed pass rows refused)
+        → HasFound config ended c d m later (came.Fed pass' rows' refused') → is_fed pass rows e ≡ true
+        → is_fed pass' rows' e ≡ true → ⊥
+    two_feeds pass pass' rows rows' refused refused' e makes found found' is is' = fed_row pass rows ⊥ e is
         (λ w first more. two_rows pass pass' rows rows' makes.1 found.ranged found'.new w first (more pass' rows' is'))
-    both_fed (came.Fed pass rows refused) (came.Asked moment trace) e makes found found' is is' = false≢true is'
-    both_fed (came.Fed pass rows refused) (came.Refused why) e makes found found' is is' = false≢true is'
-    both_fed (came.Fed pass rows refused) came.Done e makes found found' is is' = false≢true is'
-    both_fed (came.Asked moment trace) trace' e makes found found' is is' = false≢true is
-    both_fed (came.Refused why) trace' e makes found found' is is' = false≢true is
-    both_fed came.Done trace' e makes found found' is is' = false≢true is
+
+    -- what the sooner one made is none of the later feed's
+    made_sooner : (trace : LineTrace) (pass : ℕ) (rows : List Row) (refused : List RowRefusal) (h : History) (j : ℕ)
+        (e : BookEntry) → HasMade config n sooner.what trace one.made → HasFound config ended a b n sooner trace
+        → HasFound config ended c d m later (came.Fed pass rows refused) → slice_get (one.made h) j ≡ Some e
+        → is_fed pass rows e ≡ true → ⊥
+    made_sooner (came.Fed pass' rows' refused') pass rows refused h j e makes found found' at is =
+        two_feeds pass' pass rows' rows refused' refused e makes found found'
+        (all_at (λ x. is_fed pass' rows' x ≡ true) (one.made h) j e (makes.1.own h) at) is
+    made_sooner (came.Asked moment trace) pass rows refused h j e makes found found' at is =
+        none_made one.made h j e makes at
+    made_sooner (came.Switched cut) pass rows refused h j e makes found found' at is =
+        not_switching pass rows (switch_of sooner.what) h e
+        (all_at (λ x. switches (switch_of sooner.what) h x ≡ true) (one.made h) j e (makes.own h) at) is
+    made_sooner (came.Recovered slot) pass rows refused h j e makes found found' at is =
+        not_recovering pass rows (recovery_of sooner.what) slot h e
+        (all_at (λ x. recovers (recovery_of sooner.what) slot h x ≡ true) (one.made h) j e (makes h) at) is
+    made_sooner (came.Refused why) pass rows refused h j e makes found found' at is =
+        none_made one.made h j e makes at
+    made_sooner (came.Ticked dues) pass rows refused h j e makes found found' at is = none_made one.made h j e makes at
+    made_sooner came.Done pass rows refused h j e makes found found' at is = none_made one.made h j e makes at
+
+    -- and what the later one made is none of the sooner feed's
+    made_later : (trace : LineTrace) (pass : ℕ) (rows : List Row) (refused : List RowRefusal) (h : History) (j : ℕ)
+        (e : BookEntry) → HasMade config m later.what trace other.made → HasFound config ended c d m later trace
+        → HasMade config n sooner.what (came.Fed pass rows refused) one.made
+        → HasFound config ended a b n sooner (came.Fed pass rows refused) → slice_get (other.made h) j ≡ Some e
+        → is_fed pass rows e ≡ true → ⊥
+    made_later (came.Fed pass' rows' refused') pass rows refused h j e makes found makes' found' at is =
+        two_feeds pass pass' rows rows' refused refused' e makes' found' found is
+        (all_at (λ x. is_fed pass' rows' x ≡ true) (other.made h) j e (makes.1.own h) at)
+    made_later (came.Asked moment trace) pass rows refused h j e makes found makes' found' at is =
+        none_made other.made h j e makes at
+    made_later (came.Switched cut) pass rows refused h j e makes found makes' found' at is =
+        not_switching pass rows (switch_of later.what) h e
+        (all_at (λ x. switches (switch_of later.what) h x ≡ true) (other.made h) j e (makes.own h) at) is
+    made_later (came.Recovered slot) pass rows refused h j e makes found makes' found' at is =
+        not_recovering pass rows (recovery_of later.what) slot h e
+        (all_at (λ x. recovers (recovery_of later.what) slot h x ≡ true) (other.made h) j e (makes h) at) is
+    made_later (came.Refused why) pass rows refused h j e makes found makes' found' at is =
+        none_made other.made h j e makes at
+    made_later (came.Ticked dues) pass rows refused h j e makes found makes' found' at is = none_made other.made h j e makes at
+    made_later came.Done pass rows refused h j e makes found makes' found' at is = none_made other.made h j e makes at
+
+    -- nothing that the sooner one made where it ran is the later one's
+    not_later : (trace : LineTrace) (h : History) (j k : ℕ) (e : BookEntry) → HasFound config ended c d m later trace
+        → slice_get (entries ended h) k ≡ Some e → slice_get (one.made h) j ≡ Some e → k < b h
+        → is_traced later.what trace h k e ≡ true → ⊥
+    not_later (came.Fed pass rows refused) h j k e found there at less is =
+        made_sooner sooner.trace pass rows refused h j e one.makes one.found.found found at is
+    not_later (came.Asked moment trace) h j k e found there at less is = false≢true is
+    not_later (came.Switched cut) h j k e found there at less is =
+        let theirs = switch_place c d m later cut h k e found there is in
+        let low = theirs.low in let apart = behind h in omega arith
+    not_later (came.Recovered slot) h j k e found there at less is =
+        let theirs = recovery_place c d m later slot h k e found there is in
+        let low = theirs.low in let apart = behind h in omega arith
+    not_later (came.Refused why) h j k e found there at less is = false≢true is
+    not_later (came.Ticked dues) h j k e found there at less is = false≢true is
+    not_later came.Done h j k e found there at less is = false≢true is
+
+    -- and nothing that the later one made where it ran is the sooner one's
+    not_sooner : (trace : LineTrace) (h : History) (j k : ℕ) (e : BookEntry)
+        → HasMade config n sooner.what trace one.made → HasFound config ended a b n sooner trace
+        → slice_get (entries ended h) k ≡ Some e → slice_get (other.made h) j ≡ Some e → c h ≤ k
+        → is_traced sooner.what trace h k e ≡ true → ⊥
+    not_sooner (came.Fed pass rows refused) h j k e makes found there at more is =
+        made_later later.trace pass rows refused h j e other.makes other.found.found makes found at is
+    not_sooner (came.Asked moment trace) h j k e makes found there at more is = false≢true is
+    not_sooner (came.Switched cut) h j k e makes found there at more is =
+        let theirs = switch_place a b n sooner cut h k e found there is in
+        let high = theirs.high in let apart = behind h in omega arith
+    not_sooner (came.Recovered slot) h j k e makes found there at more is =
+        let theirs = recovery_place a b n sooner slot h k e found there is in
+        let high = theirs.high in let apart = behind h in omega arith
+    not_sooner (came.Refused why) h j k e makes found there at more is = false≢true is
+    not_sooner (came.Ticked dues) h j k e makes found there at more is = false≢true is
+    not_sooner came.Done h j k e makes found there at more is = false≢true is
 
   -- no entry that a line made is one of a line that ran before it or behind it
   pub are_distinct : AreDistinct entries book_entry_pass (Makes config) (Finds config) is_entry_of ended
-  are_distinct a b c d n m sooner later h j k e one other behind = (
-    (λ there is. both_fed a b c d n m sooner later one other behind sooner.trace later.trace e one.makes one.found.found
-        other.found.found (made_by n sooner.trace one.made h j e one.makes there) is),
-    (λ there is. both_fed a b c d n m sooner later one other behind sooner.trace later.trace e one.makes one.found.found
-        other.found.found is (made_by m later.trace other.made h j e other.makes there)),
+  are_distinct a b c d n m sooner later h j k e one other behind there = (
+    (λ at less is. not_later a b c d n m sooner later one other behind later.trace h j k e other.found.found there at
+        less is),
+    (λ at more is. not_sooner a b c d n m sooner later one other behind sooner.trace h j k e one.makes one.found.found
+        there at more is),
   )
 
 -- ---- what stands there at first
 
+-- it is none of a feed
 abbrev IsOpening : BookEntry → Type 0
-IsOpening e = (trace : LineTrace) → is_traced trace e ≡ false
-
-leaf_opening : (pass : ℕ) (range : Range) (slot : _) (rows : List Row) (trace : LineTrace)
-    → is_traced trace (one.Leaf (entry.Opened pass range slot rows)) ≡ false
-leaf_opening pass range slot rows (came.Fed by accepted refused) = refl
-leaf_opening pass range slot rows (came.Asked moment trace) = refl
-leaf_opening pass range slot rows (came.Refused why) = refl
-leaf_opening pass range slot rows came.Done = refl
-
-range_opening : (pass : ℕ) (slot : _) (leaf : Leaf) (trace : LineTrace)
-    → is_traced trace (one.Range (range_entry.Opened pass slot leaf)) ≡ false
-range_opening pass slot leaf (came.Fed by accepted refused) = refl
-range_opening pass slot leaf (came.Asked moment trace) = refl
-range_opening pass slot leaf (came.Refused why) = refl
-range_opening pass slot leaf came.Done = refl
+IsOpening e = (pass : ℕ) (rows : List Row) → is_fed pass rows e ≡ false
 
 abbrev LeafOpens : List Entry → Type 0
 LeafOpens = AllByRecursion (λ e. IsOpening (one.Leaf e))
@@ -150,10 +281,10 @@ RangeOpens = AllByRecursion (λ e. IsOpening (one.Range e))
 
 ranges_open : (k : ℕ) (leaves : List Leaf) → RangeOpens (openings_from k leaves)
 ranges_open k [] = tt
-ranges_open k (leaf ∷ leaves) = (range_opening 0 _ leaf, ranges_open (k + 1) leaves)
+ranges_open k (leaf ∷ leaves) = ((λ pass rows. refl), ranges_open (k + 1) leaves)
 
 opened_if : (b : Bool) (range : Range) (k : ℕ) → LeafOpens (if b then opening range k ∷ [] else [])
-opened_if true range k = (leaf_opening 0 range _ [], tt)
+opened_if true range k = ((λ pass rows. refl), tt)
 opened_if false range k = tt
 
 leaves_open : (leaf : Leaf) (range : Range) (k : ℕ) (leaves : List Leaf) → LeafOpens (opened_here leaf range k leaves)
@@ -210,11 +341,30 @@ begins zones ended (of.Range range) begun =
     (begun.1 range)
 
 -- nothing that stands there at first is a line's
-pub are_not_first : (config : Config) (ended : Histories) → AreFronts (first_histories config.topology) ended
-    → AreNotFirst entries book_entry_pass (Makes config) (Finds config) is_entry_of ended
-    (first_length config.topology ended)
-are_not_first config ended begun line h k e there less is =
-    let p = begins config.topology ended h begun in
-    let opens = in_front IsOpening (entries (first_histories config.topology) h) p.0 k e
-    (firsts_open config.topology h) (ap (λ w. slice_get w k) p.1 ∙ there) less in
-    false≢true (sym (opens line.trace) ∙ is)
+module _ (config : Config) (ended : Histories) (begun : AreFronts (first_histories config.topology) ended)
+    (whole : Histories) (fronts : AreFronts ended whole)
+    (held : AreHeld config.schemas config.topology config.range_points whole) where
+  not_first : (from to : History → ℕ) (number : ℕ) (line : RanLine) (trace : LineTrace) (h : History) (k : ℕ)
+      (e : BookEntry) → HasFound config ended from to number line trace
+      → AreBelow (first_length config.topology ended) from → slice_get (entries ended h) k ≡ Some e
+      → k < first_length config.topology ended h → is_traced line.what trace h k e ≡ true → ⊥
+  not_first from to number line (came.Fed pass rows refused) h k e found low there less is =
+      let p = begins config.topology ended h begun in
+      let opens = in_front IsOpening (entries (first_histories config.topology) h) p.0 k e
+      (firsts_open config.topology h) (ap (λ w. slice_get w k) p.1 ∙ there) less in
+      false≢true (sym (opens pass rows) ∙ is)
+  not_first from to number line (came.Asked moment trace) h k e found low there less is = false≢true is
+  not_first from to number line (came.Switched cut) h k e found low there less is =
+      let theirs = switch_place config ended whole fronts held from to number line cut h k e found there is in
+      let a = theirs.low in let b = low h in omega arith
+  not_first from to number line (came.Recovered slot) h k e found low there less is =
+      let theirs = recovery_place config ended whole fronts held from to number line slot h k e found there is in
+      let a = theirs.low in let b = low h in omega arith
+  not_first from to number line (came.Refused why) h k e found low there less is = false≢true is
+  not_first from to number line (came.Ticked dues) h k e found low there less is = false≢true is
+  not_first from to number line came.Done h k e found low there less is = false≢true is
+
+  pub are_not_first : AreNotFirst entries book_entry_pass (Makes config) (Finds config) is_entry_of ended
+      (first_length config.topology ended)
+  are_not_first from to number line h k e ran low there less is =
+      not_first from to number line line.trace h k e ran.found.found low there less is

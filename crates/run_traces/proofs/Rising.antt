@@ -1,10 +1,9 @@
 -- What lines found stays found as more is seen, up to all of it, and they print the same.
-use Rattle.std.proofs.Common.{◌≡◌, ℕ, zero, suc, ◌-◌, ◌<◌, ◌≤◌, nat_eq, true, false, List, [], ◌∷◌, ◌++◌, length}
+use Rattle.std.proofs.Common.{◌≡◌, ℕ, zero, suc, ◌-◌, ◌<◌, ◌≤◌, nat_eq, false, List, [], ◌∷◌, ◌++◌, length}
 use Rattle.std.proofs.Common.{filter, slice_get, Some, Ok, Err, refl, sym, ap, ◌∙◌, subst, arith}
 use Rattle.std.specs.Prelude.{ℤ, ◌+◌, Result}
-use Rattle.std.specs.List.{AllByRecursion}
 use Rattle.std.proofs.lemmas.Bool.Decides.{nat_tests}
-use Rattle.std.proofs.lemmas.List.{take_all, length-append}
+use Rattle.std.proofs.lemmas.List.{append-nil, take_all, length-append}
 use mathlib.Core.List.{IsPrefix}
 use Rattle.history_book.specs.Histories.{book_entry_pass, entries}
 use Rattle.history_book.specs.declared.views.BookEntry.{BookEntry}
@@ -18,9 +17,9 @@ use Rattle.mon_value.specs.Histories.{leaf_history, range_history}
 use Rattle.mon_value.specs.declared.histories.Histories.{Histories}
 use Rattle.mon_value.specs.declared.positions.FoundDown.{FoundDown}
 use Rattle.mon_value.specs.declared.positions.Leaf.{Leaf}
+use Rattle.mon_value.specs.declared.positions.Range.{Range}
 use Rattle.mon_value.specs.declared.rows.Row.{Row}
 use Rattle.mon_value.specs.declared.rows.SeriesKey.{SeriesKey}
-use Rattle.mql_types.specs.Explanations.{op_levels}
 use Rattle.mql_types.specs.Meaning.{meaning}
 use Rattle.mql_types.specs.Nodes.{TypedTree, columns_of}
 use Rattle.mql_types.specs.declared.plans.Plan.{Plan}
@@ -28,29 +27,27 @@ use Rattle.query_core.specs.Findings.{IsFoundBetween}
 use Rattle.query_core.specs.Traces.{AreWider, IsBetween, IsFreshSince, IsReadRightly, IsTraceBetween, Lengths}
 use Rattle.query_core.specs.Traces.{source_of}
 use Rattle.query_core.specs.declared.answers.Trace.{Trace}
-use Rattle.query_texts.specs.Plans.{plan_type}
 use Rattle.query_texts.specs.TextTypes.{text_type}
 use Rattle.query_texts.specs.declared.faults.TextFault.{TextFault}
-use Rattle.run_theory.specs.Marks.{AreBelow, EachRan, IsWithin, PartsRan}
-use Rattle.run_theory.specs.Parts.{Part, all_lines, lines_of}
+use Rattle.run_theory.specs.Marks.{AreBelow, IsWithin}
 use Rattle.run_theory.proofs.Callers.{none_between, none_passes}
-use Rattle.run_theory.proofs.Marks.{parts_below, within_before}
-use Rattle.run_traces.specs.LineClaims.{AllRan, Finds, HasFound, HaveGrown, Makes, RowFound, RowsFound, StandsAmong}
+use Rattle.run_traces.specs.LineClaims.{Finds, HasFound, HaveGrown, Makes, RowsFound, StandsAmong}
 use Rattle.run_traces.specs.LineClaims.{marked}
 use Rattle.run_traces.specs.LineFreshness.{cuts_named}
 use Rattle.run_traces.specs.LinePlaces.{first_length}
-use Rattle.run_traces.specs.LineTables.{moment_of, text_of}
-use Rattle.run_traces.specs.LineTexts.{asked_text, explanation, line_text, lines_text, typed_text}
+use Rattle.run_traces.specs.LineTables.{text_of}
+use Rattle.run_traces.specs.LineTexts.{asked_text, explanation, line_text, typed_text}
 use Rattle.run_traces.specs.RanLines.{RanLine}
 use Rattle.run_traces.specs.declared.traces.LineTrace.{LineTrace}
 use Rattle.run_traces.specs.declared.traces.LineTrace.TheVariants as came
 use Rattle.run_traces.specs.declared.traces.RowRefusal.{RowRefusal}
 use Rattle.mon_script.specs.declared.forms.LineForm.{LineForm}
 use Rattle.mon_script.specs.declared.forms.LineForm.TheVariants as form
-use Rattle.run_traces.proofs.Causes.{line_wider, row_wider}
+use Rattle.run_traces.proofs.Causes.{line_wider}
 use Rattle.run_traces.proofs.Growth.{claims_grow, goes_on}
 use Rattle.run_traces.proofs.ListFacts.{all_as, all_at}
 use Rattle.run_traces.proofs.RowFacts.{fed_pass}
+use Rattle.run_traces.proofs.Switched.{recovered_wider, switched_wider}
 use Rattle.run_traces.proofs.RunFacts.{book_length, range_length}
 
 -- ---- lists
@@ -160,9 +157,15 @@ module _ (widen : (typed : TypedTree) (moment : ℤ) (from to earlier later : Le
       rows_raised reads pass accepted (others + 1) refusals none found.1,
     )
 
+    leaf_itself : (leaf : Leaf) → IsPrefix (leaf_history more leaf) (leaf_history more leaf)
+    leaf_itself leaf = ([], append-nil (leaf_history more leaf))
+
+    range_itself : (range : Range) → IsPrefix (range_history more range) (range_history more range)
+    range_itself range = ([], append-nil (range_history more range))
+
     found_raised : (number : ℕ) (made : History → List BookEntry) (trace : LineTrace) → HasNoneUnder number
         → Makes config number (record { what = line.what; content = line.content; trace = trace }) made
-        → HasFound config more from to line trace → HasFound config more from later line trace
+        → HasFound config more from to number line trace → HasFound config more from later number line trace
     found_raised number made (came.Fed pass accepted refusals) none makes found = record {
       ranged = all_as _ _ (λ row ranged. record { range = ranged.range; there = ranged.there; lies = ranged.lies })
           accepted found.ranged;
@@ -178,13 +181,18 @@ module _ (widen : (typed : TypedTree) (moment : ℤ) (from to earlier later : Le
           found.of found.fresh;
       read = found.read;
     }
+    found_raised number made (came.Switched cut) none makes found = switched_wider more more from to from later
+        (λ h. omega arith) up leaf_itself range_itself number line.what cut found
+    found_raised number made (came.Recovered slot) none makes found = recovered_wider more more from to from later
+        (λ h. omega arith) up leaf_itself range_itself number line.what slot found
     found_raised number made (came.Refused fault) none makes found =
         line_wider widen find rows config more more (marked from) (marked to) (marked from) (marked later) raised
-        (text_of line.what) (moment_of line.what) fault found
+        line.what fault found
+    found_raised number made (came.Ticked dues) none makes found = absurd found
     found_raised number made came.Done none makes found = tt
 
     finds_raised : (number : ℕ) (made : History → List BookEntry) → HasNoneUnder number → Makes config number line made
-        → Finds config more from to line → Finds config more from later line
+        → Finds config more from to number line → Finds config more from later number line
     finds_raised number made none makes found = record {
       forth = λ h. let a = forth h in let b = up h in omega arith;
       suits = found.suits;
@@ -194,7 +202,7 @@ module _ (widen : (typed : TypedTree) (moment : ℤ) (from to earlier later : Le
           (λ cut between. record {
             from = between.from;
             to = let a = between.to in let b = up (of.Leaf leaf) in omega arith;
-          }) (cuts_named leaf line.trace) (found.cuts leaf there);
+          }) (cuts_named leaf line.what line.trace) (found.cuts leaf there);
       found = found_raised number made line.trace none makes found.found;
     }
 
@@ -217,11 +225,11 @@ module _ (widen : (typed : TypedTree) (moment : ℤ) (from to earlier later : Le
     pub finds_later : (from : History → ℕ) (number : ℕ) (line : RanLine) (made : History → List BookEntry)
         → ((h : History) → filter (λ e. nat_eq (book_entry_pass e) number) (entries more h)
         ≡ filter (λ e. nat_eq (book_entry_pass e) number) (entries seen h))
-        → Makes config number line made → Finds config seen from (λ h. length (entries seen h)) line
-        → Finds config more from (λ h. length (entries more h)) line
+        → Makes config number line made → Finds config seen from (λ h. length (entries seen h)) number line
+        → Finds config more from (λ h. length (entries more h)) number line
     finds_later from number line made same makes found =
         let still = (claims_grow widen find rows freshen reread config).finds seen more from
-        (λ h. length (entries seen h)) line (λ h. omega arith) grown found in
+        (λ h. length (entries seen h)) number line (λ h. omega arith) grown found in
         finds_raised more from (λ h. length (entries seen h)) (λ h. length (entries more h)) line found.forth
         (λ h. prefix_below (entries seen h) (entries more h) (goes_on seen more grown h)) (λ h. omega arith) number made
         (λ h k e there le. none_behind number h (same h) k e there le) makes still
@@ -240,6 +248,11 @@ module _ (widen : (typed : TypedTree) (moment : ℤ) (from to earlier later : Le
         (λ (some : List Row). table_text (column_names (columns_of typed.tree)) (meaning typed some moment)
         ++ explanation config.topology typed trace)
         e
+    typed_same (form.Down leaf) moment trace typed e = refl
+    typed_same (form.Up leaf) moment trace typed e = refl
+    typed_same (form.Recover range leaf) moment trace typed e = refl
+    typed_same (form.Standing name period text) moment trace typed e = refl
+    typed_same (form.Tick at) moment trace typed e = refl
     typed_same form.Together moment trace typed e = refl
     typed_same form.End moment trace typed e = refl
 
@@ -271,46 +284,23 @@ module _ (widen : (typed : TypedTree) (moment : ℤ) (from to earlier later : Le
       ranges = grown.ranges;
     }
 
-    text_same : (from to : History → ℕ) (what : LineForm) (content : List ℕ) (trace : LineTrace) → AreBelow from to
-        → IsWithin entries to seen
-        → HasFound config seen from to (record { what = what; content = content; trace = trace }) trace
+    text_same : (from to : History → ℕ) (number : ℕ) (what : LineForm) (content : List ℕ) (trace : LineTrace)
+        → AreBelow from to → IsWithin entries to seen
+        → HasFound config seen from to number (record { what = what; content = content; trace = trace }) trace
         → line_text config more (record { what = what; content = content; trace = trace })
         ≡ line_text config seen (record { what = what; content = content; trace = trace })
-    text_same from to what content (came.Fed pass accepted refusals) forth within found = refl
-    text_same from to what content (came.Asked moment trace) forth within found =
+    text_same from to number what content (came.Fed pass accepted refusals) forth within found = refl
+    text_same from to number what content (came.Asked moment trace) forth within found =
         asked_same what moment trace (text_type config.schemas (text_of what))
         (rows found.typed moment (marked from) (marked to) (marked from) (marked to) seen more trace
         (wide from to forth within) found.of)
-    text_same from to what content (came.Refused fault) forth within found = refl
-    text_same from to what content came.Done forth within found = refl
+    text_same from to number what content (came.Switched cut) forth within found = refl
+    text_same from to number what content (came.Recovered slot) forth within found = refl
+    text_same from to number what content (came.Refused fault) forth within found = refl
+    text_same from to number what content (came.Ticked dues) forth within found = absurd found
+    text_same from to number what content came.Done forth within found = refl
 
-    pub line_same : (from to : History → ℕ) (line : RanLine) → IsWithin entries to seen
-        → Finds config seen from to line → line_text config more line ≡ line_text config seen line
-    line_same from to line within found =
-        text_same from to line.what line.content line.trace found.forth within found.found
-
-    part_same : (from to : History → ℕ) (numbers : List ℕ) (lines others : List RanLine) → IsWithin entries to seen
-        → EachRan entries book_entry_pass (Makes config) (Finds config) seen from to numbers lines
-        → lines_text config more others ≡ lines_text config seen others
-        → lines_text config more (lines ++ others) ≡ lines_text config seen (lines ++ others)
-    part_same from to [] [] others within ran e = e
-    part_same from to [] (line ∷ lines) others within ran e = absurd ran
-    part_same from to (number ∷ numbers) [] others within ran e = absurd ran
-    part_same from to (number ∷ numbers) (line ∷ lines) others within ran e =
-        ap (λ w. w ++ lines_text config more (lines ++ others)) (line_same from to line within ran.0.found)
-        ∙ ap (λ w. line_text config seen line ++ w) (part_same from to numbers lines others within ran.1 e)
-
-    parts_same : (from to : History → ℕ) (parts : List (Part RanLine)) → IsWithin entries to seen
-        → PartsRan entries book_entry_pass (Makes config) (Finds config) seen from to parts
-        → lines_text config more (all_lines parts) ≡ lines_text config seen (all_lines parts)
-    parts_same from to [] within ran = refl
-    parts_same from to (part ∷ parts) within ran =
-        part_same from ran.0 ran.2.numbers (lines_of part) (all_lines parts)
-        (within_before entries book_entry_pass (Makes config) (Finds config) seen ran.0 to
-        (parts_below entries book_entry_pass (Makes config) (Finds config) seen ran.0 to parts ran.3) within)
-        ran.2.each (parts_same ran.0 to parts within ran.3)
-
-    pub all_same : (parts : List (Part RanLine)) → AllRan config seen parts
-        → lines_text config more (all_lines parts) ≡ lines_text config seen (all_lines parts)
-    all_same parts ran = parts_same (first_length config.topology seen) (λ h. length (entries seen h)) parts
-        (λ h. omega arith) ran
+    pub line_same : (from to : History → ℕ) (number : ℕ) (line : RanLine) → IsWithin entries to seen
+        → Finds config seen from to number line → line_text config more line ≡ line_text config seen line
+    line_same from to number line within found =
+        text_same from to number line.what line.content line.trace found.forth within found.found

@@ -61,7 +61,7 @@ pub range_length : (ended : Histories) (range : Range)
 range_length ended range = map_length (λ e. one.Range e) (range_history ended range)
 
 module _ (config : Config) (ended : Histories) where
-  abbrev pub There : Histories → (History → ℕ) → (History → ℕ) → RanLine → Type 0
+  abbrev pub There : Histories → (History → ℕ) → (History → ℕ) → ℕ → RanLine → Type 0
   There = FoundThere entries is_entry_of (Finds config)
 
   abbrev pub InPlace : List RanLine → List RanLine → RanLine → Type 0
@@ -111,25 +111,25 @@ module _ (config : Config) (ended : Histories) where
     -- ---- cuts
 
     cuts_above : (leaf : Leaf) → leaf.0 < length ended.leaves → (cut : ℕ) → cut ≤ place.from (of.Leaf leaf)
-        → AllByRecursion (λ own. cut ≤ own) (cuts_named leaf line.trace)
+        → AllByRecursion (λ own. cut ≤ own) (cuts_named leaf line.what line.trace)
     cuts_above leaf there cut le = all_as (IsBetween (place.from (of.Leaf leaf)) (place.to (of.Leaf leaf)))
-        (λ own. cut ≤ own) (λ own between. let a = between.from in omega arith) (cuts_named leaf line.trace)
+        (λ own. cut ≤ own) (λ own between. let a = between.from in omega arith) (cuts_named leaf line.what line.trace)
         (place.ran.found.0.cuts leaf there)
 
     cuts_of : (leaf : Leaf) → leaf.0 < length ended.leaves → (other : RanLine)
         → RanBefore entries book_entry_pass (Makes config) There ended place.from other
-        → AllByRecursion (λ cut. AllByRecursion (λ own. cut ≤ own) (cuts_named leaf line.trace))
-        (cuts_named leaf other.trace)
+        → AllByRecursion (λ cut. AllByRecursion (λ own. cut ≤ own) (cuts_named leaf line.what line.trace))
+        (cuts_named leaf other.what other.trace)
     cuts_of leaf there other before = all_as (IsBetween (before.from (of.Leaf leaf)) (before.to (of.Leaf leaf)))
-        (λ cut. AllByRecursion (λ own. cut ≤ own) (cuts_named leaf line.trace))
+        (λ cut. AllByRecursion (λ own. cut ≤ own) (cuts_named leaf line.what line.trace))
         (λ cut between. cuts_above leaf there cut
         (let a = between.to in let b = before.below (of.Leaf leaf) in omega arith))
-        (cuts_named leaf other.trace) (before.ran.found.0.cuts leaf there)
+        (cuts_named leaf other.what other.trace) (before.ran.found.0.cuts leaf there)
 
-    cuts_rise : (leaf : Leaf) → leaf.0 < length ended.leaves → CutsRise seen line.trace leaf
+    cuts_rise : (leaf : Leaf) → leaf.0 < length ended.leaves → CutsRise seen line leaf
     cuts_rise leaf there = all_as (RanBefore entries book_entry_pass (Makes config) There ended place.from)
-        (λ other. AllByRecursion (λ cut. AllByRecursion (λ own. cut ≤ own) (cuts_named leaf line.trace))
-        (cuts_named leaf other.trace))
+        (λ other. AllByRecursion (λ cut. AllByRecursion (λ own. cut ≤ own) (cuts_named leaf line.what line.trace))
+        (cuts_named leaf other.what other.trace))
         (cuts_of leaf there) seen place.before
 
     -- ---- rows
@@ -139,8 +139,8 @@ module _ (config : Config) (ended : Histories) where
         (acknowledged_rows (take (place.from (of.Range range)) (range_history ended range)))) where
       rows_by : (other : RanLine) (trace : LineTrace)
           (before : RanBefore entries book_entry_pass (Makes config) There ended place.from other)
-          → HasMade config before.number trace before.ran.made
-          → HasFound config ended before.from before.to other trace → AllByRecursion P (trace_rows trace)
+          → HasMade config before.number other.what trace before.ran.made
+          → HasFound config ended before.from before.to before.number other trace → AllByRecursion P (trace_rows trace)
       rows_by other (came.Fed pass rows refused) before makes found =
           all_by_tests P (lies_in config) (λ range. range.0 < length ended.ranges) rows
           (all_as (HasRange config ended before.from before.to)
@@ -149,7 +149,10 @@ module _ (config : Config) (ended : Histories) where
           (λ range there. rows_before config ended before.from before.to before.number pass rows before.ran.made makes.1
           before.ran.exact P range (place.from (of.Range range)) (before.below (of.Range range)) (fresh range there))
       rows_by other (came.Asked moment trace) before makes found = tt
+      rows_by other (came.Switched cut) before makes found = tt
+      rows_by other (came.Recovered slot) before makes found = tt
       rows_by other (came.Refused fault) before makes found = tt
+      rows_by other (came.Ticked dues) before makes found = tt
       rows_by other came.Done before makes found = tt
 
       rows_of : AllByRecursion (λ other. AllByRecursion P (accepted_rows other)) seen
@@ -157,11 +160,14 @@ module _ (config : Config) (ended : Histories) where
           (λ other. AllByRecursion P (accepted_rows other))
           (λ other before. rows_by other other.trace before before.ran.makes before.ran.found.0.found) seen place.before
 
-    holds_rows : (trace : LineTrace) → HasFound config ended place.from place.to line trace
+    holds_rows : (trace : LineTrace) → HasFound config ended place.from place.to place.number line trace
         → HoldsRows ended seen trace
     holds_rows (came.Fed pass rows refused) found = tt
     holds_rows (came.Asked moment trace) found = rows_of (Contains (source_of ended trace)) found.fresh.rows
+    holds_rows (came.Switched cut) found = tt
+    holds_rows (came.Recovered slot) found = tt
     holds_rows (came.Refused fault) found = tt
+    holds_rows (came.Ticked dues) found = tt
     holds_rows came.Done found = tt
 
     pub is_fresh : LineIsFresh ended seen later line
@@ -169,11 +175,14 @@ module _ (config : Config) (ended : Histories) where
 
     -- ---- reads
 
-    read_by : (trace : LineTrace) → HasFound config ended place.from place.to line trace
+    read_by : (trace : LineTrace) → HasFound config ended place.from place.to place.number line trace
         → IsRead config ended (text_of line.what) trace
     read_by (came.Fed pass rows refused) found = tt
     read_by (came.Asked moment trace) found = found.read
+    read_by (came.Switched cut) found = tt
+    read_by (came.Recovered slot) found = tt
     read_by (came.Refused fault) found = tt
+    read_by (came.Ticked dues) found = tt
     read_by came.Done found = tt
 
     pub is_read : LineIsRead config ended seen later line
@@ -184,7 +193,7 @@ module _ (config : Config) (ended : Histories) where
     module _ (widen : (typed : TypedTree) (moment : ℤ) (from to earlier later : Lengths) (seen more : Histories)
         (trace : Trace) → AreWider from to earlier later seen more → IsTraceBetween typed moment from to seen trace
         → IsTraceBetween typed moment earlier later more trace) where
-      tabled_by : (trace : LineTrace) → HasFound config ended place.from place.to line trace
+      tabled_by : (trace : LineTrace) → HasFound config ended place.from place.to place.number line trace
           → IsTabled config ended seen later (text_of line.what) trace
       tabled_by (came.Fed pass rows refused) found = tt
       tabled_by (came.Asked moment trace) found = record {
@@ -193,7 +202,10 @@ module _ (config : Config) (ended : Histories) where
         of = widen found.typed moment (marked place.from) (marked place.to) (lows config.topology ended seen)
             (highs config.topology ended later) ended ended trace wider found.of;
       }
+      tabled_by (came.Switched cut) found = tt
+      tabled_by (came.Recovered slot) found = tt
       tabled_by (came.Refused fault) found = tt
+      tabled_by (came.Ticked dues) found = tt
       tabled_by came.Done found = tt
 
       pub is_tabled : LineIsTabled config ended seen later line

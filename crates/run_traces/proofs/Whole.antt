@@ -5,6 +5,7 @@ use Rattle.history_book.specs.Histories.{AreFronts, book_entry_pass, entries}
 use Rattle.history_book.specs.declared.views.History.{History}
 use Rattle.mon_config.specs.declared.config.Config.{Config}
 use Rattle.mon_topo.specs.FirstHistories.{first_histories}
+use Rattle.mon_topo.specs.HeldHistories.{AreHeld}
 use Rattle.mon_value.specs.declared.histories.Histories.{Histories}
 use Rattle.mon_value.specs.declared.positions.FoundDown.{FoundDown}
 use Rattle.mql_types.specs.Nodes.{TypedTree}
@@ -19,6 +20,7 @@ use Rattle.run_theory.proofs.Settled.{alone_beside, alone_later, placed_in_run}
 use Rattle.run_traces.specs.Headline.{RunHolds}
 use Rattle.run_traces.specs.LineCauses.{LineIsCaused}
 use Rattle.run_traces.specs.LineClaims.{AllRan, Finds, Makes}
+use Rattle.run_traces.specs.LineControls.{LineIsControlled}
 use Rattle.run_traces.specs.LineFeeds.{LineIsTold}
 use Rattle.run_traces.specs.LineForms.{LineSuits}
 use Rattle.run_traces.specs.LineFreshness.{LineIsFresh}
@@ -28,6 +30,7 @@ use Rattle.run_traces.specs.LineTables.{LineIsTabled}
 use Rattle.run_traces.specs.RanLines.{RanLine}
 use Rattle.run_traces.proofs.Acks.{acknowledged}
 use Rattle.run_traces.proofs.Causes.{is_caused}
+use Rattle.run_traces.proofs.Controlled.{is_controlled}
 use Rattle.run_traces.proofs.ListFacts.{all_as, no_item}
 use Rattle.run_traces.proofs.Owners.{are_distinct, are_not_first, are_theirs, are_under}
 use Rattle.run_traces.proofs.RunFacts.{InPlace, each_as, is_fresh, is_read, is_tabled}
@@ -47,14 +50,16 @@ module _ (widen : (typed : TypedTree) (moment : ℤ) (from to earlier later : Le
     → AreWider from to earlier later seen more → IsTraceBetween typed moment from to seen trace
     → source_of more trace ≡ source_of seen trace)
     (config : Config) (ended : Histories) (parts : List (Part RanLine))
-    (begun : AreFronts (first_histories config.topology) ended) (ran : AllRan config ended parts) where
+    (begun : AreFronts (first_histories config.topology) ended)
+    (whole : Histories) (fronts : AreFronts ended whole)
+    (held : AreHeld config.schemas config.topology config.range_points whole) (ran : AllRan config ended parts) where
   abbrev end : History → ℕ
   end h = length (entries ended h)
 
   places : Each (InPlace config ended) [] parts
   places = placed_in_run entries book_entry_pass (Makes config) (Finds config) is_entry_of ended
-      (first_length config.topology ended) end (are_under config ended) (are_distinct config ended)
-      (are_not_first config ended begun) (λ h. refl) parts ran
+      (first_length config.topology ended) end (are_under config ended whole fronts held) (are_distinct config ended whole fronts held)
+      (are_not_first config ended begun whole fronts held) (λ h. refl) parts ran
 
   pub run_holds : RunHolds config ended parts
   run_holds = record {
@@ -79,17 +84,19 @@ module _ (widen : (typed : TypedTree) (moment : ℤ) (from to earlier later : Le
       begun = begun;
       made = λ history place e there low. of_some entries book_entry_pass (Makes config) (Finds config) is_entry_of
           ended
-          (are_theirs config ended) (first_length config.topology ended) end parts history place e ran there low
+          (are_theirs config ended whole fronts held) (first_length config.topology ended) end parts history place e ran there low
           (in_list (entries ended history) place e there);
     };
     apart = record {
       later = alone_later entries book_entry_pass (Makes config) (Finds config) is_entry_of ended
-          (first_length config.topology ended) end (are_under config ended) (are_distinct config ended)
-          (are_not_first config ended begun) (λ h. refl) parts ran;
+          (first_length config.topology ended) end (are_under config ended whole fronts held) (are_distinct config ended whole fronts held)
+          (are_not_first config ended begun whole fronts held) (λ h. refl) parts ran;
       beside = alone_beside entries book_entry_pass (Makes config) (Finds config) is_entry_of ended
-          (first_length config.topology ended) end (are_under config ended) (are_distinct config ended)
-          (are_not_first config ended begun) (λ h. refl) parts ran;
+          (first_length config.topology ended) end (are_under config ended whole fronts held) (are_distinct config ended whole fronts held)
+          (are_not_first config ended begun whole fronts held) (λ h. refl) parts ran;
     };
     causes = each_as (InPlace config ended) (LineIsCaused config ended)
         (λ seen later line place. is_caused widen find rows config ended seen later line place) [] parts places;
+    controls = each_as (InPlace config ended) (LineIsControlled config ended)
+        (λ seen later line place. is_controlled config ended seen later line place) [] parts places;
   }

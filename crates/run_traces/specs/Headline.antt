@@ -1,10 +1,12 @@
 -- What holds of a run's lines and of the histories at its end.
-use Rattle.std.specs.Prelude.{ℕ, List, []}
+use Rattle.std.specs.Prelude.{ℕ, List, [], None}
 use Rattle.std.specs.List.{AllByRecursion}
 use Rattle.mon_config.specs.declared.config.Config.{Config}
 use Rattle.mon_value.specs.declared.histories.Histories.{Histories}
 use Rattle.run_theory.specs.Parts.{Each, Part, all_lines}
 use Rattle.run_traces.specs.LineCauses.{LineIsCaused}
+use Rattle.run_traces.specs.LineControls.{LineIsControlled}
+use Rattle.run_traces.specs.LineDues.{AreDue, asked_parts}
 use Rattle.run_traces.specs.LineFeeds.{AreAcknowledged, AreOfLines, LineIsTold, ShareNoEntry}
 use Rattle.run_traces.specs.LineForms.{LineSuits}
 use Rattle.run_traces.specs.LineFreshness.{LineIsFresh}
@@ -13,10 +15,12 @@ use Rattle.run_traces.specs.LineTables.{LineIsTabled}
 use Rattle.run_traces.specs.RanLines.{RanLine, parts_of, ran_lines}
 use Rattle.run_traces.specs.declared.traces.LineTrace.{LineTrace}
 use Rattle.mon_script.specs.declared.script.ScriptLine.{ScriptLine}
+use Rattle.standing.specs.StandingStates.{standing_state}
 
 -- Each line came to what a line of its form comes to; each table stands on replicas and cuts in its place, on all that
 -- had been accepted before, and on every leaf that the query wants; each accepted row is acknowledged once, under its
--- line's number; nothing else was made; and whatever was refused has its cause in its place
+-- line's number; nothing else was made; and whatever was refused has its cause in its place, and each leaf that was switched
+-- and replica that was opened stands in its place
 pub record RunHolds (config : Config) (ended : Histories) (parts : List (Part RanLine)) : Type 0 where
   pub suits : AllByRecursion LineSuits (all_lines parts)
   pub tables : Each (LineIsTabled config ended) [] parts
@@ -27,8 +31,11 @@ pub record RunHolds (config : Config) (ended : Histories) (parts : List (Part Ra
   pub made : AreOfLines config ended (all_lines parts)
   pub apart : ShareNoEntry ended parts
   pub causes : Each (LineIsCaused config ended) [] parts
+  pub controls : Each (LineIsControlled config ended) [] parts
 
--- The same of a script whose lines came to these traces, over files of these contents
-abbrev pub ScriptHolds : Config → (List ℕ → List ℕ) → Histories → List ScriptLine → List LineTrace → Type 0
-ScriptHolds config contents ended script traces =
-    RunHolds config ended (parts_of (ran_lines contents script traces))
+-- All this holds of a script whose lines came to these traces, over files of these contents, where each tick counts as
+-- the queries that it asked, one after another; and these are just those that were due
+pub record ScriptHolds (config : Config) (contents : List ℕ → List ℕ) (ended : Histories) (script : List ScriptLine)
+    (traces : List LineTrace) : Type 0 where
+  pub run : RunHolds config ended (asked_parts (parts_of (ran_lines contents script traces)))
+  pub dues : AreDue config.schemas (standing_state [] None) script traces

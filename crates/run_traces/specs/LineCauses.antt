@@ -1,7 +1,7 @@
 -- Why lines and rows were refused: each has its cause in the histories at the end, at lengths in its place.
-use Rattle.std.specs.Prelude.{◌≡◌, ◌<◌, ◌+◌, ◌-◌, ◌∷◌, ◌++◌, ℕ, ℤ, true, List, [], take, drop, slice_get}
-use Rattle.std.specs.Prelude.{Some, None, Ok, Err}
-use Rattle.std.specs.List.{AllByRecursion}
+use Rattle.std.specs.Prelude.{◌≡◌, ◌<◌, ◌+◌, ◌-◌, ◌∷◌, ◌++◌, ℕ, ℤ, Bool, true, false, not, List, [], take, drop}
+use Rattle.std.specs.Prelude.{slice_get, Some, None, Ok, Err}
+use Rattle.std.specs.List.{AllByRecursion, count_by}
 use Rattle.mon_config.specs.KeyRanges.{range_of_key}
 use Rattle.mon_config.specs.declared.config.Config.{Config}
 use Rattle.mon_points.specs.Records.{reads_of}
@@ -9,7 +9,9 @@ use Rattle.mon_points.specs.declared.records.RowRead.{RowRead}
 use Rattle.mon_points.specs.declared.records.RowRead.TheVariants as read
 use Rattle.mon_topo.specs.RangeHistories.{serving}
 use Rattle.mon_topo.specs.Serving.{is_avoided}
-use Rattle.mon_value.specs.Histories.{range_history}
+use Rattle.mon_value.specs.Histories.{leaf_history, range_history}
+use Rattle.mon_value.specs.LeafHistories.{is_down, is_switch}
+use Rattle.mon_value.specs.declared.limits.TheConstants.{MOST_SWITCHES}
 use Rattle.mon_value.specs.declared.histories.Histories.{Histories}
 use Rattle.mon_value.specs.declared.positions.FoundDown.{FoundDown}
 use Rattle.mon_value.specs.declared.positions.Range.{Range}
@@ -23,7 +25,10 @@ use Rattle.query_texts.specs.TextTypes.{text_type}
 use Rattle.query_texts.specs.declared.faults.TextFault.TheVariants as fault
 use Rattle.range_cell.specs.declared.answers.WriteFault.{WriteFault}
 use Rattle.range_cell.specs.declared.answers.WriteFault.TheVariants as unwritten
+use Rattle.mon_script.specs.declared.forms.LineForm.{LineForm}
+use Rattle.mon_script.specs.declared.forms.LineForm.TheVariants as form
 use Rattle.run_traces.specs.LinePlaces.{highs, lows}
+use Rattle.run_traces.specs.LineSwitches.{Recovery, Switch, recovery_of, switch_of}
 use Rattle.run_traces.specs.LineTables.{moment_of, text_of}
 use Rattle.run_traces.specs.RanLines.{RanLine}
 use Rattle.run_traces.specs.declared.traces.LineFault.{LineFault}
@@ -33,9 +38,42 @@ use Rattle.run_traces.specs.declared.traces.LineTrace.TheVariants as came
 use Rattle.run_traces.specs.declared.traces.RowRefusal.{RowRefusal}
 use Rattle.run_traces.specs.declared.traces.RowRefused.{RowRefused}
 use Rattle.run_traces.specs.declared.traces.RowRefused.TheVariants as refused
+use Rattle.write_core.specs.Openings.{denial_of}
 use Rattle.write_core.specs.RangeAnswers.{refusal}
+use Rattle.write_core.specs.declared.copies.Denial.{Denial}
+use Rattle.write_core.specs.declared.copies.Denial.TheVariants as denial
 use Rattle.write_core.specs.declared.refusals.Refused.{Refused}
 use Rattle.write_core.specs.declared.refusals.Refused.TheVariants as ranged
+
+-- ---- standing queries
+
+-- a line by which a query is to stand
+abbrev pub IsToStand : LineForm → Type 0
+IsToStand (form.Feed name) = ⊥
+IsToStand (form.Query moment text) = ⊥
+IsToStand (form.Check moment text) = ⊥
+IsToStand (form.Explain moment text) = ⊥
+IsToStand (form.Down leaf) = ⊥
+IsToStand (form.Up leaf) = ⊥
+IsToStand (form.Recover range leaf) = ⊥
+IsToStand (form.Standing name period text) = Unit {0}
+IsToStand (form.Tick moment) = ⊥
+IsToStand form.Together = ⊥
+IsToStand form.End = ⊥
+
+-- a line that asks those that are due
+abbrev pub AsksDue : LineForm → Type 0
+AsksDue (form.Feed name) = ⊥
+AsksDue (form.Query moment text) = ⊥
+AsksDue (form.Check moment text) = ⊥
+AsksDue (form.Explain moment text) = ⊥
+AsksDue (form.Down leaf) = ⊥
+AsksDue (form.Up leaf) = ⊥
+AsksDue (form.Recover range leaf) = ⊥
+AsksDue (form.Standing name period text) = ⊥
+AsksDue (form.Tick moment) = Unit {0}
+AsksDue form.Together = ⊥
+AsksDue form.End = ⊥
 
 -- ---- causes between two moments
 
@@ -57,12 +95,61 @@ module _ (config : Config) (ended : Histories) (from to : Lengths) where
     pub limit_is : limit ≡ config.limit
     pub above : config.limit < load typed (source_of ended trace) moment
 
-  -- why a line is refused
-  abbrev pub HasCause : List ℕ → ℤ → LineFault → Type 0
-  HasCause text moment (why.Parse parse) = text_type config.schemas text ≡ Err (fault.Parse parse)
-  HasCause text moment (why.Typing typing) = text_type config.schemas text ≡ Err (fault.Typing typing)
-  HasCause text moment (why.NoReplica range founds) = HasNoneUp range founds
-  HasCause text moment (why.StepLimit limit trace) = IsOverLimit text moment limit trace
+  -- at this length between them the leaf was as it was to be, down or up
+  pub record WasAlready (what : LineForm) (down : Bool) (cut : ℕ) : Type 0 where
+    pub switch : Switch
+    pub asked : switch_of what ≡ Some switch
+    pub way : switch.down ≡ down
+    pub between : IsBetween (from.leaves switch.leaf) (to.leaves switch.leaf) cut
+    pub already : is_down (take cut (leaf_history ended switch.leaf)) ≡ down
+
+  -- at a length between them the leaf was not so, and was switched as often as may be
+  pub record HasSwitchedEnough (what : LineForm) (count : ℕ) : Type 0 where
+    pub switch : Switch
+    pub asked : switch_of what ≡ Some switch
+    pub found : ℕ
+    pub between : IsBetween (from.leaves switch.leaf) (to.leaves switch.leaf) found
+    pub other : is_down (take found (leaf_history ended switch.leaf)) ≡ not switch.down
+    pub most : count ≡ MOST_SWITCHES
+    pub spent : count_by is_switch (take found (leaf_history ended switch.leaf)) ≡ count
+
+  -- at a length of the range's history between them it opens no replica on the leaf, for this reason
+  pub record IsDenied (what : LineForm) (told : Denial) : Type 0 where
+    pub recovery : Recovery
+    pub asked : recovery_of what ≡ Some recovery
+    pub found : ℕ
+    pub between : IsBetween (from.ranges recovery.range) (to.ranges recovery.range) found
+    pub denied : denial_of (take found (range_history ended recovery.range)) recovery.leaf ≡ Some told
+
+  -- no replica of the range was up from which rows could be copied
+  pub record HasNoSource (what : LineForm) (founds : List FoundDown) : Type 0 where
+    pub recovery : Recovery
+    pub asked : recovery_of what ≡ Some recovery
+    pub none_up : HasNoneUp recovery.range founds
+
+  -- the leaf was found down
+  pub record HasNoTarget (what : LineForm) (cut : ℕ) : Type 0 where
+    pub recovery : Recovery
+    pub asked : recovery_of what ≡ Some recovery
+    pub down : IsFoundBetween from to ended (record { leaf = recovery.leaf; cut = cut })
+
+  -- why a line is refused; what is wrong with a query that is to stand, and with a moment, is told by those that stand
+  abbrev pub HasCause : LineForm → LineFault → Type 0
+  HasCause what (why.Parse parse) = text_type config.schemas (text_of what) ≡ Err (fault.Parse parse)
+  HasCause what (why.Typing typing) = text_type config.schemas (text_of what) ≡ Err (fault.Typing typing)
+  HasCause what (why.NoReplica range founds) = HasNoneUp range founds
+  HasCause what (why.StepLimit limit trace) = IsOverLimit (text_of what) (moment_of what) limit trace
+  HasCause what (why.AlreadyDown cut) = WasAlready what true cut
+  HasCause what (why.AlreadyUp cut) = WasAlready what false cut
+  HasCause what (why.SwitchesSpent count) = HasSwitchedEnough what count
+  HasCause what (why.Serving slot) = IsDenied what (denial.ServesThere slot)
+  HasCause what why.ThreeServing = IsDenied what denial.ServesFully
+  HasCause what (why.SlotsSpent count) = IsDenied what (denial.SlotsSpent count)
+  HasCause what (why.SourceDown founds) = HasNoSource what founds
+  HasCause what (why.TargetDown cut) = HasNoTarget what cut
+  HasCause what why.NameTaken = IsToStand what
+  HasCause what (why.TooManyDue most) = AsksDue what
+  HasCause what (why.Backwards last) = AsksDue what
 
   -- the range's history at a length between them refuses the row so
   pub record IsRefusedByRange (row : Row) (told : Refused) : Type 0 where
@@ -124,9 +211,11 @@ module _ (config : Config) (ended : Histories) where
   IsCaused seen later line (came.Fed pass accepted refusals) =
       RowsHaveCauses config ended seen later line pass (reads_of config.schemas line.content) accepted 0 refusals
   IsCaused seen later line (came.Asked moment trace) = Unit {0}
+  IsCaused seen later line (came.Ticked dues) = Unit {0}
+  IsCaused seen later line (came.Switched cut) = Unit {0}
+  IsCaused seen later line (came.Recovered slot) = Unit {0}
   IsCaused seen later line (came.Refused fault) =
-      HasCause config ended (lows config.topology ended seen) (highs config.topology ended later) (text_of line.what)
-      (moment_of line.what) fault
+      HasCause config ended (lows config.topology ended seen) (highs config.topology ended later) line.what fault
   IsCaused seen later line came.Done = Unit {0}
 
   abbrev pub LineIsCaused : List RanLine → List RanLine → RanLine → Type 0

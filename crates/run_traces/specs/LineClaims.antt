@@ -15,7 +15,9 @@ use Rattle.mon_value.specs.Histories.{range_history}
 use Rattle.mon_value.specs.declared.histories.Histories.{Histories}
 use Rattle.mon_value.specs.declared.positions.Leaf.{Leaf}
 use Rattle.mon_value.specs.declared.positions.Range.{Range}
+use Rattle.mon_value.specs.declared.positions.Slot.{Slot}
 use Rattle.mon_value.specs.declared.rows.Row.{Row}
+use Rattle.mon_script.specs.declared.forms.LineForm.{LineForm}
 use Rattle.mql_types.specs.Nodes.{TypedTree}
 use Rattle.query_core.specs.Traces.{IsBetween, IsFreshSince, IsTraceBetween, Lengths}
 use Rattle.query_core.specs.declared.answers.Trace.{Trace}
@@ -31,7 +33,9 @@ use Rattle.run_traces.specs.LineForms.{LineSuits}
 use Rattle.run_traces.specs.LineFreshness.{cuts_named}
 use Rattle.run_traces.specs.LinePlaces.{first_length, is_fed, is_row}
 use Rattle.run_traces.specs.LineReads.{IsReadByPlan}
-use Rattle.run_traces.specs.LineTables.{moment_of, text_of}
+use Rattle.run_traces.specs.LineSwitches.{IsRecoveredBetween, IsSwitchedBetween, recovers, recovery_of, switch_of}
+use Rattle.run_traces.specs.LineSwitches.{switches}
+use Rattle.run_traces.specs.LineTables.{text_of}
 use Rattle.run_traces.specs.RanLines.{RanLine}
 use Rattle.run_traces.specs.declared.traces.LineTrace.{LineTrace}
 use Rattle.run_traces.specs.declared.traces.RowRefusal.{RowRefusal}
@@ -61,14 +65,27 @@ module _ (config : Config) where
     pub puts : (leaf : Leaf) → flat_map book_row (made (of.Leaf leaf)) ≡ []
     pub acks : (range : Range) → flat_map book_row (made (of.Range range)) ≡ filter (lies_in config range) accepted
 
-  abbrev pub HasMade : ℕ → LineTrace → (History → List BookEntry) → Type 0
-  HasMade n (came.Fed pass accepted refused) made = (pass ≡ n) × FeedMade pass accepted made
-  HasMade n (came.Asked moment trace) made = (history : History) → made history ≡ []
-  HasMade n (came.Refused why) made = (history : History) → made history ≡ []
-  HasMade n came.Done made = (history : History) → made history ≡ []
+  -- a switch made one entry at most, the one that is asked for
+  pub record SwitchMade (what : LineForm) (made : History → List BookEntry) : Type 0 where
+    pub own : (history : History) → AllByRecursion (λ e. switches (switch_of what) history e ≡ true) (made history)
+    pub few : (history : History) → length (made history) ≤ 1
+
+  -- a recovery made nothing but what opens its slot
+  abbrev pub RecoveryMade : LineForm → Slot → (History → List BookEntry) → Type 0
+  RecoveryMade what slot made = (history : History)
+      → AllByRecursion (λ e. recovers (recovery_of what) slot history e ≡ true) (made history)
+
+  abbrev pub HasMade : ℕ → LineForm → LineTrace → (History → List BookEntry) → Type 0
+  HasMade n what (came.Fed pass accepted refused) made = (pass ≡ n) × FeedMade pass accepted made
+  HasMade n what (came.Asked moment trace) made = (history : History) → made history ≡ []
+  HasMade n what (came.Ticked dues) made = (history : History) → made history ≡ []
+  HasMade n what (came.Switched cut) made = SwitchMade what made
+  HasMade n what (came.Recovered slot) made = RecoveryMade what slot made
+  HasMade n what (came.Refused why) made = (history : History) → made history ≡ []
+  HasMade n what came.Done made = (history : History) → made history ≡ []
 
   abbrev pub Makes : ℕ → RanLine → (History → List BookEntry) → Type 0
-  Makes n line made = HasMade n line.trace made
+  Makes n line made = HasMade n line.what line.trace made
 
 -- ---- what a line found
 
@@ -124,24 +141,27 @@ module _ (config : Config) (seen : Histories) (from to : History → ℕ) where
     pub fresh : IsFreshSince (marked from) seen trace
     pub read : IsReadByPlan config seen text trace
 
-  abbrev pub HasFound : RanLine → LineTrace → Type 0
-  HasFound line (came.Fed pass accepted refused) = FeedFound line.content pass accepted refused
-  HasFound line (came.Asked moment trace) = LookFound (text_of line.what) moment trace
-  HasFound line (came.Refused why) =
-      HasCause config seen (marked from) (marked to) (text_of line.what) (moment_of line.what) why
-  HasFound line came.Done = Unit {0}
+  -- under its caller's number; a tick stands as the queries that it asked
+  abbrev pub HasFound : ℕ → RanLine → LineTrace → Type 0
+  HasFound n line (came.Fed pass accepted refused) = FeedFound line.content pass accepted refused
+  HasFound n line (came.Asked moment trace) = LookFound (text_of line.what) moment trace
+  HasFound n line (came.Ticked dues) = ⊥
+  HasFound n line (came.Switched cut) = IsSwitchedBetween seen from to n line.what cut
+  HasFound n line (came.Recovered slot) = IsRecoveredBetween seen from to n line.what slot
+  HasFound n line (came.Refused why) = HasCause config seen (marked from) (marked to) line.what why
+  HasFound n line came.Done = Unit {0}
 
   -- and each cut that a line names lies between
-  abbrev pub CutsLieBetween : LineTrace → Leaf → Type 0
-  CutsLieBetween trace leaf =
-      AllByRecursion (IsBetween (from (of.Leaf leaf)) (to (of.Leaf leaf))) (cuts_named leaf trace)
+  abbrev pub CutsLieBetween : RanLine → Leaf → Type 0
+  CutsLieBetween line leaf =
+      AllByRecursion (IsBetween (from (of.Leaf leaf)) (to (of.Leaf leaf))) (cuts_named leaf line.what line.trace)
 
-  pub record Finds (line : RanLine) : Type 0 where
+  pub record Finds (n : ℕ) (line : RanLine) : Type 0 where
     pub forth : AreBelow from to
     pub suits : LineSuits line
     pub told : IsTold config line.content line.trace
-    pub cuts : (leaf : Leaf) → leaf.0 < length seen.leaves → CutsLieBetween line.trace leaf
-    pub found : HasFound line line.trace
+    pub cuts : (leaf : Leaf) → leaf.0 < length seen.leaves → CutsLieBetween line leaf
+    pub found : HasFound n line line.trace
 
 -- a part more wrote, over what the script's caller had seen before it and has seen behind it
 abbrev pub HasWritten : Config → Histories → Histories → Part RanLine → Type 0

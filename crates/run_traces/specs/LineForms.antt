@@ -1,4 +1,4 @@
--- What lines of each form come to.
+-- What lines of each form come to, where a tick counts as the queries that it asked.
 use Rattle.std.specs.Prelude.{◌≡◌, ℤ}
 use Rattle.run_traces.specs.RanLines.{RanLine}
 use Rattle.run_traces.specs.declared.traces.LineTrace.{LineTrace}
@@ -11,12 +11,38 @@ abbrev pub IsAnswered : ℤ → LineTrace → Type 0
 IsAnswered moment (came.Fed pass accepted refused) = ⊥
 IsAnswered moment (came.Asked at trace) = at ≡ moment
 IsAnswered moment (came.Refused fault) = Unit {0}
+IsAnswered moment (came.Ticked dues) = ⊥
+IsAnswered moment (came.Switched length) = ⊥
+IsAnswered moment (came.Recovered slot) = ⊥
 IsAnswered moment came.Done = ⊥
+
+-- a leaf is switched, or the line is refused
+abbrev pub IsSwitched : LineTrace → Type 0
+IsSwitched (came.Fed pass accepted refused) = ⊥
+IsSwitched (came.Asked at trace) = ⊥
+IsSwitched (came.Ticked dues) = ⊥
+IsSwitched (came.Switched length) = Unit {0}
+IsSwitched (came.Recovered slot) = ⊥
+IsSwitched (came.Refused fault) = Unit {0}
+IsSwitched came.Done = ⊥
+
+-- a range is recovered, or the line is refused
+abbrev pub IsRecovered : LineTrace → Type 0
+IsRecovered (came.Fed pass accepted refused) = ⊥
+IsRecovered (came.Asked at trace) = ⊥
+IsRecovered (came.Ticked dues) = ⊥
+IsRecovered (came.Switched length) = ⊥
+IsRecovered (came.Recovered slot) = Unit {0}
+IsRecovered (came.Refused fault) = Unit {0}
+IsRecovered came.Done = ⊥
 
 -- a feed is never refused as a whole
 abbrev pub IsFed : LineTrace → Type 0
 IsFed (came.Fed pass accepted refused) = Unit {0}
 IsFed (came.Asked at trace) = ⊥
+IsFed (came.Ticked dues) = ⊥
+IsFed (came.Switched length) = ⊥
+IsFed (came.Recovered slot) = ⊥
 IsFed (came.Refused fault) = ⊥
 IsFed came.Done = ⊥
 
@@ -24,14 +50,42 @@ IsFed came.Done = ⊥
 abbrev pub IsIdle : LineTrace → Type 0
 IsIdle (came.Fed pass accepted refused) = ⊥
 IsIdle (came.Asked at trace) = ⊥
+IsIdle (came.Ticked dues) = ⊥
+IsIdle (came.Switched length) = ⊥
+IsIdle (came.Recovered slot) = ⊥
 IsIdle (came.Refused fault) = ⊥
 IsIdle came.Done = Unit {0}
+
+-- a query stands from then on, or the line is refused
+abbrev pub IsStanding : LineTrace → Type 0
+IsStanding (came.Fed pass accepted refused) = ⊥
+IsStanding (came.Asked at trace) = ⊥
+IsStanding (came.Ticked dues) = ⊥
+IsStanding (came.Switched length) = ⊥
+IsStanding (came.Recovered slot) = ⊥
+IsStanding (came.Refused fault) = Unit {0}
+IsStanding came.Done = Unit {0}
+
+-- a moment isn't taken; where one is, the queries that were due stand in the line's place
+abbrev pub IsNotTaken : LineTrace → Type 0
+IsNotTaken (came.Fed pass accepted refused) = ⊥
+IsNotTaken (came.Asked at trace) = ⊥
+IsNotTaken (came.Ticked dues) = ⊥
+IsNotTaken (came.Switched length) = ⊥
+IsNotTaken (came.Recovered slot) = ⊥
+IsNotTaken (came.Refused fault) = Unit {0}
+IsNotTaken came.Done = ⊥
 
 abbrev pub Suits : LineForm → LineTrace → Type 0
 Suits (form.Feed name) trace = IsFed trace
 Suits (form.Query moment text) trace = IsAnswered moment trace
 Suits (form.Check moment text) trace = IsAnswered moment trace
 Suits (form.Explain moment text) trace = IsAnswered moment trace
+Suits (form.Down leaf) trace = IsSwitched trace
+Suits (form.Up leaf) trace = IsSwitched trace
+Suits (form.Recover range leaf) trace = IsRecovered trace
+Suits (form.Standing name period text) trace = IsStanding trace
+Suits (form.Tick moment) trace = IsNotTaken trace
 Suits form.Together trace = IsIdle trace
 Suits form.End trace = IsIdle trace
 

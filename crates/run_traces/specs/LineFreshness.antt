@@ -1,5 +1,6 @@
 -- Each table stands on all rows that had been accepted before, as far as its line's caller had seen.
-use Rattle.std.specs.Prelude.{◌<◌, ◌≤◌, ℕ, List, [], ◌∷◌, Contains, filter, length, map}
+use Rattle.std.specs.Prelude.{◌<◌, ◌≤◌, ℕ, List, [], ◌∷◌, Contains, filter, length, map, Option, Some, None}
+use Rattle.std.specs.Prelude.{if◌then◌else◌}
 use Rattle.std.specs.List.{AllByRecursion, flat_map}
 use Rattle.mon_value.specs.Positions.{same_leaf}
 use Rattle.mon_value.specs.declared.histories.Histories.{Histories}
@@ -8,6 +9,8 @@ use Rattle.mon_value.specs.declared.positions.Leaf.{Leaf}
 use Rattle.query_core.specs.Traces.{cut_of, source_of}
 use Rattle.range_cell.specs.declared.answers.WriteFault.{WriteFault}
 use Rattle.range_cell.specs.declared.answers.WriteFault.TheVariants as unwritten
+use Rattle.mon_script.specs.declared.forms.LineForm.{LineForm}
+use Rattle.mon_script.specs.declared.forms.LineForm.TheVariants as form
 use Rattle.run_traces.specs.RanLines.{RanLine, accepted_rows}
 use Rattle.run_traces.specs.declared.traces.LineFault.{LineFault}
 use Rattle.run_traces.specs.declared.traces.LineFault.TheVariants as why
@@ -34,27 +37,60 @@ abbrev pub row_cuts : Leaf → RowRefused → List ℕ
 row_cuts leaf (refused.Read fault) = []
 row_cuts leaf (refused.Write fault) = unwritten_cuts leaf fault
 
-abbrev pub refusal_cuts : Leaf → LineFault → List ℕ
-refusal_cuts leaf (why.Parse fault) = []
-refusal_cuts leaf (why.Typing fault) = []
-refusal_cuts leaf (why.NoReplica range founds) = found_cuts leaf founds
-refusal_cuts leaf (why.StepLimit limit trace) = cut_of trace leaf ∷ []
+-- the leaf that a line takes down or up, or recovers a range to
+abbrev pub leaf_of : LineForm → Option Leaf
+leaf_of (form.Feed name) = None
+leaf_of (form.Query moment text) = None
+leaf_of (form.Check moment text) = None
+leaf_of (form.Explain moment text) = None
+leaf_of (form.Down leaf) = Some leaf
+leaf_of (form.Up leaf) = Some leaf
+leaf_of (form.Recover range leaf) = Some leaf
+leaf_of (form.Standing name period text) = None
+leaf_of (form.Tick moment) = None
+leaf_of form.Together = None
+leaf_of form.End = None
+
+-- a cut of that leaf
+abbrev pub cut_at : Leaf → Option Leaf → ℕ → List ℕ
+cut_at leaf None cut = []
+cut_at leaf (Some other) cut = if same_leaf leaf other then cut ∷ [] else []
+
+abbrev pub refusal_cuts : Leaf → LineForm → LineFault → List ℕ
+refusal_cuts leaf what (why.Parse fault) = []
+refusal_cuts leaf what (why.Typing fault) = []
+refusal_cuts leaf what (why.NoReplica range founds) = found_cuts leaf founds
+refusal_cuts leaf what (why.StepLimit limit trace) = cut_of trace leaf ∷ []
+refusal_cuts leaf what (why.AlreadyDown cut) = cut_at leaf (leaf_of what) cut
+refusal_cuts leaf what (why.AlreadyUp cut) = cut_at leaf (leaf_of what) cut
+refusal_cuts leaf what (why.SwitchesSpent count) = []
+refusal_cuts leaf what (why.Serving slot) = []
+refusal_cuts leaf what why.ThreeServing = []
+refusal_cuts leaf what (why.SlotsSpent count) = []
+refusal_cuts leaf what (why.SourceDown founds) = found_cuts leaf founds
+refusal_cuts leaf what (why.TargetDown cut) = cut_at leaf (leaf_of what) cut
+refusal_cuts leaf what why.NameTaken = []
+refusal_cuts leaf what (why.TooManyDue most) = []
+refusal_cuts leaf what (why.Backwards last) = []
 
 -- in its trace or in a refusal
-abbrev pub cuts_named : Leaf → LineTrace → List ℕ
-cuts_named leaf (came.Fed pass accepted refusals) =
+abbrev pub cuts_named : Leaf → LineForm → LineTrace → List ℕ
+cuts_named leaf what (came.Fed pass accepted refusals) =
     flat_map (λ (refusal : RowRefusal). row_cuts leaf refusal.fault) refusals
-cuts_named leaf (came.Asked moment trace) = cut_of trace leaf ∷ []
-cuts_named leaf (came.Refused fault) = refusal_cuts leaf fault
-cuts_named leaf came.Done = []
+cuts_named leaf what (came.Asked moment trace) = cut_of trace leaf ∷ []
+cuts_named leaf what (came.Ticked dues) = []
+cuts_named leaf what (came.Switched cut) = cut_at leaf (leaf_of what) cut
+cuts_named leaf what (came.Recovered slot) = []
+cuts_named leaf what (came.Refused fault) = refusal_cuts leaf what fault
+cuts_named leaf what came.Done = []
 
 -- ---- freshness
 
 -- each cut that a line names of a leaf is no less than those that these lines name
-abbrev pub CutsRise : List RanLine → LineTrace → Leaf → Type 0
-CutsRise seen trace leaf = AllByRecursion
-    (λ line. AllByRecursion (λ cut. AllByRecursion (λ own. cut ≤ own) (cuts_named leaf trace))
-    (cuts_named leaf line.trace)) seen
+abbrev pub CutsRise : List RanLine → RanLine → Leaf → Type 0
+CutsRise seen line leaf = AllByRecursion
+    (λ before. AllByRecursion (λ cut. AllByRecursion (λ own. cut ≤ own) (cuts_named leaf line.what line.trace))
+    (cuts_named leaf before.what before.trace)) seen
 
 module _ (ended : Histories) where
   -- a table stands on each row that these lines accepted
@@ -62,10 +98,13 @@ module _ (ended : Histories) where
   HoldsRows seen (came.Fed pass accepted refusals) = Unit {0}
   HoldsRows seen (came.Asked moment trace) =
       AllByRecursion (λ line. AllByRecursion (Contains (source_of ended trace)) (accepted_rows line)) seen
+  HoldsRows seen (came.Ticked dues) = Unit {0}
+  HoldsRows seen (came.Switched cut) = Unit {0}
+  HoldsRows seen (came.Recovered slot) = Unit {0}
   HoldsRows seen (came.Refused fault) = Unit {0}
   HoldsRows seen came.Done = Unit {0}
 
   -- of each line, with those that its caller had seen
   abbrev pub LineIsFresh : List RanLine → List RanLine → RanLine → Type 0
   LineIsFresh seen later line = HoldsRows seen line.trace
-      × ((leaf : Leaf) → leaf.0 < length ended.leaves → CutsRise seen line.trace leaf)
+      × ((leaf : Leaf) → leaf.0 < length ended.leaves → CutsRise seen line leaf)

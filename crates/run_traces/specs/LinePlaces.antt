@@ -1,6 +1,6 @@
 -- Which entries of a history are a line's, and the line's place there: both are computed from the histories at the end
 -- of the run and from what the lines came to.
-use Rattle.std.specs.Prelude.{ℕ, nat_eq, ◌&&◌, Bool, false, List, length, nat_le}
+use Rattle.std.specs.Prelude.{ℕ, ◌+◌, nat_eq, ◌&&◌, Bool, false, List, length, nat_le}
 use Rattle.std.specs.Prelude.{if◌then◌else◌}
 use Rattle.std.specs.List.{list_any}
 use Rattle.std.specs.Ordering.{int_eq}
@@ -18,6 +18,8 @@ use Rattle.mon_value.specs.declared.histories.RangeEntry.TheVariants as range_en
 use Rattle.mon_value.specs.declared.rows.Row.{Row}
 use Rattle.query_core.specs.Traces.{Lengths}
 use Rattle.run_theory.specs.InPlace as theory
+use Rattle.mon_script.specs.declared.forms.LineForm.{LineForm}
+use Rattle.run_traces.specs.LineSwitches.{recovers, recovery_of, switch_of, switches}
 use Rattle.run_traces.specs.RanLines.{RanLine}
 use Rattle.run_traces.specs.declared.traces.LineTrace.{LineTrace}
 use Rattle.run_traces.specs.declared.traces.LineTrace.TheVariants as came
@@ -37,15 +39,20 @@ is_fed pass rows (one.Leaf (entry.Up by)) = false
 is_fed pass rows (one.Range (range_entry.Opened by slot leaf)) = false
 is_fed pass rows (one.Range (range_entry.Acked by row ack)) = nat_eq by pass && list_any (is_row row) rows
 
-abbrev pub is_traced : LineTrace → BookEntry → Bool
-is_traced (came.Fed pass accepted refused) e = is_fed pass accepted e
-is_traced (came.Asked moment trace) e = false
-is_traced (came.Refused fault) e = false
-is_traced came.Done e = false
+abbrev pub is_traced : LineForm → LineTrace → History → ℕ → BookEntry → Bool
+is_traced what (came.Fed pass accepted refused) history place e = is_fed pass accepted e
+is_traced what (came.Asked moment trace) history place e = false
+is_traced what (came.Ticked dues) history place e = false
+is_traced what (came.Switched cut) history place e =
+    switches (switch_of what) history e && nat_eq (place + 1) cut
+is_traced what (came.Recovered slot) history place e = recovers (recovery_of what) slot history e
+is_traced what (came.Refused fault) history place e = false
+is_traced what came.Done history place e = false
 
--- whether the entry at a place of a history is of a line: a feed has those of the rows that it accepted
+-- whether the entry at a place of a history is of a line: a feed has those of the rows that it accepted, a switch of a
+-- leaf has the one that is the last of so many, and a recovery has those that open its slot
 abbrev pub is_entry_of : RanLine → History → ℕ → BookEntry → Bool
-is_entry_of line history place e = is_traced line.trace e
+is_entry_of line history place e = is_traced line.what line.trace history place e
 
 -- ---- where a line stands
 

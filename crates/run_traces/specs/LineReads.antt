@@ -27,6 +27,9 @@ module _ (config : Config) (ended : Histories) where
   abbrev pub IsRead : List ℕ → LineTrace → Type 0
   IsRead text (came.Fed pass accepted refused) = Unit {0}
   IsRead text (came.Asked moment trace) = IsReadByPlan text trace
+  IsRead text (came.Ticked dues) = Unit {0}
+  IsRead text (came.Switched cut) = Unit {0}
+  IsRead text (came.Recovered slot) = Unit {0}
   IsRead text (came.Refused fault) = Unit {0}
   IsRead text came.Done = Unit {0}
 

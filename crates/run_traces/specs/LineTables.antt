@@ -13,12 +13,17 @@ use Rattle.run_traces.specs.declared.traces.LineTrace.TheVariants as came
 use Rattle.mon_script.specs.declared.forms.LineForm.{LineForm}
 use Rattle.mon_script.specs.declared.forms.LineForm.TheVariants as form
 
--- the text that a line asks, if it asks one
+-- the text that a line asks, or has stand, if it has one
 abbrev pub text_of : LineForm → List ℕ
 text_of (form.Feed name) = []
 text_of (form.Query moment text) = text
 text_of (form.Check moment text) = text
 text_of (form.Explain moment text) = text
+text_of (form.Down leaf) = []
+text_of (form.Up leaf) = []
+text_of (form.Recover range leaf) = []
+text_of (form.Standing name period text) = text
+text_of (form.Tick moment) = []
 text_of form.Together = []
 text_of form.End = []
 
@@ -28,6 +33,11 @@ moment_of (form.Feed name) = pos 0
 moment_of (form.Query moment text) = moment
 moment_of (form.Check moment text) = moment
 moment_of (form.Explain moment text) = moment
+moment_of (form.Down leaf) = pos 0
+moment_of (form.Up leaf) = pos 0
+moment_of (form.Recover range leaf) = pos 0
+moment_of (form.Standing name period text) = pos 0
+moment_of (form.Tick moment) = moment
 moment_of form.Together = pos 0
 moment_of form.End = pos 0
 
@@ -43,6 +53,9 @@ module _ (config : Config) (ended : Histories) where
   abbrev pub IsTabled : List RanLine → List RanLine → List ℕ → LineTrace → Type 0
   IsTabled seen later text (came.Fed pass accepted refused) = Unit {0}
   IsTabled seen later text (came.Asked moment trace) = IsLookedAt seen later text moment trace
+  IsTabled seen later text (came.Ticked dues) = Unit {0}
+  IsTabled seen later text (came.Switched cut) = Unit {0}
+  IsTabled seen later text (came.Recovered slot) = Unit {0}
   IsTabled seen later text (came.Refused fault) = Unit {0}
   IsTabled seen later text came.Done = Unit {0}
 

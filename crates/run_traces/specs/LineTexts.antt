@@ -1,12 +1,12 @@
 -- What each line prints, by the script, the files, what the lines came to and the histories at the end.
 use Rattle.std.specs.Prelude.{ℕ, ℤ, ◌+◌, Bool, false, List, [], ◌∷◌, ◌++◌, codes, length, get_or, Result, Ok, Err}
-use Rattle.std.specs.Prelude.{if◌then◌else◌}
-use Rattle.std.specs.Fmt.{decimal}
+use Rattle.std.specs.Prelude.{Option, Some, None, if◌then◌else◌}
+use Rattle.std.specs.Fmt.{decimal, signed_decimal}
 use Rattle.std.specs.List.{flat_map}
 use Rattle.mon_config.specs.declared.config.Config.{Config}
 use Rattle.mon_points.specs.FaultTexts.{row_fault_text}
 use Rattle.mon_table.specs.Tables.{newline, table_text}
-use Rattle.mon_topo.specs.NameTexts.{down_text}
+use Rattle.mon_topo.specs.NameTexts.{down_text, founds_text, leaf_text, range_text}
 use Rattle.mon_topo.specs.Zones.{leaves_in}
 use Rattle.mon_topo.specs.declared.zones.ZoneSpec.{ZoneSpec}
 use Rattle.mon_value.specs.Columns.{column_names}
@@ -27,8 +27,13 @@ use Rattle.query_texts.specs.TextTypes.{text_type}
 use Rattle.query_texts.specs.declared.faults.TextFault.{TextFault}
 use Rattle.range_cell.specs.declared.answers.WriteFault.{WriteFault}
 use Rattle.range_cell.specs.declared.answers.WriteFault.TheVariants as unwritten
+use Rattle.mon_value.specs.declared.positions.Slot.{Slot}
+use Rattle.run_traces.specs.LineSwitches.{Recovery, Switch, recovery_of, switch_of}
 use Rattle.run_traces.specs.LineTables.{text_of}
 use Rattle.run_traces.specs.RanLines.{RanLine}
+use Rattle.run_traces.specs.declared.traces.DueEnd.{DueEnd}
+use Rattle.run_traces.specs.declared.traces.DueEnd.TheVariants as end
+use Rattle.run_traces.specs.declared.traces.DueTrace.{DueTrace}
 use Rattle.run_traces.specs.declared.traces.LineFault.{LineFault}
 use Rattle.run_traces.specs.declared.traces.LineFault.TheVariants as why
 use Rattle.run_traces.specs.declared.traces.LineTrace.{LineTrace}
@@ -38,6 +43,7 @@ use Rattle.run_traces.specs.declared.traces.RowRefused.{RowRefused}
 use Rattle.run_traces.specs.declared.traces.RowRefused.TheVariants as refused
 use Rattle.mon_script.specs.declared.forms.LineForm.{LineForm}
 use Rattle.mon_script.specs.declared.forms.LineForm.TheVariants as form
+use Rattle.standing.specs.declared.dues.Due.{Due}
 use Rattle.write_core.specs.Refusals.{no_zone_text, refused_text}
 use Rattle.write_core.specs.declared.refusals.Refused.TheVariants as ranged
 
@@ -74,6 +80,11 @@ file_of (form.Feed name) = name
 file_of (form.Query moment text) = []
 file_of (form.Check moment text) = []
 file_of (form.Explain moment text) = []
+file_of (form.Down leaf) = []
+file_of (form.Up leaf) = []
+file_of (form.Recover range leaf) = []
+file_of (form.Standing name period text) = []
+file_of (form.Tick moment) = []
 file_of form.Together = []
 file_of form.End = []
 
@@ -111,6 +122,44 @@ leaf_lines trace n (name ∷ names) =
 abbrev pub explanation : List ZoneSpec → TypedTree → Trace → List ℕ
 explanation zones typed trace = flat_map op_line (op_levels typed) ++ leaf_lines trace 0 (leaves_in zones)
 
+-- ---- leaves that are switched, and replicas that are opened
+
+abbrev pub way_text : Bool → List ℕ
+way_text down = if down then codes "down" else codes "up"
+
+-- the leaf that went down, or came up
+abbrev pub switch_text : List ZoneSpec → Option Switch → List ℕ
+switch_text zones None = []
+switch_text zones (Some switch) =
+    way_text switch.down ++ (codes " " ++ (leaf_text zones switch.leaf ++ (codes ": done" ++ newline)))
+
+-- the range and the leaf, and the slot that was opened
+abbrev pub recovery_text : List ZoneSpec → Option Recovery → Slot → List ℕ
+recovery_text zones None slot = []
+recovery_text zones (Some recovery) slot =
+    codes "recover " ++ (range_text zones recovery.range ++ (codes " " ++ (leaf_text zones recovery.leaf
+    ++ (codes ": slot " ++ (decimal slot.0 ++ newline)))))
+
+-- ---- standing queries
+
+-- a query stands from then on; a line that begins a block or ends it prints nothing
+abbrev pub done_text : LineForm → List ℕ
+done_text (form.Feed name) = []
+done_text (form.Query moment text) = []
+done_text (form.Check moment text) = []
+done_text (form.Explain moment text) = []
+done_text (form.Down leaf) = []
+done_text (form.Up leaf) = []
+done_text (form.Recover range leaf) = []
+done_text (form.Standing name period text) = codes "standing " ++ (name ++ (codes ": added" ++ newline))
+done_text (form.Tick moment) = []
+done_text form.Together = []
+done_text form.End = []
+
+-- the name of a query that was due, and when
+abbrev pub due_heading : Due → List ℕ
+due_heading due = due.name ++ (codes " at " ++ (signed_decimal due.at ++ (codes ":" ++ newline)))
+
 -- ---- lines
 
 abbrev pub line_fault_text : List ZoneSpec → LineFault → List ℕ
@@ -118,6 +167,17 @@ line_fault_text zones (why.Parse fault) = codes "Parse " ++ parse_fault_text fau
 line_fault_text zones (why.Typing fault) = codes "Typing " ++ type_fault_text fault
 line_fault_text zones (why.NoReplica range founds) = codes "NoReplica " ++ down_text zones range founds
 line_fault_text zones (why.StepLimit limit trace) = limit_text limit
+line_fault_text zones (why.AlreadyDown cut) = codes "AlreadyDown " ++ decimal cut
+line_fault_text zones (why.AlreadyUp cut) = codes "AlreadyUp " ++ decimal cut
+line_fault_text zones (why.SwitchesSpent count) = codes "SwitchesSpent " ++ decimal count
+line_fault_text zones (why.Serving slot) = codes "Serving " ++ decimal slot.0
+line_fault_text zones why.ThreeServing = codes "ThreeServing"
+line_fault_text zones (why.SlotsSpent count) = codes "SlotsSpent " ++ decimal count
+line_fault_text zones (why.SourceDown founds) = codes "SourceDown:" ++ founds_text zones founds
+line_fault_text zones (why.TargetDown cut) = codes "TargetDown " ++ decimal cut
+line_fault_text zones why.NameTaken = codes "NameTaken"
+line_fault_text zones (why.TooManyDue most) = codes "TooManyDue " ++ decimal most
+line_fault_text zones (why.Backwards last) = codes "Backwards " ++ signed_decimal last
 
 abbrev pub refused_line : List ZoneSpec → LineFault → List ℕ
 refused_line zones fault = codes "refused: " ++ (line_fault_text zones fault ++ newline)
@@ -134,6 +194,11 @@ module _ (config : Config) (ended : Histories) where
   typed_text (form.Check at text) moment trace typed = trace_table typed moment trace
   typed_text (form.Explain at text) moment trace typed =
       trace_table typed moment trace ++ explanation config.topology typed trace
+  typed_text (form.Down leaf) moment trace typed = []
+  typed_text (form.Up leaf) moment trace typed = []
+  typed_text (form.Recover range leaf) moment trace typed = []
+  typed_text (form.Standing name period text) moment trace typed = []
+  typed_text (form.Tick at) moment trace typed = []
   typed_text form.Together moment trace typed = []
   typed_text form.End moment trace typed = []
 
@@ -141,12 +206,24 @@ module _ (config : Config) (ended : Histories) where
   asked_text what moment trace (Ok typed) = typed_text what moment trace typed
   asked_text what moment trace (Err fault) = []
 
+  -- what a query that was due prints: its name and its time, and then its table or its refusal
+  abbrev pub due_end_text : Due → DueEnd → List ℕ
+  due_end_text due (end.Answered trace) =
+      asked_text (form.Query due.at due.text) due.at trace (text_type config.schemas due.text)
+  due_end_text due (end.Refused fault) = refused_line config.topology fault
+
+  abbrev pub due_text : DueTrace → List ℕ
+  due_text one = due_heading one.due ++ due_end_text one.due one.end
+
   abbrev pub text_by : LineForm → List ℕ → LineTrace → List ℕ
   text_by what text (came.Fed pass accepted refused) =
       feed_text config.topology (file_of what) (length accepted) refused
   text_by what text (came.Asked moment trace) = asked_text what moment trace (text_type config.schemas text)
+  text_by what text (came.Ticked dues) = flat_map due_text dues
+  text_by what text (came.Switched cut) = switch_text config.topology (switch_of what)
+  text_by what text (came.Recovered slot) = recovery_text config.topology (recovery_of what) slot
   text_by what text (came.Refused fault) = refused_line config.topology fault
-  text_by what text came.Done = []
+  text_by what text came.Done = done_text what
 
   -- what a line prints
   abbrev pub line_text : RanLine → List ℕ

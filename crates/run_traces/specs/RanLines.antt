@@ -23,6 +23,11 @@ content_for contents (form.Feed name) = contents name
 content_for contents (form.Query moment text) = []
 content_for contents (form.Check moment text) = []
 content_for contents (form.Explain moment text) = []
+content_for contents (form.Down leaf) = []
+content_for contents (form.Up leaf) = []
+content_for contents (form.Recover range leaf) = []
+content_for contents (form.Standing name period text) = []
+content_for contents (form.Tick moment) = []
 content_for contents form.Together = []
 content_for contents form.End = []
 
@@ -47,6 +52,8 @@ part_at None line mark.Closes = []
 part_at (Some lines) line mark.Closes = Beside lines ∷ []
 part_at None line mark.Acts = Alone line ∷ []
 part_at (Some lines) line mark.Acts = []
+part_at None line mark.Lone = Alone line ∷ []
+part_at (Some lines) line mark.Lone = []
 
 -- the block that is under way behind it
 abbrev pub block_behind : Block → RanLine → Mark → Block
@@ -55,6 +62,8 @@ block_behind (Some lines) line mark.Opens = Some lines
 block_behind block line mark.Closes = None
 block_behind None line mark.Acts = None
 block_behind (Some lines) line mark.Acts = Some (lines ++ line ∷ [])
+block_behind None line mark.Lone = None
+block_behind (Some lines) line mark.Lone = Some (lines ++ line ∷ [])
 
 abbrev pub parts_from : Block → List RanLine → List (Part RanLine)
 parts_from None [] = []
@@ -71,6 +80,7 @@ abbrev pub acts_by : Mark → Bool
 acts_by mark.Opens = false
 acts_by mark.Closes = false
 acts_by mark.Acts = true
+acts_by mark.Lone = true
 
 abbrev pub acts : RanLine → Bool
 acts line = acts_by (mark_of line.what)
@@ -80,6 +90,9 @@ acts line = acts_by (mark_of line.what)
 abbrev pub trace_rows : LineTrace → List Row
 trace_rows (came.Fed pass accepted refused) = accepted
 trace_rows (came.Asked moment trace) = []
+trace_rows (came.Ticked dues) = []
+trace_rows (came.Switched cut) = []
+trace_rows (came.Recovered slot) = []
 trace_rows (came.Refused fault) = []
 trace_rows came.Done = []
 

@@ -5,12 +5,13 @@ ghost use Rattle.history_book.specs.declared.views.BookEntry.{BookEntry as Booke
 ghost use Rattle.history_book.specs.declared.views.History.{History};
 ghost use Rattle.mon_config.specs.declared.config.Config.{Config as ConfigOf};
 ghost use Rattle.mon_topo.specs.FirstHistories.{first_histories};
+ghost use Rattle.mon_topo.specs.HeldHistories.{AreHeld};
 ghost use Rattle.mon_value.specs.declared.histories.Histories.{Histories};
 ghost use Rattle.run_theory.specs.Marks.{IsWithin};
 ghost use Rattle.run_theory.specs.Parts.{Part, all_lines};
 ghost use Rattle.run_traces.specs.Headline.{RunHolds};
 ghost use Rattle.run_traces.specs.LineClaims.{AllRan, Finds, HasWritten, HaveGrown, Makes};
-ghost use Rattle.run_traces.specs.LineTexts.{line_text, lines_text};
+ghost use Rattle.run_traces.specs.LineTexts.{line_text};
 ghost use Rattle.run_traces.specs.RanLines.{RanLine, acts, parts_of};
 
 use query_core::traces_stay;
@@ -31,11 +32,12 @@ pub fn runs_go_on()
     traces_stay();
 }
 
-/// Where the parts of a script ran one after another, each line with what it made and found, the tables, the rows, the
-/// refusals and the histories at the end are as an operator reads them.
+/// Where the parts of a script ran one after another, each line with what it made and found, and the histories at the end
+/// go on in some that bear each other out, the tables, the rows, the refusals, the switches and the recoveries are as an operator reads them.
 pub fn runs_hold()
-    ensures holds { (config : ConfigOf) (ended : Histories) (parts : List (Part RanLine))
-        → AreFronts (first_histories config.topology) ended → AllRan config ended parts
+    ensures holds { (config : ConfigOf) (ended whole : Histories) (parts : List (Part RanLine))
+        → AreFronts (first_histories config.topology) ended → AreFronts ended whole
+        → AreHeld config.schemas config.topology config.range_points whole → AllRan config ended parts
         → RunHolds config ended parts }
 {
     traces_stay();
@@ -48,21 +50,18 @@ pub fn finds_stay()
         (made : History → List Booked) → HaveGrown seen more
         → ((history : History) → filter (λ e. nat_eq (book_entry_pass e) number) (entries more history)
         ≡ filter (λ e. nat_eq (book_entry_pass e) number) (entries seen history))
-        → Makes config number line made → Finds config seen from (λ history. length (entries seen history)) line
-        → Finds config more from (λ history. length (entries more history)) line }
+        → Makes config number line made
+        → Finds config seen from (λ history. length (entries seen history)) number line
+        → Finds config more from (λ history. length (entries more history)) number line }
 {
     traces_stay();
 }
 
-/// A line that found what it owes prints the same over histories that are seen later; and so do all lines of a script
-/// that ran so far.
+/// A line that found what it owes prints the same over histories that are seen later.
 pub fn texts_stay()
-    ensures line { (config : ConfigOf) (seen more : Histories) (from to : History → ℕ) (line : RanLine)
-        → HaveGrown seen more → IsWithin entries to seen → Finds config seen from to line
+    ensures line { (config : ConfigOf) (seen more : Histories) (from to : History → ℕ) (number : ℕ) (line : RanLine)
+        → HaveGrown seen more → IsWithin entries to seen → Finds config seen from to number line
         → line_text config more line ≡ line_text config seen line }
-    ensures lines { (config : ConfigOf) (seen more : Histories) (parts : List (Part RanLine)) → HaveGrown seen more
-        → AllRan config seen parts
-        → lines_text config more (all_lines parts) ≡ lines_text config seen (all_lines parts) }
 {
     traces_stay();
 }

@@ -5,4 +5,7 @@ mod laws;
 mod traces;
 
 pub use laws::{finds_stay, parts_keep_the_lines, runs_go_on, runs_hold, texts_stay};
-pub use traces::{LineFault, LineTrace, LineTraces, RowRefusal, RowRefusals, RowRefused};
+pub use traces::{
+    DueEnd, DueTrace, DueTraces, LineFault, LineTrace, LineTraces, RowRefusal, RowRefusals,
+    RowRefused,
+};

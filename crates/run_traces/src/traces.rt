@@ -1,10 +1,11 @@
 // What a line came to.
 use mon_points::RowFault;
-use mon_value::{Founds, ListOf, Range, RowList};
+use mon_value::{Founds, ListOf, Range, RowList, Slot};
 use mql_parse::ParseFault;
 use mql_types::TypeFault;
 use query_core::Trace;
 use range_cell::WriteFault;
+use standing::Due;
 
 /// Why a record of a file was refused.
 #[derive(Drop)]
@@ -36,7 +37,48 @@ pub enum LineFault {
     NoReplica(Range, Founds),
     /// The query's load is above the limit; what was looked at.
     StepLimit(u64, Trace),
+    /// The leaf is down already, where its history has so many entries.
+    AlreadyDown(u64),
+    /// The leaf is up already, where its history has so many entries.
+    AlreadyUp(u64),
+    /// The leaf was switched so often, and is switched no more.
+    SwitchesSpent(u32),
+    /// A replica of the range serves on the leaf already, in this slot.
+    Serving(Slot),
+    /// As many replicas of the range serve as may.
+    ThreeServing,
+    /// As many slots of the range were opened as may be.
+    SlotsSpent(u32),
+    /// Each replica of the range that serves is on a leaf that was found down, so that no rows could be copied.
+    SourceDown(Founds),
+    /// The leaf was found down, where its history has so many entries.
+    TargetDown(u64),
+    /// A query of that name stands already.
+    NameTaken,
+    /// More queries than this would be due.
+    TooManyDue(u32),
+    /// The moment lies before that of an earlier line, which was this one.
+    Backwards(i64),
 }
+
+/// What a standing query came to at a time at which it was due.
+#[derive(Drop)]
+pub enum DueEnd {
+    /// What was looked at for its table.
+    Answered(Trace),
+    /// It was refused.
+    Refused(LineFault),
+}
+
+/// A standing query that was due, and what it came to.
+#[derive(Drop)]
+pub struct DueTrace {
+    pub due: Due,
+    pub end: DueEnd,
+}
+
+/// The standing queries that were due, in their order.
+pub type DueTraces = ListOf<DueTrace>;
 
 /// What a line of a script came to.
 #[derive(Drop)]
@@ -52,9 +94,15 @@ pub enum LineTrace {
         moment: i64,
         trace: Trace,
     },
+    /// Standing queries that were due were asked.
+    Ticked(DueTraces),
+    /// A leaf went down or came up: how many entries its history has then.
+    Switched(u64),
+    /// A range has one replica more: its slot.
+    Recovered(Slot),
     /// The line was refused.
     Refused(LineFault),
-    /// A line that begins a block or ends it.
+    /// A query that stands from then on; or a line that begins a block or ends it.
     Done,
 }
 

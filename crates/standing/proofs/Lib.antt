@@ -1,4 +1,5 @@
 pub mod CountLemmas
 pub mod DueLemmas
 pub mod MarkLemmas
+pub mod MomentLemmas
 pub mod NameLemmas

@@ -13,6 +13,7 @@ abbrev pub cut_by : Mark → List ScriptLine → Cut
 cut_by mark.Opens behind = cut_block behind
 cut_by mark.Closes behind = None
 cut_by mark.Acts behind = None
+cut_by mark.Lone behind = None
 
 -- the lines of the block that a line begins, if it begins one, and those behind its end
 abbrev pub block_behind : ScriptLine → List ScriptLine → Cut

@@ -19,6 +19,7 @@ use Rattle.mon_run.specs.declared.words.Verb.TheVariants as verb
 use Rattle.mon_run.specs.within.Stops.{Causes, Ends, PartStops, Ran, Stops}
 use Rattle.run_theory.specs.Parts.{Alone, Beside, Part}
 use Rattle.run_traces.specs.LineClaims.{AllRan, HaveGrown}
+use Rattle.run_traces.specs.LineDues.{asked_part, asked_parts}
 use Rattle.run_traces.specs.LineTexts.{line_text}
 use Rattle.run_traces.specs.RanLines.{RanLine, content_for, parts_of, ran_lines}
 use Rattle.run_traces.specs.declared.traces.LineTrace.{LineTrace}
@@ -80,7 +81,7 @@ module _ (config : Config) (files : Files) where
     pub apart : StandApart (ran_lines (content_of files) lines traces)
     pub grown : HaveGrown from known
     pub ran : (parts : List (Part RanLine)) → AllRan config from parts
-        → AllRan config known (parts ++ parts_of (ran_lines (content_of files) lines traces))
+        → AllRan config known (parts ++ asked_parts (parts_of (ran_lines (content_of files) lines traces)))
     pub did : (later : Histories) → HaveGrown known later
         → Ran (parts_plan files (line_text config later) (parts_of (ran_lines (content_of files) lines traces)))
         before after
@@ -96,7 +97,7 @@ module _ (config : Config) (files : Files) where
     pub front : AreFronts known ended
     pub whole : (stopped ≡ stop.OutOfMemory) ⊎ (known ≡ ended)
     pub ran : (parts : List (Part RanLine)) → AllRan config from parts
-        → AllRan config known (parts ++ parts_of (ran_lines (content_of files) lines traces))
+        → AllRan config known (parts ++ asked_parts (parts_of (ran_lines (content_of files) lines traces)))
     pub stops : (later : Histories) → HaveGrown known later → (status : ℕ)
         → Stops (lines_plan config files later status lines traces) stopped before after
 
@@ -130,7 +131,7 @@ module _ (config : Config) (files : Files) (part : Part RanLine) (traces : List 
   pub record PartDone : Type 0 where
     pub ends : after.ends ≡ before.ends ++ traces
     pub grown : HaveGrown from known
-    pub ran : (parts : List (Part RanLine)) → AllRan config from parts → AllRan config known (parts ++ part ∷ [])
+    pub ran : (parts : List (Part RanLine)) → AllRan config from parts → AllRan config known (parts ++ asked_part part)
 
   -- all of it was done, and what its lines print is so over all that is seen later
   pub record PartWent : Type 0 where

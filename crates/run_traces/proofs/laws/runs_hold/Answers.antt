@@ -3,7 +3,7 @@ use Rattle.run_traces.proofs.laws.runs_hold.Goals as goal
 
 pub returns : goal.returns
 returns c = record {
-  holds = λ config ended parts begun ran.
+  holds = λ config ended whole parts begun fronts held ran.
       run_holds c.traces_stay.ensures.of c.traces_stay.ensures.found c.traces_stay.ensures.rows config ended parts
-      begun ran;
+      begun whole fronts held ran;
 }

@@ -1,4 +1,4 @@
-use Rattle.std.proofs.Common.{◌∙◌, ◌∷◌, [], List, ℕ, ap, sym, subst, append-nil}
+use Rattle.std.proofs.Common.{inl, inr, ◌∙◌, ◌∷◌, [], List, ℕ, ap, sym, subst, append-nil}
 use Rattle.std.proofs.lemmas.Result.{err_from_is_err_and, on_ok_weaker}
 use Rattle.mon_run.specs.Endings.{Did, Progress}
 use Rattle.mon_run.specs.Steps.{Write}
@@ -6,6 +6,7 @@ use Rattle.mon_run.specs.declared.stop.Stop.{Stop}
 use Rattle.mon_run.specs.declared.stop.Stop.TheVariants as stop
 use Rattle.mon_run.specs.within.Lines.{AloneHalts}
 use Rattle.mon_run.specs.within.Stops.{WriteStops, seen}
+use Rattle.mon_run.proofs.DueLemmas.{noted_due, on_err_of}
 use Rattle.mon_run.proofs.EndLemmas.{counts_then}
 use Rattle.mon_run.proofs.RunLemmas.{err_weaker, handed_on}
 use Rattle.mon_run.proofs.ScriptLemmas.{alone_cut, alone_ran, alone_starved, alone_unread, ran_still}
@@ -57,9 +58,8 @@ returns-clause-ran g c =
     let after : Progress = seen g.F.Folder.state g.O.Sink.state c.write.new.self in
     on_ok_weaker c.write.result (λ wrote.
     alone_ran {content = c.as_slice.result.now} {know = c.args.p.now} {known = c.run_alone.new.p}
-    c.runs_go_on.ensures.more c.texts_stay.ensures.line
     (λ files told. c.as_slice.ensures.items ∙ c.in_ok-content.ensures.content files told)
-    c.in_ok-content.ensures.read c.in_ok-ran.ensures.ran c.in_ok-end.ensures.ended
+    c.in_ok-content.ensures.read c.in_ok-ran.ensures.ran.tells c.in_ok-end.ensures.ended
     (ap (λ log. log.traces.items) c.content.ensures.log) after
     (subst (λ (t : List ℕ). Did (Write t ∷ []) ended after) c.as_bytes.ensures.bytes wrote)
     (ap (λ log. log.traces.items) c.write.ensures.log)) c.write.ensures.wrote
@@ -73,10 +73,34 @@ returns-clause-stops g c =
     (λ (s : Stop). AloneHalts c.args.store.now c.args.what.now c.args.p.now.seen c.run_alone.new.p.seen s before after)
     (λ stopped stops.
     alone_cut {content = c.as_slice.result.now} {know = c.args.p.now} {known = c.run_alone.new.p}
-    c.runs_go_on.ensures.more c.texts_stay.ensures.line
     (λ files told. c.as_slice.ensures.items ∙ c.in_ok-content.ensures.content files told)
-    c.in_ok-content.ensures.read c.in_ok-ran.ensures.ran c.in_ok-end.ensures.ended
+    c.in_ok-content.ensures.read c.in_ok-ran.ensures.ran.tells c.in_ok-end.ensures.ended
     (ap (λ log. log.traces.items) c.content.ensures.log) after stopped
     (counts_then c.content.ensures.continues.counts c.end.ensures.continues.counts)
     (ap (λ log. log.traces.items) c.write.ensures.log)
     (subst (λ (t : List ℕ). WriteStops t stopped ended after) c.as_bytes.ensures.bytes stops)) c.write.ensures.stops
+
+pub returns-in_err-content-clause-due_so_far : goal.returns-in_err-content-clause-due_so_far
+returns-in_err-content-clause-due_so_far g c =
+    on_err_of c.from_residual.result (inl (ap (λ log. log.traces.items) c.content.ensures.log))
+
+pub returns-in_err-ran-clause-due_so_far : goal.returns-in_err-ran-clause-due_so_far
+returns-in_err-ran-clause-due_so_far g c =
+    on_err_of c.from_residual-in_err-ran.result (inl (ap (λ log. log.traces.items) c.content.ensures.log))
+
+pub returns-in_err-end-clause-due_so_far : goal.returns-in_err-end-clause-due_so_far
+returns-in_err-end-clause-due_so_far g c =
+    let read : Progress = seen g.F.Folder.state g.O.Sink.state c.content.new.self in
+    on_err_of c.from_residual-in_err-end.result
+    (inl (c.in_err-end.ensures.kept.ends ∙ append-nil read.ends ∙ ap (λ log. log.traces.items) c.content.ensures.log))
+
+pub returns-clause-due : goal.returns-clause-due
+returns-clause-due g c = on_ok_weaker c.write.result (λ wrote.
+    noted_due _ c.in_ok-end.ensures.ended.ends (ap (λ log. log.traces.items) c.content.ensures.log)
+    (ap (λ log. log.traces.items) c.write.ensures.log) c.in_ok-ran.ensures.ran.due c.in_ok-ran.ensures.ran.stood)
+    c.write.ensures.wrote
+
+pub returns-clause-due_so_far : goal.returns-clause-due_so_far
+returns-clause-due_so_far g c = on_err_of c.write.result (inr
+    (noted_due _ c.in_ok-end.ensures.ended.ends (ap (λ log. log.traces.items) c.content.ensures.log)
+    (ap (λ log. log.traces.items) c.write.ensures.log) c.in_ok-ran.ensures.ran.due c.in_ok-ran.ensures.ran.stood))

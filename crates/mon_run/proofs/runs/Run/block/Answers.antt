@@ -1,4 +1,4 @@
-use Rattle.std.proofs.Common.{◌≡◌, ◌∙◌, ◌++◌, List, ℕ, length, map, ap, sym, subst, arith}
+use Rattle.std.proofs.Common.{inl, inr, ◌≡◌, ◌∙◌, ◌++◌, List, ℕ, length, map, ap, sym, subst, arith}
 use Rattle.std.proofs.lemmas.List.{length-map}
 use Rattle.std.proofs.lemmas.Result.{err_from_is_err_and, on_ok_weaker}
 use Rattle.line_runs.specs.declared.lines.LineRan.{LineRan}
@@ -7,12 +7,13 @@ use Rattle.mon_run.specs.declared.stop.Stop.{Stop}
 use Rattle.mon_run.specs.declared.stop.Stop.TheVariants as stop
 use Rattle.mon_run.specs.within.Lines.{BlockHalts, Noted, TextsStop, block_traces, writes}
 use Rattle.mon_run.specs.within.Stops.{seen}
+use Rattle.mon_run.proofs.DueLemmas.{block_noted_due, on_err_of, on_ok_of}
 use Rattle.mon_run.proofs.EndLemmas.{counts_then}
-use Rattle.mon_run.proofs.GrownLemmas.{fronts_none}
+use Rattle.part_runs.proofs.GrownLemmas.{fronts_none}
 use Rattle.mon_run.proofs.RunLemmas.{err_weaker, handed_on}
 use Rattle.mon_run.proofs.ScriptLemmas.{block_cut, block_ran, block_starved, block_unread, did_end}
 use Rattle.mon_run.proofs.runs.Run.block.Goals as goal
-use Rattle.part_runs.specs.PartsDone.{PartDid, ran_beside}
+use Rattle.part_runs.specs.PartsDone.{PartTells, ran_beside}
 use Rattle.run_theory.specs.Parts.{Beside}
 use Rattle.run_traces.specs.declared.traces.LineTrace.{LineTrace}
 
@@ -87,9 +88,9 @@ returns-clause-ran g c =
     ∙ ap (λ (t : List (List ℕ)). t ++ texts) c.in_ok-texts.ensures.none in
     on_ok_weaker c.texts.result (λ wrote.
     block_ran c.args.store.now lines contents traces texts c.args.p.now c.run_beside.new.p before read noted
-    c.runs_go_on.ensures.more c.texts_stay.ensures.line c.in_ok-contents.ensures.read
+    c.in_ok-contents.ensures.read
     (length-map rans (λ (ran : LineRan). ran.trace) ∙ c.in_ok-rans.ensures.each)
-    (subst (λ (held : List (List ℕ)). PartDid c.args.store.now (Beside (ran_beside lines held traces)) texts
+    (subst (λ (held : List (List ℕ)). PartTells c.args.store.now (Beside (ran_beside lines held traces)) texts
     c.args.p.now
     c.run_beside.new.p) c.as_slice.ensures.items c.in_ok-rans.ensures.ran)
     (did_end (block_traces traces) put.folder put.sink put.ends) (ap (λ log. log.traces.items) c.contents.ensures.log)
@@ -117,11 +118,44 @@ returns-clause-stops g c =
     (λ (s : Stop). BlockHalts c.args.store.now lines c.args.p.now.seen c.run_beside.new.p.seen s before after)
     (λ stopped stops.
     block_cut c.args.store.now lines contents traces texts c.args.p.now c.run_beside.new.p before read noted
-    c.runs_go_on.ensures.more c.texts_stay.ensures.line c.in_ok-contents.ensures.read
+    c.in_ok-contents.ensures.read
     (length-map rans (λ (ran : LineRan). ran.trace) ∙ c.in_ok-rans.ensures.each)
-    (subst (λ (held : List (List ℕ)). PartDid c.args.store.now (Beside (ran_beside lines held traces)) texts
+    (subst (λ (held : List (List ℕ)). PartTells c.args.store.now (Beside (ran_beside lines held traces)) texts
     c.args.p.now
     c.run_beside.new.p) c.as_slice.ensures.items c.in_ok-rans.ensures.ran)
     (did_end (block_traces traces) put.folder put.sink put.ends) (ap (λ log. log.traces.items) c.contents.ensures.log)
     put.ends after stopped counts (ap (λ log. log.traces.items) c.texts.ensures.log)
     (subst (λ (t : List (List ℕ)). TextsStop t stopped noted after) printed stops)) c.texts.ensures.stops
+
+pub returns-in_err-contents-clause-due_so_far : goal.returns-in_err-contents-clause-due_so_far
+returns-in_err-contents-clause-due_so_far g c =
+    on_err_of c.from_residual.result (inl (ap (λ log. log.traces.items) c.contents.ensures.log))
+
+pub returns-in_err-texts-clause-due_so_far : goal.returns-in_err-texts-clause-due_so_far
+returns-in_err-texts-clause-due_so_far g c =
+    on_err_of c.from_residual-in_err-texts.result (inl (ap (λ (p : Progress). p.ends) c.room.ensures.same
+    ∙ ap (λ log. log.traces.items) c.contents.ensures.log))
+
+pub returns-in_err-rans-clause-due_so_far : goal.returns-in_err-rans-clause-due_so_far
+returns-in_err-rans-clause-due_so_far g c =
+    on_err_of c.from_residual-in_err-rans.result (inl (ap (λ (p : Progress). p.ends) c.room.ensures.same
+    ∙ ap (λ log. log.traces.items) c.contents.ensures.log))
+
+pub returns-clause-due : goal.returns-clause-due
+returns-clause-due g c = on_ok_weaker c.texts.result (λ wrote.
+    block_noted_due c.args.lines.now c.in_ok-rans.rans c.came.ensures.noted.ends
+    (ap (λ (p : Progress). p.ends) c.room.ensures.same ∙ ap (λ log. log.traces.items) c.contents.ensures.log)
+    (ap (λ log. log.traces.items) c.texts.ensures.log) c.in_ok-rans.ensures.each c.in_ok-rans.ensures.plain)
+    c.texts.ensures.wrote
+
+pub returns-clause-due_so_far : goal.returns-clause-due_so_far
+returns-clause-due_so_far g c = on_err_of c.texts.result (inr
+    (block_noted_due c.args.lines.now c.in_ok-rans.rans c.came.ensures.noted.ends
+    (ap (λ (p : Progress). p.ends) c.room.ensures.same ∙ ap (λ log. log.traces.items) c.contents.ensures.log)
+    (ap (λ log. log.traces.items) c.texts.ensures.log) c.in_ok-rans.ensures.each c.in_ok-rans.ensures.plain))
+
+pub returns-clause-every : goal.returns-clause-every
+returns-clause-every g c = on_ok_of c.texts.result c.in_ok-rans.ensures.ran.every
+
+pub returns-clause-stock : goal.returns-clause-stock
+returns-clause-stock g c = on_ok_of c.texts.result c.in_ok-rans.ensures.stock

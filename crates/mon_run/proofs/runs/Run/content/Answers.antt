@@ -69,6 +69,36 @@ returns-in-Explain-clause-read g c =
     other_read c.args.what.now _ (seen g.F.Folder.state g.O.Sink.state c.args.self.now) c.in-Explain.is
     (λ files rest. refl)
 
+pub returns-in-Down-clause-content : goal.returns-in-Down-clause-content
+returns-in-Down-clause-content g c =
+    other_content c.args.what.now _ _ (seen g.F.Folder.state g.O.Sink.state c.args.self.now) c.in-Down.is
+    c.new-in-Down.ensures.empty (λ files. refl)
+
+pub returns-in-Down-clause-read : goal.returns-in-Down-clause-read
+returns-in-Down-clause-read g c =
+    other_read c.args.what.now _ (seen g.F.Folder.state g.O.Sink.state c.args.self.now) c.in-Down.is
+    (λ files rest. refl)
+
+pub returns-in-Up-clause-content : goal.returns-in-Up-clause-content
+returns-in-Up-clause-content g c =
+    other_content c.args.what.now _ _ (seen g.F.Folder.state g.O.Sink.state c.args.self.now) c.in-Up.is
+    c.new-in-Up.ensures.empty (λ files. refl)
+
+pub returns-in-Up-clause-read : goal.returns-in-Up-clause-read
+returns-in-Up-clause-read g c =
+    other_read c.args.what.now _ (seen g.F.Folder.state g.O.Sink.state c.args.self.now) c.in-Up.is
+    (λ files rest. refl)
+
+pub returns-in-Recover-clause-content : goal.returns-in-Recover-clause-content
+returns-in-Recover-clause-content g c =
+    other_content c.args.what.now _ _ (seen g.F.Folder.state g.O.Sink.state c.args.self.now) c.in-Recover.is
+    c.new-in-Recover.ensures.empty (λ files. refl)
+
+pub returns-in-Recover-clause-read : goal.returns-in-Recover-clause-read
+returns-in-Recover-clause-read g c =
+    other_read c.args.what.now _ (seen g.F.Folder.state g.O.Sink.state c.args.self.now) c.in-Recover.is
+    (λ files rest. refl)
+
 pub returns-in-Together-clause-content : goal.returns-in-Together-clause-content
 returns-in-Together-clause-content g c =
     other_content c.args.what.now _ _ (seen g.F.Folder.state g.O.Sink.state c.args.self.now) c.in-Together.is

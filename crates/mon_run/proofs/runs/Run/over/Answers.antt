@@ -4,13 +4,23 @@ use Rattle.mon_run.specs.Endings.{Progress}
 use Rattle.mon_run.specs.Tellings.{seen_by}
 use Rattle.mon_run.specs.within.Lines.{AllRanLines, LinesHalt, ScriptEnds}
 use Rattle.mon_run.specs.within.Stops.{noted, seen}
+use Rattle.mon_run.proofs.DueLemmas.{dues_then}
 use Rattle.mon_run.proofs.EndingLemmas.{first_leaves, first_ranges, script_done, script_halted}
 use Rattle.mon_run.proofs.NumberLemmas.{every_first, split_first}
+use Rattle.mon_store.specs.Stores.{setting_of}
 use Rattle.mon_topo.specs.FirstHistories.{first_histories}
+use Rattle.mon_topo.specs.HeldHistories.{AreHeld}
 use Rattle.mon_topo.specs.Settings.{Setting}
 use Rattle.mon_topo.specs.Zones.{leaves_in, ranges_in}
 use Rattle.mon_value.specs.declared.histories.Histories.{Histories}
 use Rattle.mon_run.proofs.runs.Run.over.Goals as goal
+
+-- the histories are held by the configuration
+held_then : (config : Config) (setting : Setting) (ended : Histories) → setting_of config ≡ setting
+    → AreHeld setting.held setting.zones setting.points ended
+    → AreHeld config.schemas config.topology config.range_points ended
+held_then config setting ended is held =
+    subst (λ (s : Setting). AreHeld s.held s.zones s.points ended) (sym is) held
 
 pub lines-ended-requires-clause-every : goal.lines-ended-requires-clause-every
 lines-ended-requires-clause-every g c = λ κs lives.
@@ -31,6 +41,9 @@ returns-in-Ok-clause-ended g c =
     let known : noted c.note.new.self ≡ Some ended = ap seen_by c.note.ensures.noted in
     subst (λ (k : Option Histories). ScriptEnds config lines k (Ok c.is_one_refused.result) before after) (sym known)
     (script_done config lines ended before after c.requires.fresh c.runs_go_on.ensures.begun c.runs_hold.ensures.holds
+    (held_then config g.N.Names.setting ended c.is_set_up.ensures.setting c.finish.ensures.held)
+    (dues_then config.schemas lines c.args.self.now.log.now.traces.items c.lines-ended.new.self.log.now.traces.items
+    after.ends c.requires.fresh (ap (λ (p : Progress). p.ends) c.note.ensures.same) c.lines-ended.ensures.due)
     c.is_one_refused.result
     (c.is_one_refused.ensures.refused ∙ search rules)
     (subst (λ (p : Progress). AllRanLines config lines (first_histories config.topology) ended before p)
@@ -54,7 +67,9 @@ returns-in-Err-clause-ended g c =
     let stopped = c.in-Err.stop in
     subst (λ (k : Option Histories). ScriptEnds config lines k (Err stopped) before after) (sym known)
     (script_halted config lines ended before after c.requires.fresh c.runs_go_on.ensures.begun c.runs_hold.ensures.holds
-    stopped
+    (held_then config g.N.Names.setting ended c.is_set_up.ensures.setting c.finish.ensures.held)
+    (dues_then config.schemas lines c.args.self.now.log.now.traces.items c.lines-ended.new.self.log.now.traces.items
+    after.ends c.requires.fresh (ap (λ (p : Progress). p.ends) c.note.ensures.same) c.lines-ended.ensures.due) stopped
     (c.finish.ensures.held.all_leaves ∙ ap (λ z. length (leaves_in z)) zones ∙ sym (first_leaves config.topology))
     (c.finish.ensures.held.all_ranges ∙ ap (λ z. length (ranges_in z)) zones ∙ sym (first_ranges config.topology))
     (subst (λ (p : Progress). LinesHalt config lines (first_histories config.topology) ended stopped before p)

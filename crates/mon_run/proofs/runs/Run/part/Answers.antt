@@ -1,12 +1,14 @@
 use Rattle.std.proofs.Common.{◌+◌, ◌∷◌, List, length, sym, subst, arith}
-use Rattle.std.proofs.lemmas.Result.{on_ok_weaker}
+use Rattle.std.proofs.lemmas.Result.{on_err_weaker, on_ok_weaker}
 use Rattle.mon_script.specs.Lawful.{IsLawfulLine}
 use Rattle.mon_script.specs.declared.script.ScriptLine.{ScriptLine}
 use Rattle.mon_run.specs.Endings.{Progress}
 use Rattle.mon_run.specs.declared.stop.Stop.{Stop}
+use Rattle.mon_run.specs.within.Dues.{DueTo}
 use Rattle.mon_run.specs.within.Lines.{AloneHalts, BlockHalts, LinesHalt, LinesRanTo}
 use Rattle.mon_run.specs.within.Stops.{seen}
 use Rattle.mon_run.proofs.BlockLemmas.{block_all, is_block, is_line}
+use Rattle.mon_run.proofs.DueLemmas.{alone_due, alone_due_stopped, block_due, block_due_stopped}
 use Rattle.mon_run.proofs.NumberLemmas.{block_room, split_kept, split_less}
 use Rattle.mon_run.proofs.RunLemmas.{err_weaker}
 use Rattle.mon_run.proofs.ScriptLemmas.{alone_halts, alone_to, block_halts, block_to}
@@ -17,9 +19,8 @@ pub block-requires-clause-lawful : goal.block-requires-clause-lawful
 block-requires-clause-lawful g c = λ κs lives.
     let line = c.args.line.now in
     let behind = c.args.behind.now in
-    let is = is_block line behind c.in-Some.lines.now c.in-Some._left.now c.requires.blocks (sym
-    c.in-Some.ensures.cut) in
-    block_all IsLawfulLine line behind c.in-Some.lines.now c.in-Some._left.now is c.requires.lawful
+    let is = is_block line behind c.in-Some.lines.now c.in-Some._left.now c.requires.blocks (sym c.in-Some.ensures.cut) in
+    block_all (IsLawfulLine c.args.store.now.topology) line behind c.in-Some.lines.now c.in-Some._left.now is c.requires.lawful
 
 pub block-requires-clause-acts : goal.block-requires-clause-acts
 block-requires-clause-acts g c = λ κs lives.
@@ -114,3 +115,36 @@ returns-in-None-clause-stock g c =
     (split_kept (length behind) c.args.p.now c.alone.new.p stock
     (split_less (length behind) (1 + length behind) c.args.p.now (omega arith) c.requires.stock)))
     c.alone.ensures.stock
+
+pub returns-in-Some-clause-due : goal.returns-in-Some-clause-due
+returns-in-Some-clause-due g c =
+    let line = c.args.line.now in
+    let behind = c.args.behind.now in
+    let lines = c.in-Some.lines.now in
+    let left = c.in-Some._left.now in
+    let is = is_block line behind lines left c.requires.blocks (sym c.in-Some.ensures.cut) in
+    on_ok_weaker c.block.result (λ due.
+    subst (λ (l : List ScriptLine). DueTo c.args.store.now.schemas (line ∷ behind) l c.args.standing.now
+    c.args.standing.now c.args.self.now.log.now.traces.items c.block.new.self.log.now.traces.items) (sym is.left_is)
+    (block_due c.args.store.now.schemas c.args.standing.now lines left is due)) c.block.ensures.due
+
+pub returns-in-Some-clause-due_so_far : goal.returns-in-Some-clause-due_so_far
+returns-in-Some-clause-due_so_far g c =
+    let line = c.args.line.now in
+    let behind = c.args.behind.now in
+    let lines = c.in-Some.lines.now in
+    let left = c.in-Some._left.now in
+    let is = is_block line behind lines left c.requires.blocks (sym c.in-Some.ensures.cut) in
+    on_err_weaker c.block.result (λ due. block_due_stopped c.args.store.now.schemas c.args.standing.now lines left is due)
+    c.block.ensures.due_so_far
+
+pub returns-in-None-clause-due : goal.returns-in-None-clause-due
+returns-in-None-clause-due g c =
+    let line = c.args.line.now in
+    let behind = c.args.behind.now in
+    let is = is_line line behind c.requires.blocks (sym c.in-None.ensures.cut) in
+    on_ok_weaker c.alone.result (λ due. alone_due c.args.store.now.schemas _ (sym is.left_is) due) c.alone.ensures.due
+
+pub returns-in-None-clause-due_so_far : goal.returns-in-None-clause-due_so_far
+returns-in-None-clause-due_so_far g c =
+    on_err_weaker c.alone.result (λ due. alone_due_stopped c.args.store.now.schemas due) c.alone.ensures.due_so_far

@@ -12,7 +12,7 @@ use Rattle.mon_run.proofs.runs.Run.script.Goals as goal
 
 pub spelled-requires-clause-lawful : goal.spelled-requires-clause-lawful
 spelled-requires-clause-lawful g c = λ κs lives.
-    subst (AllByRecursion IsLawfulLine) (sym c.as_slice.ensures.items) c.in-Ok.ensures.lawful
+    subst (AllByRecursion (IsLawfulLine c.args.config.topology)) (sym c.as_slice.ensures.items) c.in-Ok.ensures.lawful
 
 pub spelled-requires-clause-blocks : goal.spelled-requires-clause-blocks
 spelled-requires-clause-blocks g c = λ κs lives.

@@ -1,0 +1,62 @@
+-- What a line comes to that takes a leaf down or up, or opens a range's replica on a leaf.
+use Rattle.std.specs.Prelude.{◌≡◌, ℕ, Bool, true, false, List, Option, Some, None, Result, Ok, Err}
+use Rattle.leaf_cell.specs.declared.controls.Control.{Control}
+use Rattle.leaf_cell.specs.declared.controls.Control.TheVariants as going
+use Rattle.leaf_cell.specs.declared.controls.ControlFault.{ControlFault}
+use Rattle.leaf_cell.specs.declared.controls.ControlFault.TheVariants as unswitched
+use Rattle.line_runs.specs.Questions.{refused_for}
+use Rattle.line_runs.specs.declared.lines.LineRan.{LineRan}
+use Rattle.mon_topo.specs.declared.zones.ZoneSpec.{ZoneSpec}
+use Rattle.mon_value.specs.declared.positions.Slot.{Slot}
+use Rattle.range_cell.specs.declared.answers.RecoverFault.{RecoverFault}
+use Rattle.range_cell.specs.declared.answers.RecoverFault.TheVariants as unopened
+use Rattle.run_traces.specs.LineSwitches.{Recovery, Switch}
+use Rattle.run_traces.specs.LineTexts.{recovery_text, switch_text}
+use Rattle.run_traces.specs.declared.traces.LineFault.{LineFault}
+use Rattle.run_traces.specs.declared.traces.LineFault.TheVariants as why
+use Rattle.run_traces.specs.declared.traces.LineTrace.TheVariants as came
+
+-- ---- switches
+
+-- which way a leaf goes
+abbrev pub way : Bool → Control
+way true = going.Down
+way false = going.Up
+
+-- why a leaf isn't switched
+abbrev pub control_told : ControlFault → LineFault
+control_told (unswitched.AlreadyDown cut) = why.AlreadyDown cut
+control_told (unswitched.AlreadyUp cut) = why.AlreadyUp cut
+control_told (unswitched.SwitchesSpent count) = why.SwitchesSpent count
+
+-- a leaf that was switched, with the length of its history then; or a refusal
+abbrev pub switch_ran : List ZoneSpec → Switch → Result ℕ ControlFault → LineRan
+switch_ran zones switch (Ok cut) = record { trace = came.Switched cut; text = switch_text zones (Some switch) }
+switch_ran zones switch (Err fault) = refused_for zones (control_told fault)
+
+-- ---- recoveries
+
+-- why no replica is opened, unless memory ran out
+abbrev pub recover_told : RecoverFault → Option LineFault
+recover_told (unopened.Serving slot) = Some (why.Serving slot)
+recover_told unopened.ThreeServing = Some why.ThreeServing
+recover_told (unopened.SlotsSpent count) = Some (why.SlotsSpent count)
+recover_told (unopened.SourceDown founds) = Some (why.SourceDown founds)
+recover_told (unopened.TargetDown cut) = Some (why.TargetDown cut)
+recover_told unopened.OutOfMemory = None
+
+-- a slot that was opened
+abbrev pub recovery_ran : List ZoneSpec → Recovery → Slot → LineRan
+recovery_ran zones recovery slot =
+    record { trace = came.Recovered slot; text = recovery_text zones (Some recovery) slot }
+
+-- a refusal
+pub record IsNotOpenedFor (zones : List ZoneSpec) (fault : RecoverFault) (ran : LineRan) : Type 0 where
+  pub told : LineFault
+  pub told_is : recover_told fault ≡ Some told
+  pub ran_is : ran ≡ refused_for zones told
+
+-- by the answer
+abbrev pub IsRecoveryRan : List ZoneSpec → Recovery → Result Slot RecoverFault → LineRan → Type 0
+IsRecoveryRan zones recovery (Ok slot) ran = ran ≡ recovery_ran zones recovery slot
+IsRecoveryRan zones recovery (Err fault) ran = IsNotOpenedFor zones fault ran

@@ -1,0 +1,144 @@
+-- Standing queries: which of them each tick asked, and why a query didn't come to stand or a moment wasn't taken.
+use Rattle.std.specs.Prelude.{◌≡◌, ℤ, Bool, true, false, List, [], ◌∷◌, map, Option, Some, None, option_map, Result, Ok}
+use Rattle.std.specs.Prelude.{Err, if◌then◌else◌}
+use Rattle.std.specs.List.{flat_map}
+use Rattle.mon_schema.specs.SchemaLists.{SchemaLists}
+use Rattle.mon_script.specs.declared.forms.LineForm.{LineForm}
+use Rattle.mon_script.specs.declared.forms.LineForm.TheVariants as form
+use Rattle.mon_script.specs.declared.script.ScriptLine.{ScriptLine}
+use Rattle.run_theory.specs.Parts.{Alone, Beside, Part}
+use Rattle.run_traces.specs.LineStatuses.{is_refused}
+use Rattle.run_traces.specs.RanLines.{RanLine}
+use Rattle.run_traces.specs.declared.traces.DueEnd.{DueEnd}
+use Rattle.run_traces.specs.declared.traces.DueEnd.TheVariants as end
+use Rattle.run_traces.specs.declared.traces.DueTrace.{DueTrace}
+use Rattle.run_traces.specs.declared.traces.LineFault.{LineFault}
+use Rattle.run_traces.specs.declared.traces.LineFault.TheVariants as why
+use Rattle.run_traces.specs.declared.traces.LineTrace.{LineTrace}
+use Rattle.run_traces.specs.declared.traces.LineTrace.TheVariants as came
+use Rattle.standing.specs.Adding.{add_fault}
+use Rattle.standing.specs.DueLists.{due_answer}
+use Rattle.standing.specs.StandingStates.{StandingState, at_moment, standing_query, with_query}
+use Rattle.standing.specs.declared.dues.Due.{Due}
+use Rattle.standing.specs.declared.faults.DueFault.{DueFault}
+use Rattle.standing.specs.declared.faults.DueFault.TheVariants as undue
+use Rattle.standing.specs.declared.faults.StandingFault.{StandingFault}
+use Rattle.standing.specs.declared.faults.StandingFault.TheVariants as unstood
+
+-- ---- ticks as the queries that they asked
+
+-- what a query that was due came to, as a line
+abbrev pub end_trace : ℤ → DueEnd → LineTrace
+end_trace moment (end.Answered trace) = came.Asked moment trace
+end_trace moment (end.Refused fault) = came.Refused fault
+
+-- a query that was due, as a line that asks its text at its time
+abbrev pub due_line : DueTrace → RanLine
+due_line one = record {
+  what = form.Query one.due.at one.due.text;
+  content = [];
+  trace = end_trace one.due.at one.end;
+}
+
+-- a tick as the queries that it asked, one after another, and any other line as it is
+abbrev pub asked_by : RanLine → LineTrace → List RanLine
+asked_by line (came.Fed pass accepted refused) = line ∷ []
+asked_by line (came.Asked moment trace) = line ∷ []
+asked_by line (came.Ticked dues) = map due_line dues
+asked_by line (came.Switched cut) = line ∷ []
+asked_by line (came.Recovered slot) = line ∷ []
+asked_by line (came.Refused fault) = line ∷ []
+asked_by line came.Done = line ∷ []
+
+-- a line alone as such parts; the lines of a block ask no such queries
+abbrev pub asked_part : Part RanLine → List (Part RanLine)
+asked_part (Alone line) = map (λ (one : RanLine). Alone one) (asked_by line line.trace)
+asked_part (Beside lines) = Beside lines ∷ []
+
+abbrev pub asked_parts : List (Part RanLine) → List (Part RanLine)
+asked_parts = flat_map asked_part
+
+-- ---- what a line came to, as the answer of those that stand
+
+-- which queries were asked, or why none was
+abbrev pub due_told : LineTrace → Option (Result (List Due) LineFault)
+due_told (came.Fed pass accepted refused) = None
+due_told (came.Asked moment trace) = None
+due_told (came.Ticked dues) = Some (Ok (map (λ (one : DueTrace). one.due) dues))
+due_told (came.Switched cut) = None
+due_told (came.Recovered slot) = None
+due_told (came.Refused fault) = Some (Err fault)
+due_told came.Done = None
+
+-- that a query came to stand, or why it didn't
+abbrev pub stood_told : LineTrace → Option (Option LineFault)
+stood_told (came.Fed pass accepted refused) = None
+stood_told (came.Asked moment trace) = None
+stood_told (came.Ticked dues) = None
+stood_told (came.Switched cut) = None
+stood_told (came.Recovered slot) = None
+stood_told (came.Refused fault) = Some (Some fault)
+stood_told came.Done = Some None
+
+abbrev pub is_ticked : LineTrace → Bool
+is_ticked (came.Fed pass accepted refused) = false
+is_ticked (came.Asked moment trace) = false
+is_ticked (came.Ticked dues) = true
+is_ticked (came.Switched cut) = false
+is_ticked (came.Recovered slot) = false
+is_ticked (came.Refused fault) = false
+is_ticked came.Done = false
+
+abbrev pub unstood_fault : StandingFault → LineFault
+unstood_fault unstood.NameTaken = why.NameTaken
+unstood_fault (unstood.Parse fault) = why.Parse fault
+unstood_fault (unstood.Typing fault) = why.Typing fault
+
+abbrev pub undue_fault : DueFault → LineFault
+undue_fault (undue.TooManyDue most) = why.TooManyDue most
+undue_fault (undue.Backwards last) = why.Backwards last
+
+abbrev pub due_outcome : Result (List Due) DueFault → Result (List Due) LineFault
+due_outcome (Ok dues) = Ok dues
+due_outcome (Err fault) = Err (undue_fault fault)
+
+-- ---- lines one after another
+
+-- what stands behind a line
+abbrev pub stands_behind : StandingState → LineForm → LineTrace → StandingState
+stands_behind state (form.Feed name) trace = state
+stands_behind state (form.Query moment text) trace = state
+stands_behind state (form.Check moment text) trace = state
+stands_behind state (form.Explain moment text) trace = state
+stands_behind state (form.Down leaf) trace = state
+stands_behind state (form.Up leaf) trace = state
+stands_behind state (form.Recover range leaf) trace = state
+stands_behind state (form.Standing name period text) trace =
+    if is_refused trace then state else with_query state (standing_query name period text)
+stands_behind state (form.Tick moment) trace = if is_ticked trace then at_moment state moment else state
+stands_behind state form.Together trace = state
+stands_behind state form.End trace = state
+
+-- A query comes to stand unless its name is taken or its text has a fault; a tick asks just the queries that are due, in
+-- their order, unless its moment isn't taken; and no other line asks such queries
+abbrev pub IsDueBy : SchemaLists → StandingState → LineForm → LineTrace → Type 0
+IsDueBy schemas state (form.Feed name) trace = is_ticked trace ≡ false
+IsDueBy schemas state (form.Query moment text) trace = is_ticked trace ≡ false
+IsDueBy schemas state (form.Check moment text) trace = is_ticked trace ≡ false
+IsDueBy schemas state (form.Explain moment text) trace = is_ticked trace ≡ false
+IsDueBy schemas state (form.Down leaf) trace = is_ticked trace ≡ false
+IsDueBy schemas state (form.Up leaf) trace = is_ticked trace ≡ false
+IsDueBy schemas state (form.Recover range leaf) trace = is_ticked trace ≡ false
+IsDueBy schemas state (form.Standing name period text) trace =
+    stood_told trace ≡ Some (option_map unstood_fault (add_fault schemas state.queries name text))
+IsDueBy schemas state (form.Tick moment) trace =
+    due_told trace ≡ Some (due_outcome (due_answer state.last moment state.queries))
+IsDueBy schemas state form.Together trace = is_ticked trace ≡ false
+IsDueBy schemas state form.End trace = is_ticked trace ≡ false
+
+-- of each line of a script that came to something, with what stands before it
+abbrev pub AreDue : SchemaLists → StandingState → List ScriptLine → List LineTrace → Type 0
+AreDue schemas state [] traces = Unit {0}
+AreDue schemas state (line ∷ lines) [] = Unit {0}
+AreDue schemas state (line ∷ lines) (trace ∷ traces) = IsDueBy schemas state line.what trace
+    × AreDue schemas (stands_behind state line.what trace) lines traces

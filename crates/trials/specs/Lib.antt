@@ -1,0 +1,4 @@
+pub mod Cells
+pub mod Reading
+pub mod Summaries
+pub mod Tables
