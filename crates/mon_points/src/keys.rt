@@ -23,7 +23,7 @@ pub(crate) const LEADING: usize = 5;
 /// depend on them. Files list their series in the same order again and again, so the key that is tried first is the
 /// one that comes next if the places of keys go on as from the last one but one to the last.
 #[derive(Drop)]
-pub struct KeyCache {
+pub(crate) struct KeyCache {
     keys: IndexMap<Vec<u8>, Shared<SeriesKey>>,
     // The place of the last record's key, and the place that would come next.
     last: usize,
@@ -34,7 +34,7 @@ pub struct KeyCache {
 
 impl KeyCache {
     /// No keys, which take their memory from `alloc` as records are read.
-    pub fn new(alloc: Global) -> KeyCache {
+    pub(crate) fn new(alloc: Global) -> KeyCache {
         KeyCache {
             keys: IndexMap::new(alloc),
             last: 0,

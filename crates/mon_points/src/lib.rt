@@ -7,5 +7,4 @@ mod keys;
 mod records;
 
 pub use faults::RowFault;
-pub use keys::KeyCache;
-pub use records::{RowRead, RowReads, read_rows, read_rows_with};
+pub use records::{RowRead, RowReads, read_rows};

@@ -57,9 +57,8 @@ pub fn read_rows(alloc: Global, bytes: &[u8], schemas: &Schemas) -> Result<RowRe
     read_rows_with(alloc, bytes, schemas, &mut KeyCache::new(alloc))
 }
 
-/// Reads the records of a points file as `read_rows` does, and shares the keys of series that were read
-/// before.
-pub fn read_rows_with(
+// Reads the records of a points file, and shares the keys of series that were read before.
+fn read_rows_with(
     alloc: Global,
     bytes: &[u8],
     schemas: &Schemas,

@@ -3,7 +3,6 @@ mod ContentLemmas
 mod DueLemmas
 mod EndLemmas
 mod EndingLemmas
-mod LimitLemmas
 mod LineLemmas
 mod MadeLemmas
 mod NumberLemmas

@@ -134,7 +134,7 @@ fn holds_once<R: Threads + Wait + Sync>(
     holds_in::<Brand, R>(rt, alloc, blank, scenario)
 }
 
-#[tactic(auto, using(crate::proofs::LimitLemmas::is_limited))]
+#[tactic(auto, using(mon_config::proofs::LimitLemmas::is_limited))]
 fn config_of(alloc: Global, text: &str) -> Result<Config, Trouble>
     ensures limited { IfOk result IsLimited }
 {

@@ -24,7 +24,6 @@ pub mod QueryTurnLemmas
 pub mod RaiseLemmas
 pub mod RaiseTurnLemmas
 pub mod RangeAnswers
-pub mod RangeTextLemmas
 pub mod ReachedLemmas
 pub mod RecoveryBuckets
 pub mod RecoveryLeafLemmas

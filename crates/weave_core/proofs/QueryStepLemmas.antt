@@ -1,7 +1,6 @@
 -- A step of an actor that queries.
-use Rattle.std.proofs.Common.{◌≡◌, ◌≢◌, ℕ, ℤ, Bool, true, not, cond, Option, Some, None, List, [], ◌∷◌, ◌++◌, refl}
+use Rattle.std.proofs.Common.{◌≡◌, ◌≢◌, ℕ, ℤ, Bool, true, Option, Some, List, [], ◌∷◌, ◌++◌, refl}
 use Rattle.std.proofs.Common.{sym, ap, subst, ◌∙◌, inl, inr}
-use Rattle.std.specs.Prelude.{is_some}
 use Rattle.mon_config.specs.declared.config.Config.{Config}
 use Rattle.mon_topo.specs.Settings.{Setting}
 use Rattle.mon_topo.specs.declared.zones.ZoneSpec.{ZoneSpec}
@@ -13,22 +12,20 @@ use Rattle.query_core.specs.declared.asks.Ask.TheVariants as ask
 use Rattle.query_core.specs.declared.asks.Told.{Told}
 use Rattle.query_core.specs.declared.stages.Stage.{Stage}
 use Rattle.query_core.specs.declared.stages.Stage.TheVariants as at
+use Rattle.weave_core.proofs.TaskLemmas.{no_fault}
 use Rattle.weave_core.specs.ActorAgreements.{IsActorSo, IsTaskSo, IsQuerying}
 use Rattle.weave_core.specs.ActorSteps.{ActorSteps, IsIn, QueriedSo}
 use Rattle.core_theory.specs.Core.{Reader, Tells, asked_now, told_on, view_told, world_then}
 use Rattle.weave_core.specs.EndTexts.{query_text}
-use Rattle.weave_core.specs.EventNames.{event_of_query}
 use Rattle.weave_core.specs.QueryTurns.{IsAsking, QueriesSo}
 use Rattle.weave_core.specs.States.{Asking, Dismissed, Eventless, Recovering, Role, State, Switching, Undeclared}
 use Rattle.weave_core.specs.States.{Writing}
-use Rattle.weave_core.specs.States.{role_fault}
 use Rattle.mon_value.specs.Parts.{is_any}
-use Rattle.weave_core.specs.States.{holder_in, step_fault, store_of}
+use Rattle.weave_core.specs.States.{holder_in, store_of}
 use Rattle.weave_core.specs.Steps.{StepsIn, query_stepped, with_event}
 use Rattle.weave_core.specs.declared.actors.Actor.{Actor}
 use Rattle.weave_core.specs.declared.actors.Task.TheVariants as task
 use Rattle.weave_core.specs.declared.calls.Stepped.TheVariants as stepped
-use Rattle.weave_core.specs.declared.calls.WeaveFault.TheVariants as fault
 use Rattle.weave_core.specs.declared.calls.Stepped.{Stepped}
 use Rattle.weave_core.specs.declared.queries.QueryTurn.{QueryTurn}
 use Rattle.weave_core.specs.declared.queries.QueryTurn.TheVariants as turn
@@ -49,14 +46,6 @@ query_stays zones setting (at.Resolving course round range) going = refl
 query_stays zones setting (at.Reloading course round loading) going = refl
 query_stays zones setting (at.Visiting course round visits leaf) going = refl
 query_stays zones setting (at.Ended end) going = absurd (going refl)
-
--- who asks for something has an event
-pub has_event : (asks : Ask) → asks ≢ ask.Finished → is_some (event_of_query asks) ≡ true
-has_event (ask.LoadRoot bucket) going = refl
-has_event (ask.LoadZone zone bucket) going = refl
-has_event (ask.Resolve range) going = refl
-has_event (ask.Visit leaf) going = refl
-has_event ask.Finished going = absurd (going refl)
 
 -- ---- what a query's event leaves as it was
 
@@ -114,16 +103,6 @@ module _ (config : Config) (state : State (store_of config)) (i : ℕ) (store : 
     goes_on = queries.goes_on;
   }
 
-  asks_so : asked_now (store_of config) reader ≡ query.ask_of querying.machine.setting querying.machine.stage
-  asks_so = λ k. query.ask_of (queries.reader_so.setting k) (queries.reader_so.now k).stage
-
-  no_fault : step_fault (store_of config) state i ≡ None
-  no_fault =
-      ap (role_fault (store_of config) state i) role_is
-      ∙ ap (λ (some : Bool). cond (not some) (Some fault.Finished) None)
-      (ap (λ (asks : Ask). is_some (event_of_query asks)) asks_so
-      ∙ has_event (query.ask_of querying.machine.setting querying.machine.stage) queries.goes_on)
-
   module _ (answer : Told) (stage : Stage) where
     abbrev then' : State (store_of config)
     then' = with_event (store_of config) state (Tells i answer stage)
@@ -154,7 +133,7 @@ module _ (config : Config) (state : State (store_of config)) (i : ℕ) (store : 
       → QueriedSo zones turn now begun own how → ActorSteps config state i new before own how
   query_steps zones new now (turn.Went next) own how same went h =
       subst (λ (o : Option Stepped). ActorSteps config state i new before own o) (sym h.1) (record {
-        fault = no_fault;
+        fault = no_fault config state i store before here refl;
         after = then' went.answer went.stage;
         steps = subst (λ (role : Role). StepsIn (store_of config) role state i stepped.Went
             (then' went.answer went.stage))
@@ -182,7 +161,7 @@ module _ (config : Config) (state : State (store_of config)) (i : ℕ) (store : 
       })
   query_steps zones new now (turn.Waits next) own how same waits h =
       subst (λ (o : Option Stepped). ActorSteps config state i new before own o) (sym h.1) (record {
-        fault = no_fault;
+        fault = no_fault config state i store before here refl;
         after = state;
         steps = subst (λ (role : Role). StepsIn (store_of config) role state i stepped.Waits state) (sym role_is)
             (inl (record {
@@ -204,7 +183,7 @@ module _ (config : Config) (state : State (store_of config)) (i : ℕ) (store : 
       })
   query_steps zones new now (turn.Ended end) own how same ended h =
       subst (λ (o : Option Stepped). ActorSteps config state i new before own o) (sym h.1) (record {
-        fault = no_fault;
+        fault = no_fault config state i store before here refl;
         after = then' ended.answer (at.Ended end);
         steps = subst (λ (role : Role). StepsIn (store_of config) role state i (stepped.Ended (query_text zones end))
             (then' ended.answer (at.Ended end))) (sym role_is)

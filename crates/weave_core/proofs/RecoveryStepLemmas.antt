@@ -1,26 +1,24 @@
 -- A step of an actor that recovers a range.
-use Rattle.std.proofs.Common.{◌≡◌, ◌≢◌, ◌∙◌, ℕ, Bool, true, not, cond, Option, Some, None, List, refl}
+use Rattle.std.proofs.Common.{◌≡◌, ◌≢◌, ◌∙◌, ℕ, Bool, true, Option, Some, List, refl}
 use Rattle.std.proofs.Common.{sym, ap, subst, inl, inr}
-use Rattle.std.specs.Prelude.{is_some}
 use Rattle.core_theory.specs.Core.{Happens}
 use Rattle.mon_config.specs.declared.config.Config.{Config}
 use Rattle.mon_topo.specs.declared.sights.Sight.{Sight}
 use Rattle.mon_topo.specs.declared.zones.ZoneSpec.{ZoneSpec}
+use Rattle.weave_core.proofs.TaskLemmas.{no_fault}
 use Rattle.weave_core.specs.ActorAgreements.{IsActorSo, IsRecovering, IsTaskSo}
 use Rattle.weave_core.specs.ActorSteps.{ActorSteps, IsIn, RecoveredSo}
 use Rattle.weave_core.specs.EndTexts.{recover_text}
-use Rattle.weave_core.specs.EventNames.{event_of_copy}
 use Rattle.weave_core.specs.Recoverers.{recovery_of}
 use Rattle.weave_core.specs.RecoverTurns.{IsOpening, RecoversSo}
 use Rattle.weave_core.specs.States.{Asking, Dismissed, Eventless, Recovering, Role, State, Switching, Undeclared}
 use Rattle.weave_core.specs.States.{Writing}
-use Rattle.weave_core.specs.States.{copy_asks, holder_in, recovers_begun, role_fault, step_fault, store_of}
+use Rattle.weave_core.specs.States.{copy_asks, holder_in, recovers_begun, store_of}
 use Rattle.weave_core.specs.Steps.{StepsIn, recover_stepped, recovery_stepped, with_event}
 use Rattle.weave_core.specs.declared.actors.Actor.{Actor}
 use Rattle.weave_core.specs.declared.actors.Task.TheVariants as task
 use Rattle.weave_core.specs.declared.calls.Stepped.{Stepped}
 use Rattle.weave_core.specs.declared.calls.Stepped.TheVariants as stepped
-use Rattle.weave_core.specs.declared.calls.WeaveFault.TheVariants as fault
 use Rattle.weave_core.specs.declared.recoveries.RecoverTurn.{RecoverTurn}
 use Rattle.weave_core.specs.declared.recoveries.RecoverTurn.TheVariants as turn
 use Rattle.weave_core.specs.declared.recoveries.Recovering.{Recovering as Recover}
@@ -30,7 +28,6 @@ use Rattle.write_core.specs.Events.{Copies}
 use Rattle.write_core.specs.Recovering.{Beginning, Carrying, CopyStage, Copying, Nearing, Over, Telling, Within}
 use Rattle.write_core.specs.declared.copies.CopyTold.{CopyTold}
 use Rattle.write_core.specs.World.{Actor as Doer, Recovery, view_of}
-use Rattle.write_core.specs.declared.copies.CopyAsk.{CopyAsk}
 use Rattle.write_core.specs.declared.copies.CopyAsk.TheVariants as ask
 
 stays_by : (zones : List ZoneSpec) (who : Recovery) (stage : CopyStage) → copy_ask_of stage ≢ ask.Finished
@@ -42,18 +39,6 @@ stays_by zones who (Nearing rows) going = refl
 stays_by zones who (Within rows at_root in_zone) going = refl
 stays_by zones who (Telling outcome) going = refl
 stays_by zones who (Over outcome) going = absurd (going refl)
-
--- who asks for something has an event
-pub recovery_has_event : (asks : CopyAsk) → asks ≢ ask.Finished → is_some (event_of_copy asks) ≡ true
-recovery_has_event ask.Lock going = refl
-recovery_has_event (ask.Copy slot leaf) going = refl
-recovery_has_event ask.Reserve going = refl
-recovery_has_event ask.Enter going = refl
-recovery_has_event (ask.RaiseRoot bucket) going = refl
-recovery_has_event (ask.RaiseZone bucket) going = refl
-recovery_has_event ask.Put going = refl
-recovery_has_event ask.Ack going = refl
-recovery_has_event ask.Finished going = absurd (going refl)
 
 -- ---- a recovery's step
 
@@ -89,13 +74,6 @@ module _ (config : Config) (state : State (store_of config)) (i : ℕ) (store : 
     goes_on = recovers.goes_on;
   }
 
-  no_fault : step_fault (store_of config) state i ≡ None
-  no_fault =
-      ap (role_fault (store_of config) state i) role_is
-      ∙ ap (λ (some : Bool). cond (not some) (Some fault.Finished) None)
-      (ap (λ (who : Doer). is_some (event_of_copy (copy_asks who))) recovers.recoverer.recovers
-      ∙ recovery_has_event (copy_ask_of recovering.machine) recovers.goes_on)
-
   abbrev before : Actor
   before = record { task = task.Recovers recovering; sight = sight; begun = begun }
 
@@ -114,7 +92,7 @@ module _ (config : Config) (state : State (store_of config)) (i : ℕ) (store : 
       → ActorSteps config state i new (record { task = task.Recovers recovering; sight = sight; begun = begun }) own how
   recover_steps zones new now (turn.Went next) own how same went h =
       subst (λ (o : Option Stepped). ActorSteps config state i new before own o) (sym h.1) (record {
-        fault = no_fault;
+        fault = no_fault config state i store before here refl;
         after = then' went.answer;
         steps = subst (λ (role : Role). StepsIn (store_of config) role state i stepped.Went (then' went.answer))
             (sym role_is)
@@ -139,7 +117,7 @@ module _ (config : Config) (state : State (store_of config)) (i : ℕ) (store : 
       })
   recover_steps zones new now (turn.Waits next) own how same waits h =
       subst (λ (o : Option Stepped). ActorSteps config state i new before own o) (sym h.1) (record {
-        fault = no_fault;
+        fault = no_fault config state i store before here refl;
         after = state;
         steps = subst (λ (role : Role). StepsIn (store_of config) role state i stepped.Waits state) (sym role_is)
             (inl (record {
@@ -156,7 +134,7 @@ module _ (config : Config) (state : State (store_of config)) (i : ℕ) (store : 
       })
   recover_steps zones new now (turn.Ended range leaf outcome) own how same ended h =
       subst (λ (o : Option Stepped). ActorSteps config state i new before own o) (sym h.1) (record {
-        fault = no_fault;
+        fault = no_fault config state i store before here refl;
         after = then' ended.answer;
         steps = subst (λ (role : Role). StepsIn (store_of config) role state i
             (stepped.Ended (recover_text zones range leaf outcome)) (then' ended.answer)) (sym role_is)

@@ -24,6 +24,7 @@ use Rattle.weave_core.proofs.AskingLemmas.{some_holder}
 use Rattle.weave_core.proofs.DeclareLemmas.{stands_so}
 use Rattle.weave_core.proofs.ReachedLemmas.{part_of}
 use Rattle.weave_core.proofs.SeatLemmas.{leaf_so_then, parts_alike, same_at_leaf, shared_at_leaf}
+use Rattle.weave_core.proofs.TaskLemmas.{no_fault}
 use Rattle.weave_core.specs.ActorAgreements.{IsActorSo, IsDismissed, IsSwitching, IsTaskSo}
 use Rattle.weave_core.specs.ActorSteps.{ActorSteps, HasStepped, IsIn, SwitchedSo}
 use Rattle.weave_core.specs.Agreements.{AreShared, IsLeafSo}
@@ -31,7 +32,7 @@ use Rattle.weave_core.specs.EndTexts.{switch_text}
 use Rattle.weave_core.specs.QueryLooks.{IsHeldFrom}
 use Rattle.weave_core.specs.States.{Asking, Dismissed, Eventless, Recovering, Role, State, Switching, Undeclared}
 use Rattle.weave_core.specs.States.{Writing}
-use Rattle.weave_core.specs.States.{holder_in, role_fault, store_of}
+use Rattle.weave_core.specs.States.{holder_in, store_of}
 use Rattle.weave_core.specs.Steps.{StepsIn, with_event, with_role}
 use Rattle.weave_core.specs.Switches.{IsSeatedToSwitch, SwitchesAt, SwitchesLeaf, history_switched, switch_told}
 use Rattle.weave_core.specs.WriteEvents.{ChangesLeaf}
@@ -169,9 +170,6 @@ module _ (config : Config) (state : State (store_of config)) (i : ℕ) (store : 
           subst (λ (n : ℕ). leaf.0 < n) (sym (same ∙ all)) so.there,
         )
 
-    no_fault : role_fault (store_of config) state i (state.roles i) ≡ None
-    no_fault = ap (role_fault (store_of config) state i) role_is
-
     module _ (new : Store) (now : Sight) (seat left : LeafSeat)
         (was : slice_get store.leaves.items leaf.0 ≡ Some seat) (changes : ChangesLeaf leaf left store new) where
       seat_so : IsLeafSo config world leaf seat
@@ -235,7 +233,7 @@ module _ (config : Config) (state : State (store_of config)) (i : ℕ) (store : 
         switched_so : HasStepped config state i new (record { task = task.Ended; sight = now; begun = true })
             (stepped.Ended (switch_text config.topology leaf down answer))
         switched_so = record {
-          fault = no_fault;
+          fault = no_fault config state i store before here refl;
           after = After;
           steps = subst (λ (role : Role). StepsIn (store_of config) role state i
               (stepped.Ended (switch_text config.topology leaf down answer)) After) (sym role_is)
@@ -255,7 +253,7 @@ module _ (config : Config) (state : State (store_of config)) (i : ℕ) (store : 
           let other = some_holder seat.holder held.held in
           let holds : world.leaf_holder leaf.0 ≡ Some other.0 = sym seat_so.holder ∙ other.1 in
           record {
-            fault = no_fault;
+            fault = no_fault config state i store before here refl;
             after = state;
             steps = subst (λ (role : Role). StepsIn (store_of config) role state i stepped.Waits state) (sym role_is)
                 (inl (record {

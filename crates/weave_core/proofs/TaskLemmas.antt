@@ -1,5 +1,6 @@
 -- What an actor tells of itself is so in every state of the core that agrees.
-use Rattle.std.proofs.Common.{◌≡◌, ◌≢◌, ℕ, Bool, true, false, not, Option, Some, None, Bor, refl, sym, ap, subst, ◌∙◌}
+use Rattle.std.proofs.Common.{◌≡◌, ◌≢◌, ℕ, Bool, true, false, not, cond, Option, Some, None, Bor, refl, sym}
+use Rattle.std.proofs.Common.{ap, subst, ◌∙◌}
 use Rattle.std.specs.Prelude.{◌||◌, is_some}
 use Rattle.std.specs.Option.{option_copied}
 use Rattle.mon_config.specs.declared.config.Config.{Config}
@@ -8,9 +9,9 @@ use Rattle.query_core.specs.Program as query
 use Rattle.query_core.specs.Settings.{QuerySetting}
 use Rattle.query_core.specs.declared.asks.Ask.{Ask}
 use Rattle.query_core.specs.declared.asks.Ask.TheVariants as query_ask
-use Rattle.weave_core.proofs.RecoveryStepLemmas.{recovery_has_event}
 use Rattle.weave_core.specs.ActorAgreements.{Agrees, IsActorSo, IsRecovering, IsTaskSo, IsQuerying, IsWriting}
 use Rattle.weave_core.specs.ActorAgreements.{actor_numbered}
+use Rattle.weave_core.specs.ActorSteps.{IsIn}
 use Rattle.core_theory.specs.Core.{Reader, asked_now, query_now}
 use Rattle.weave_core.specs.Tasks.{event_of, is_over}
 use Rattle.weave_core.specs.EventNames.{event_of_copy, event_of_query, event_of_write}
@@ -18,7 +19,7 @@ use Rattle.weave_core.specs.States as spec
 use Rattle.weave_core.specs.States.{Asking, Dismissed, Eventless, Recovering, Role, State, Switching, Undeclared}
 use Rattle.weave_core.specs.States.{Writing}
 use Rattle.weave_core.specs.States.{begun_in, copy_asks}
-use Rattle.weave_core.specs.States.{declared_in, ended_in, role_fault, next_in, store_of, write_asks}
+use Rattle.weave_core.specs.States.{declared_in, ended_in, role_fault, next_in, step_fault, store_of, write_asks}
 use Rattle.weave_core.specs.declared.actors.Actor.{Actor}
 use Rattle.weave_core.specs.declared.actors.Task.{Task}
 use Rattle.weave_core.specs.declared.actors.Task.TheVariants as task
@@ -26,6 +27,7 @@ use Rattle.weave_core.specs.declared.calls.WeaveFault.TheVariants as fault
 use Rattle.weave_core.specs.declared.queries.Querying.{Querying}
 use Rattle.weave_core.specs.declared.recoveries.Recovering.{Recovering as Recover}
 use Rattle.mon_topo.specs.declared.sights.Sight.{Sight}
+use Rattle.weave_core.specs.declared.store.Store.{Store}
 use Rattle.weave_core.specs.declared.weave.Weave.{Weave}
 use Rattle.weave_core.specs.declared.writes.Writing.{Writing as Write}
 use Rattle.write_core.specs.CopyPhases.{copy_ask_of}
@@ -34,23 +36,36 @@ use Rattle.write_core.specs.World.{Actor as Doer}
 use Rattle.write_core.specs.declared.asks.WriteAsk.{WriteAsk}
 use Rattle.write_core.specs.declared.asks.WriteAsk.TheVariants as write_ask
 use Rattle.write_core.specs.declared.copies.CopyAsk.{CopyAsk}
+use Rattle.write_core.specs.declared.copies.CopyAsk.TheVariants as copy_ask
 
-write_goes : (asks : WriteAsk) → asks ≢ write_ask.Finished → is_some (event_of_write asks) ≡ true
-write_goes write_ask.Lock on = refl
-write_goes (write_ask.Reserve slot leaf) on = refl
-write_goes (write_ask.Enter slot leaf) on = refl
-write_goes (write_ask.RaiseRoot bucket) on = refl
-write_goes (write_ask.RaiseZone bucket) on = refl
-write_goes (write_ask.Put slot leaf) on = refl
-write_goes write_ask.Ack on = refl
-write_goes write_ask.Finished on = absurd (on refl)
+-- who asks for something has an event
+write_has_event : (asks : WriteAsk) → asks ≢ write_ask.Finished → is_some (event_of_write asks) ≡ true
+write_has_event write_ask.Lock going = refl
+write_has_event (write_ask.Reserve slot leaf) going = refl
+write_has_event (write_ask.Enter slot leaf) going = refl
+write_has_event (write_ask.RaiseRoot bucket) going = refl
+write_has_event (write_ask.RaiseZone bucket) going = refl
+write_has_event (write_ask.Put slot leaf) going = refl
+write_has_event write_ask.Ack going = refl
+write_has_event write_ask.Finished going = absurd (going refl)
 
-query_goes : (asks : Ask) → asks ≢ query_ask.Finished → is_some (event_of_query asks) ≡ true
-query_goes (query_ask.LoadRoot bucket) on = refl
-query_goes (query_ask.LoadZone zone bucket) on = refl
-query_goes (query_ask.Resolve range) on = refl
-query_goes (query_ask.Visit leaf) on = refl
-query_goes query_ask.Finished on = absurd (on refl)
+recovery_has_event : (asks : CopyAsk) → asks ≢ copy_ask.Finished → is_some (event_of_copy asks) ≡ true
+recovery_has_event copy_ask.Lock going = refl
+recovery_has_event (copy_ask.Copy slot leaf) going = refl
+recovery_has_event copy_ask.Reserve going = refl
+recovery_has_event copy_ask.Enter going = refl
+recovery_has_event (copy_ask.RaiseRoot bucket) going = refl
+recovery_has_event (copy_ask.RaiseZone bucket) going = refl
+recovery_has_event copy_ask.Put going = refl
+recovery_has_event copy_ask.Ack going = refl
+recovery_has_event copy_ask.Finished going = absurd (going refl)
+
+query_has_event : (asks : Ask) → asks ≢ query_ask.Finished → is_some (event_of_query asks) ≡ true
+query_has_event (query_ask.LoadRoot bucket) going = refl
+query_has_event (query_ask.LoadZone zone bucket) going = refl
+query_has_event (query_ask.Resolve range) going = refl
+query_has_event (query_ask.Visit leaf) going = refl
+query_has_event query_ask.Finished going = absurd (going refl)
 
 or_false : (b : Bool) → (b || false) ≡ b
 or_false true = refl
@@ -63,6 +78,10 @@ or_true false = refl
 pub some_copied : {T : Type 0} (found : Option (Bor T)) → is_some found ≡ is_some (option_copied found)
 some_copied None = refl
 some_copied (Some one) = refl
+
+-- what has not ended is no fault
+pub unended : {over : Bool} → over ≡ false → cond over (Some fault.Finished) None ≡ None
+unended on = ap (λ (b : Bool). cond b (Some fault.Finished) None) on
 
 module _ (config : Config) (state : State (store_of config)) (i : ℕ) where
   abbrev Doer' : Doer
@@ -210,7 +229,7 @@ module _ (config : Config) (state : State (store_of config)) (i : ℕ) where
   over_so Writing (task.Recovers recovering) begun sight h = absurd h
   over_so Writing (task.Writes writing) begun sight h =
       sym (ap (λ (asks : WriteAsk). not (is_some (event_of_write asks))) (sym (write_asks_so writing begun sight h))
-      ∙ ap not (write_goes (write.ask_of writing.machine.stage) h.goes_on))
+      ∙ ap not (write_has_event (write.ask_of writing.machine.stage) h.goes_on))
   over_so Writing (task.Queries querying) begun sight h = absurd h
   over_so Writing task.Ended begun sight h = sym (ap (λ (asks : WriteAsk). not (is_some (event_of_write asks)))
       h.ended)
@@ -220,7 +239,7 @@ module _ (config : Config) (state : State (store_of config)) (i : ℕ) where
   over_so Asking (task.Writes writing) begun sight h = absurd h
   over_so Asking (task.Queries querying) begun sight h =
       sym (ap (λ (asks : Ask). not (is_some (event_of_query asks))) (sym (query_asks_so querying begun sight h))
-      ∙ ap not (query_goes (query.ask_of querying.machine.setting querying.machine.stage) h.goes_on))
+      ∙ ap not (query_has_event (query.ask_of querying.machine.setting querying.machine.stage) h.goes_on))
   over_so Asking task.Ended begun sight h = sym (ap (λ (asks : Ask). not (is_some (event_of_query asks))) h.ended)
 
   not_over : (role : Role) → IsActorSo config i Doer' Reader' role None → false ≡ ended_in (store_of config) state i
@@ -232,6 +251,19 @@ module _ (config : Config) (state : State (store_of config)) (i : ℕ) where
   not_over Recovering h = absurd h
   not_over Writing h = absurd h
   not_over Asking h = absurd h
+
+  -- ---- whether it can be stepped
+
+  free_so : (role : Role) (one : Task) (begun : Bool) (sight : Sight) → IsTaskSo config i Doer' Reader' role one
+      begun sight
+      → is_over one ≡ false → role_fault (store_of config) state i role ≡ None
+  free_so Undeclared one begun sight h on = absurd h
+  free_so (Eventless text) one begun sight h on = refl
+  free_so (Switching leaf down) one begun sight h on = refl
+  free_so Dismissed one begun sight h on = unended (sym (over_so Dismissed one begun sight h) ∙ on)
+  free_so Recovering one begun sight h on = unended (sym (over_so Recovering one begun sight h) ∙ on)
+  free_so Writing one begun sight h on = unended (sym (over_so Writing one begun sight h) ∙ on)
+  free_so Asking one begun sight h on = unended (sym (over_so Asking one begun sight h) ∙ on)
 
   -- ---- whether it has begun
 
@@ -322,3 +354,10 @@ module _ (weave : Weave) (i : ℕ) (is : None ≡ actor_numbered weave.actors.it
 
   pub begun_nowhere : false ≡ spec.has_begun (store_of config) state i
   begun_nowhere = not_begun config state i (state.roles i) (here weave i None is config state agrees)
+
+-- ---- of an actor that is stepped
+
+module _ (config : Config) (state : State (store_of config)) (i : ℕ) (store : Store) (own : Actor)
+    (there : IsIn config state i store own) where
+  pub no_fault : is_over own.task ≡ false → step_fault (store_of config) state i ≡ None
+  no_fault = free_so config state i (state.roles i) own.task own.begun own.sight there.actor

@@ -1,5 +1,5 @@
 -- That an actor whose step went has a next one, and actors that go on.
-use Rattle.std.proofs.Common.{◌≡◌, ◌∙◌, inl, inr, ℕ, zero, suc, ◌+◌, ◌<◌, Bool, true, not, is_some, cond, List, []}
+use Rattle.std.proofs.Common.{◌≡◌, ◌∙◌, inl, inr, ℕ, zero, suc, ◌+◌, ◌<◌, true, not, is_some, List, []}
 use Rattle.std.proofs.Common.{◌∷◌, Option, Some, None, Err, refl, sym, ap, subst, arith}
 use Rattle.mon_config.specs.declared.config.Config.{Config}
 use Rattle.mon_topo.specs.Settings.{Setting}
@@ -10,6 +10,7 @@ use Rattle.query_core.specs.Program.{ask_of}
 use Rattle.query_core.specs.Settings.{QuerySetting}
 use Rattle.query_core.specs.declared.stages.Stage.{Stage}
 use Rattle.query_core.specs.declared.stages.Stage.TheVariants as query
+use Rattle.weave_core.proofs.TaskLemmas.{unended}
 use Rattle.weave_core.specs.ActorAgreements.{Agrees}
 use Rattle.core_theory.specs.Core.{query_now}
 use Rattle.weave_core.specs.EndTexts.{switch_text}
@@ -26,7 +27,6 @@ use Rattle.weave_core.specs.WeaveCalls as call
 use Rattle.weave_core.specs.declared.calls.Stepped.{Stepped}
 use Rattle.weave_core.specs.declared.calls.Stepped.TheVariants as stepped
 use Rattle.weave_core.specs.declared.calls.WeaveFault.{WeaveFault}
-use Rattle.weave_core.specs.declared.calls.WeaveFault.TheVariants as fault
 use Rattle.weave_core.specs.declared.events.Event.{Event}
 use Rattle.weave_core.specs.declared.limits.TheConstants.{MOST_EVENTS}
 use Rattle.weave_core.specs.declared.weave.Weave.{Weave}
@@ -99,10 +99,6 @@ query_on zones setting (query.Reloading course round loading) e = refl
 query_on zones setting (query.Visiting course round visits leaf) e = refl
 query_on zones setting (query.Ended end) e = absurd cc
 
--- one that has a next event has not ended
-no_fault : (some : Bool) → some ≡ true → cond (not some) (Some fault.Finished) None ≡ None
-no_fault some e = ap (λ b. cond (not b) (Some fault.Finished) None) e
-
 module _ (store : Setting) (k : ℕ) where
   went_in : (role : Role) (state after : State store) → StepsIn store role state k stepped.Went after
       → role_fault store after k role ≡ None
@@ -112,15 +108,14 @@ module _ (store : Setting) (k : ℕ) where
   went_in Dismissed state after steps = absurd steps
   went_in Recovering state after (inl waits) = let no : stepped.Went ≡ stepped.Waits = waits.waits in absurd cc
   went_in Recovering state after (inr goes) =
-      no_fault (is_some (next_in store after k Recovering))
-      (recover_on store.zones (after.core.world.actors k) goes.went)
+      unended (ap not (recover_on store.zones (after.core.world.actors k) goes.went))
   went_in Writing state after (inl waits) = let no : stepped.Went ≡ stepped.Waits = waits.waits in absurd cc
   went_in Writing state after (inr goes) =
-      no_fault (is_some (next_in store after k Writing)) (write_on store.zones (after.core.world.actors k) goes.went)
+      unended (ap not (write_on store.zones (after.core.world.actors k) goes.went))
   went_in Asking state after (inl waits) = let no : stepped.Went ≡ stepped.Waits = waits.waits in absurd cc
   went_in Asking state after (inr goes) =
-      no_fault (is_some (next_in store after k Asking))
-      (query_on store.zones (after.core.readers k).setting (query_now store (after.core.readers k)).stage goes.went)
+      unended (ap not (query_on store.zones (after.core.readers k).setting
+      (query_now store (after.core.readers k)).stage goes.went))
 
   -- a step that went leaves the roles as they were
   same_role : (role : Role) (state after : State store) → StepsIn store role state k stepped.Went after → after.roles k
@@ -150,9 +145,9 @@ module _ (store : Setting) (k : ℕ) where
   next_free_in (Eventless text) state event e = refl
   next_free_in (Switching leaf down) state event e = refl
   next_free_in Dismissed state event e = absurd cc
-  next_free_in Recovering state event e = no_fault (is_some (next_in store state k Recovering)) (ap is_some e)
-  next_free_in Writing state event e = no_fault (is_some (next_in store state k Writing)) (ap is_some e)
-  next_free_in Asking state event e = no_fault (is_some (next_in store state k Asking)) (ap is_some e)
+  next_free_in Recovering state event e = unended (ap (λ (o : Option Event). not (is_some o)) e)
+  next_free_in Writing state event e = unended (ap (λ (o : Option Event). not (is_some o)) e)
+  next_free_in Asking state event e = unended (ap (λ (o : Option Event). not (is_some o)) e)
 
   -- who has a next event can be stepped
   pub next_free : (state : State store) (goal : Option Event) → IsNextEvent store state k goal

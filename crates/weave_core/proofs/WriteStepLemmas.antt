@@ -1,20 +1,18 @@
 -- A step of an actor that writes.
-use Rattle.std.proofs.Common.{◌≡◌, ◌≢◌, ℕ, Bool, true, false, not, cond, Option, Some, None, List, [], ◌∷◌, map, refl}
+use Rattle.std.proofs.Common.{◌≡◌, ◌≢◌, ℕ, Bool, true, false, cond, Option, Some, List, [], ◌∷◌, map, refl}
 use Rattle.std.proofs.Common.{sym, ap, subst, ◌∙◌, inl, inr}
-use Rattle.std.specs.Prelude.{is_some}
 use Rattle.mon_config.specs.declared.config.Config.{Config}
 use Rattle.mon_topo.specs.Settings.{Setting}
 use Rattle.mon_topo.specs.declared.zones.ZoneSpec.{ZoneSpec}
 use Rattle.mon_value.specs.declared.positions.Range.{Range}
+use Rattle.weave_core.proofs.TaskLemmas.{no_fault}
 use Rattle.weave_core.specs.ActorAgreements.{IsActorSo, IsTaskSo, IsWriting}
 use Rattle.weave_core.specs.ActorSteps.{ActorSteps, IsIn, WrittenSo}
 use Rattle.core_theory.specs.Core.{Happens}
 use Rattle.weave_core.specs.EndTexts.{write_end_text}
-use Rattle.weave_core.specs.EventNames.{event_of_write}
 use Rattle.weave_core.specs.States.{Asking, Dismissed, Eventless, Recovering, Role, State, Switching, Undeclared}
 use Rattle.weave_core.specs.States.{Writing}
-use Rattle.weave_core.specs.States.{role_fault}
-use Rattle.weave_core.specs.States.{holder_in, is_past_lock, step_fault, store_of, write_asks, writes_begun}
+use Rattle.weave_core.specs.States.{holder_in, is_past_lock, store_of, write_asks, writes_begun}
 use Rattle.weave_core.specs.Steps.{StepsIn, with_event, write_stepped, writer_stepped}
 use Rattle.weave_core.specs.WriteTurns.{IsAtWork, WritesSo}
 use Rattle.weave_core.specs.Writers.{writer_of}
@@ -22,7 +20,6 @@ use Rattle.weave_core.specs.declared.actors.Actor.{Actor}
 use Rattle.weave_core.specs.declared.actors.Task.TheVariants as task
 use Rattle.weave_core.specs.declared.calls.Stepped.{Stepped}
 use Rattle.weave_core.specs.declared.calls.Stepped.TheVariants as stepped
-use Rattle.weave_core.specs.declared.calls.WeaveFault.TheVariants as fault
 use Rattle.mon_topo.specs.declared.sights.Sight.{Sight}
 use Rattle.weave_core.specs.declared.store.Store.{Store}
 use Rattle.weave_core.specs.declared.writes.WriteTurn.{WriteTurn}
@@ -36,7 +33,6 @@ use Rattle.write_core.specs.Marks.{waiting}
 use Rattle.write_core.specs.Rounds.{Round, again, is_through, after_look, round_marks, round_of, after_skip}
 use Rattle.write_core.specs.Steps.{CanComeAt, CanGo}
 use Rattle.write_core.specs.World.{Actor as Doer, World, Writer, view_of}
-use Rattle.write_core.specs.declared.asks.WriteAsk.{WriteAsk}
 use Rattle.write_core.specs.declared.asks.WriteAsk.TheVariants as ask
 use Rattle.write_core.specs.declared.asks.WriteTold.{WriteTold}
 use Rattle.write_core.specs.declared.asks.WriteTold.TheVariants as told
@@ -110,17 +106,6 @@ stays_by zones who (Inside round at_root in_zone) going = refl
 stays_by zones who (Acking verdict) going = refl
 stays_by zones who (Ended verdict) going = absurd (going refl)
 
--- who asks for something has an event
-pub has_event : (asks : WriteAsk) → asks ≢ ask.Finished → is_some (event_of_write asks) ≡ true
-has_event ask.Lock going = refl
-has_event (ask.Reserve slot leaf) going = refl
-has_event (ask.Enter slot leaf) going = refl
-has_event (ask.RaiseRoot bucket) going = refl
-has_event (ask.RaiseZone bucket) going = refl
-has_event (ask.Put slot leaf) going = refl
-has_event ask.Ack going = refl
-has_event ask.Finished going = absurd (going refl)
-
 -- ---- a write's step
 
 module _ (config : Config) (state : State (store_of config)) (i : ℕ) (store : Store) (writing : Write) (sight : Sight)
@@ -156,13 +141,6 @@ module _ (config : Config) (state : State (store_of config)) (i : ℕ) (store : 
     goes_on = writes.goes_on;
   }
 
-  no_fault : step_fault (store_of config) state i ≡ None
-  no_fault =
-      ap (role_fault (store_of config) state i) role_is
-      ∙ ap (λ (some : Bool). cond (not some) (Some fault.Finished) None)
-      (ap (λ (who : Doer). is_some (event_of_write (write_asks who))) writes.writer.writer
-      ∙ has_event (ask_of writing.machine.stage) writes.goes_on)
-
   abbrev before : Actor
   before = record { task = task.Writes writing; sight = sight; begun = begun }
 
@@ -181,7 +159,7 @@ module _ (config : Config) (state : State (store_of config)) (i : ℕ) (store : 
       → ActorSteps config state i new (record { task = task.Writes writing; sight = sight; begun = begun }) own how
   write_steps zones new now (turn.Went next) own how same went h =
       subst (λ (o : Option Stepped). ActorSteps config state i new before own o) (sym h.1) (record {
-        fault = no_fault;
+        fault = no_fault config state i store before here refl;
         after = then' went.answer;
         steps = subst (λ (role : Role). StepsIn (store_of config) role state i stepped.Went (then' went.answer))
             (sym role_is)
@@ -211,7 +189,7 @@ module _ (config : Config) (state : State (store_of config)) (i : ℕ) (store : 
       })
   write_steps zones new now (turn.Waits next) own how same waits h =
       subst (λ (o : Option Stepped). ActorSteps config state i new before own o) (sym h.1) (record {
-        fault = no_fault;
+        fault = no_fault config state i store before here refl;
         after = state;
         steps = subst (λ (role : Role). StepsIn (store_of config) role state i stepped.Waits state) (sym role_is)
             (inl (record {
@@ -228,7 +206,7 @@ module _ (config : Config) (state : State (store_of config)) (i : ℕ) (store : 
       })
   write_steps zones new now (turn.Ended range last) own how same ended h =
       subst (λ (o : Option Stepped). ActorSteps config state i new before own o) (sym h.1) (record {
-        fault = no_fault;
+        fault = no_fault config state i store before here refl;
         after = then' ended.answer;
         steps = subst (λ (role : Role). StepsIn (store_of config) role state i
             (stepped.Ended (write_end_text zones range last))

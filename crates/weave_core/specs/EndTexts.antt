@@ -1,10 +1,8 @@
 -- What an actor prints that ends.
-use Rattle.std.specs.Prelude.{ℕ, Bool, List, [], ◌++◌, codes, length, Result, Ok, Err, if◌then◌else◌}
+use Rattle.std.specs.Prelude.{ℕ, Bool, List, ◌++◌, codes, length, Result, Ok, Err, if◌then◌else◌}
 use Rattle.std.specs.Fmt.{decimal}
-use Rattle.std.specs.List.{slice_index_or}
 use Rattle.mon_table.specs.Tables.{newline, printed_table}
-use Rattle.mon_topo.specs.NameTexts.{down_text, founds_text, range_text}
-use Rattle.mon_topo.specs.Zones.{leaves_in}
+use Rattle.mon_topo.specs.NameTexts.{down_text, founds_text, leaf_text, range_text}
 use Rattle.mon_topo.specs.declared.zones.ZoneSpec.{ZoneSpec}
 use Rattle.mon_value.specs.declared.positions.Leaf.{Leaf}
 use Rattle.mon_value.specs.declared.positions.Range.{Range}
@@ -35,7 +33,8 @@ write_end_text zones range (end.Written ack) =
     ++ (decimal (length ack.took) ++ (codes ", missed " ++ (decimal (length ack.missed) ++ newline)))
 write_end_text zones range (end.OldPoint last) = refused_line (refused_text (refused.OldPoint last))
 write_end_text zones range (end.RangeFull limit) = refused_line (refused_text (refused.RangeFull limit))
-write_end_text zones range (end.Unavailable founds) = refused_line (codes "Unavailable " ++ down_text zones range founds)
+write_end_text zones range (end.Unavailable founds) =
+    refused_line (codes "Unavailable " ++ down_text zones range founds)
 
 -- a leaf went down, or came up, or why it did not
 abbrev pub switch_word : Bool → List ℕ
@@ -44,7 +43,7 @@ switch_word down = if down then codes "down" else codes "up"
 abbrev pub switch_done : List ZoneSpec → Leaf → Bool → List ℕ
 switch_done zones leaf down =
     switch_word down
-    ++ (codes " " ++ (slice_index_or (leaves_in zones) leaf.0 [] ++ (codes ": done" ++ newline)))
+    ++ (codes " " ++ (leaf_text zones leaf ++ (codes ": done" ++ newline)))
 
 abbrev pub switch_text : List ZoneSpec → Leaf → Bool → SwitchTold → List ℕ
 switch_text zones leaf down (WasSwitched cut) = switch_done zones leaf down
@@ -58,7 +57,7 @@ opened_line zones range leaf slot =
     codes "recover "
     ++ (range_text zones range
     ++ (codes " "
-    ++ (slice_index_or (leaves_in zones) leaf.0 [] ++ (codes ": slot " ++ (decimal slot.0 ++ newline)))))
+    ++ (leaf_text zones leaf ++ (codes ": slot " ++ (decimal slot.0 ++ newline)))))
 
 -- or the range opens no replica there
 abbrev pub denied_line : Denial → List ℕ

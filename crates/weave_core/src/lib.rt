@@ -10,7 +10,6 @@ mod kept_laws;
 mod leaves;
 mod limits;
 mod lines;
-mod names;
 mod queries;
 mod query_looks;
 mod query_plans;

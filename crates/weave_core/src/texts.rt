@@ -5,10 +5,9 @@ ghost use Rattle.weave_core.specs.EndTexts as spec;
 ghost use Rattle.weave_core.specs.Switches.{switch_told};
 ghost use Rattle.write_core.specs.Refusals.{refused_text};
 
-use crate::names::{founds_text, leaf_text, range_text};
 use crate::switches::{Switched, Switching};
 use mon_table::print;
-use mon_topo::{Topology, down_text};
+use mon_topo::{Topology, down_text, founds_text, leaf_text, range_text};
 use mon_value::{Leaf, OutOfMemory, Range, Slot, Text};
 use query_core::{Answer, RoundFault, fault_text};
 use query_texts::TextFault;

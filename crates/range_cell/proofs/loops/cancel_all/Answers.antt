@@ -2,7 +2,7 @@ use Rattle.std.proofs.Common.{◌≡◌, ◌∷◌, [], ◌+◌, drop, subst}
 use Rattle.std.specs.Prelude.{List, slice_index_or}
 use Rattle.write_core.specs.declared.marks.Fate.TheVariants as fate
 use Rattle.std.proofs.lemmas.List.{at_drop_all, drop_more}
-use Rattle.range_cell.proofs.StageLemmas.{leaf_there, room_there}
+use Rattle.range_cell.proofs.RoomBackLemmas.{leaf_there, room_there}
 use Rattle.range_cell.specs.Stages.{IsWithdrawing}
 use Rattle.write_core.specs.declared.marks.Mark.{Mark}
 use Rattle.range_cell.proofs.loops.cancel_all.Goals as goal

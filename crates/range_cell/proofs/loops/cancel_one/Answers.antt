@@ -1,5 +1,5 @@
 use Rattle.std.proofs.Common.{◌≡◌, rules, true, false}
-use Rattle.range_cell.proofs.StageLemmas.{cancelled, passed_by}
+use Rattle.range_cell.proofs.RoomBackLemmas.{cancelled, passed_by}
 use Rattle.write_core.specs.Marks.{is_ready}
 use Rattle.range_cell.proofs.loops.cancel_one.Goals as goal
 

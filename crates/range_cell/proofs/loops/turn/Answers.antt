@@ -1,7 +1,7 @@
 use Rattle.std.proofs.Common.{sym, subst}
 use Rattle.mon_value.specs.declared.rows.Row.{Row}
 use Rattle.range_cell.proofs.OutcomeLemmas.{any_err}
-use Rattle.range_cell.proofs.StageLemmas.{may_put_at, may_reserve}
+use Rattle.range_cell.proofs.MayCallLemmas.{may_put_at, may_reserve}
 use Rattle.owners.specs.Puts.{MayPut}
 use Rattle.range_cell.specs.Stages.{IsAt}
 use Rattle.range_cell.proofs.loops.turn.Goals as goal

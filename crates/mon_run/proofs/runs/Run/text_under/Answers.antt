@@ -1,10 +1,10 @@
 use Rattle.std.proofs.Common.{◌∙◌, List, ℕ, sym, subst}
+use Rattle.mon_config.proofs.LimitLemmas.{is_limited}
 use Rattle.mon_run.specs.Endings.{Progress}
 use Rattle.mon_run.specs.Plans.{file_plan}
 use Rattle.mon_run.specs.declared.words.Verb.{Verb}
 use Rattle.mon_run.specs.within.Lines.{TextTells}
 use Rattle.mon_run.specs.within.Stops.{Weaves, noted, seen}
-use Rattle.mon_run.proofs.LimitLemmas.{is_limited}
 use Rattle.mon_run.proofs.RunLemmas.{none_noted, schedule_weave, text_weave}
 use Rattle.mon_run.proofs.runs.Run.text_under.Goals as goal
 use Rattle.weave_core.specs.Schedules.{IsPrinted}

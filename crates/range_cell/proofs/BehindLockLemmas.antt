@@ -1,0 +1,33 @@
+-- A write that asks for a leaf is behind the range's lock.
+use Rattle.std.proofs.Common.{◌≡◌, ◌≢◌, List, [], ◌∷◌, sym, ap, ◌∙◌}
+use Rattle.mon_value.specs.declared.positions.Leaf.{Leaf}
+use Rattle.mon_value.specs.declared.positions.Slot.{Slot}
+use Rattle.write_core.specs.Program.{Acking, Ended, Entering, Inside, Locking, Reserving, Stage, after, ask_of, reserve}
+use Rattle.write_core.specs.declared.asks.WriteAsk.TheVariants as ask
+use Rattle.write_core.specs.declared.asks.WriteTold.TheVariants as told
+use Rattle.write_core.specs.declared.marks.Mark.{Mark}
+
+pub begun_reserve : (stage : Stage) (slot : Slot) (leaf : Leaf) → ask_of stage ≡ ask.Reserve slot leaf → stage ≢ Locking
+begun_reserve stage slot leaf asks is = lock_not (sym asks ∙ ap ask_of is)
+  where
+    lock_not : ask.Reserve slot leaf ≡ ask.Lock → ⊥
+    lock_not h = cc
+
+pub begun_enter : (stage : Stage) (slot : Slot) (leaf : Leaf) → ask_of stage ≡ ask.Enter slot leaf → stage ≢ Locking
+begun_enter stage slot leaf asks is = lock_not (sym asks ∙ ap ask_of is)
+  where
+    lock_not : ask.Enter slot leaf ≡ ask.Lock → ⊥
+    lock_not h = cc
+
+pub inside_begun : (stage : Stage) (slot : Slot) (leaf : Leaf) → ask_of stage ≡ ask.Enter slot leaf
+    → after stage (told.Up []) ≢ Locking
+inside_begun Locking slot leaf asks is = cc
+inside_begun (Reserving round) slot leaf asks is = reserving_not round.left asks
+  where
+    reserving_not : (left : List Mark) → reserve left ≡ ask.Enter slot leaf → ⊥
+    reserving_not [] h = cc
+    reserving_not (mark ∷ left) h = cc
+inside_begun (Entering round) slot leaf asks is = cc
+inside_begun (Inside round at_root in_zone) slot leaf asks is = cc
+inside_begun (Acking verdict) slot leaf asks is = cc
+inside_begun (Ended verdict) slot leaf asks is = cc

@@ -1,7 +1,0 @@
--- the text is that of the leaves so far
-use Rattle.std.proofs.Common.{◌≡◌, take, string_bytes}
-use Rattle.mon_topo.specs.NameTexts as spec
-use Rattle.weave_core.proofs.names.founds_text.Given as goal
-
-abbrev pub invariant-loop-found : goal.invariant-loop-found
-invariant-loop-found l = string_bytes l.text ≡ spec.founds_text l.topology (take l.found-index l.founds)
