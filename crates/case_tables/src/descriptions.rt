@@ -33,7 +33,7 @@ pub fn value_of(alloc: Global, word: &str) -> Result<Value, Trouble> {
     match word {
         "!true" => Ok(Value::Bool(true)),
         "!false" => Ok(Value::Bool(false)),
-        _ => Ok(Value::Text(Text::from_string(text_of(alloc, word)?))),
+        _ => Ok(Value::Text(Text::from_string(text_of(alloc, word)?)?)),
     }
 }
 

@@ -95,7 +95,7 @@ fn switched_text(
 {
     let name = leaf_text(topology, leaf);
     let way = way_text(down);
-    Ok(Text::from_string(format!(in alloc; "{way} {name}: done\n")?))
+    Text::from_string(format!(in alloc; "{way} {name}: done\n")?)
 }
 
 // Which way a leaf goes.
@@ -171,7 +171,7 @@ fn recovered_text(
     let range = range_text(alloc, topology, range)?;
     let name = leaf_text(topology, leaf);
     let number = slot.0;
-    Ok(Text::from_string(format!(in alloc; "recover {range} {name}: slot {number}\n")?))
+    Text::from_string(format!(in alloc; "recover {range} {name}: slot {number}\n")?)
 }
 
 // A line that opened no replica. Where memory ran out the line has not run.

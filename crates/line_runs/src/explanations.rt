@@ -26,7 +26,7 @@ pub(crate) fn explained_text(
     let table = print(alloc, &answer.table)?;
     let explanation = explanation(alloc, topology, answer)?;
     let table = table.as_str();
-    Ok(Text::from_string(format!(in alloc; "{table}{explanation}")?))
+    Text::from_string(format!(in alloc; "{table}{explanation}")?)
 }
 
 // The lines behind the table.

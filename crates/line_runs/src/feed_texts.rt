@@ -23,7 +23,7 @@ pub(crate) fn feed_text(
 {
     let mut text = feed_summary(alloc, name.as_str(), fed.accepted.len(), fed.refused.len())?;
     match push_refusals(alloc, topology, &fed.refused, &mut text) {
-        Ok(()) => Ok(Text::from_string(text)),
+        Ok(()) => Text::from_string(text),
         Err(fault) => Err(fault),
     }
 }

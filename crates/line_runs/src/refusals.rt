@@ -63,7 +63,7 @@ fn refused_text(alloc: Global, topology: &Topology, fault: &LineFault) -> Result
     ensures text { IfOk result (λ text. text ≡ refused_line topology.now fault.now) }
 {
     let why = fault_text(alloc, topology, fault)?;
-    Ok(Text::from_string(format!(in alloc; "refused: {why}\n")?))
+    Text::from_string(format!(in alloc; "refused: {why}\n")?)
 }
 
 // A fault with its kind in front; leaves and ranges go by their names.

@@ -45,7 +45,7 @@ fn added(alloc: Global, name: &Text) -> Result<LineRan, OutOfMemory>
     let name = name.as_str();
     Ok(LineRan {
         trace: LineTrace::Done,
-        text: Text::from_string(format!(in alloc; "standing {name}: added\n")?),
+        text: Text::from_string(format!(in alloc; "standing {name}: added\n")?)?,
     })
 }
 

@@ -51,6 +51,6 @@ pub(crate) fn with_metrics(
 fn refused_at<T>(alloc: Global, key: &str, index: usize, fault: SchemaFault) -> Read<T>
     ensures refused { Gives result (Err (spec.schema_at key.now index fault)) }
 {
-    let path = Text::from_string(format!(in alloc; "$.{key}[{index}]")?);
+    let path = Text::from_string(format!(in alloc; "$.{key}[{index}]")?)?;
     Err(Refusal::Fault(ConfigFault::Schema(fault, path)))
 }

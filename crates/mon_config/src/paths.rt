@@ -13,7 +13,7 @@ pub(crate) type Shaped<T> = Result<T, Refusal<Text>>;
 pub(crate) fn path_through_key(alloc: Global, key: &str, path: &str) -> Result<Text, OutOfMemory>
     ensures path { IfOk result (λ longer. longer ≡ through_key key.now path.now) }
 {
-    Ok(Text::from_string(format!(in alloc; ".{key}{path}")?))
+    Text::from_string(format!(in alloc; ".{key}{path}")?)
 }
 
 /// The path that goes through an element first.
@@ -24,14 +24,14 @@ pub(crate) fn path_through_index(
 ) -> Result<Text, OutOfMemory>
     ensures path { IfOk result (λ longer. longer ≡ through_index index path.now) }
 {
-    Ok(Text::from_string(format!(in alloc; "[{index}]{path}")?))
+    Text::from_string(format!(in alloc; "[{index}]{path}")?)
 }
 
 /// The path of a value from the top.
 pub(crate) fn path_from_top(alloc: Global, path: &str) -> Result<Text, OutOfMemory>
     ensures path { IfOk result (λ whole. whole ≡ codes "$" ++ path.now) }
 {
-    Ok(Text::from_string(format!(in alloc; "${path}")?))
+    Text::from_string(format!(in alloc; "${path}")?)
 }
 
 /// The value itself is at fault.

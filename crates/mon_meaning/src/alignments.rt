@@ -23,7 +23,7 @@ use mon_fold::align;
 use mon_series::{KeptRows, Series};
 use mon_value::{
     Aligner, Cells, OutOfMemory, Refusal, SeriesKey, Shared, TimedRow, TimedRows, TimedValue,
-    TimedValues, TryCopy,
+    TimedValues, TryCopy, Value,
 };
 use mql_types::Node;
 use std::alloc::Global;
@@ -274,7 +274,21 @@ fn row_behind(alloc: Global, cells: &Cells, aligned: TimedValue) -> Result<Timed
     ensures row { IfOk result (λ row. row ≡ views.row_behind cells.now aligned) }
 {
     let TimedValue { time, value } = aligned;
-    let mut own: Cells = cells.copy(alloc)?;
+    let mut own = cells_with_room(alloc, cells.as_slice())?;
     own.push(value)?;
-    Ok(TimedRow { time, cells: own })
+    Ok(TimedRow {
+        time,
+        cells: Cells::from_vec(own),
+    })
+}
+
+// Copies of cells, with room for one more and no other.
+fn cells_with_room(alloc: Global, cells: &[Value]) -> Result<Vec<Value>, OutOfMemory>
+    ensures cells { IfOk result (λ own. own.items ≡ cells.now) }
+{
+    let mut own = Vec::with_capacity(alloc, cells.len() + 1)?;
+    for cell in cells {
+        own.push(cell.copy(alloc)?)?;
+    }
+    Ok(own)
 }

@@ -142,9 +142,11 @@ impl<'a> Fetch<'a> {
 pub(crate) fn series_cells(alloc: Global, key: &SeriesKey) -> Result<Cells, OutOfMemory>
     ensures cells { IfOk result (λ cells. cells ≡ loads.series_cells key.now) }
 {
-    let mut cells = Cells::new(alloc);
-    add_fields(alloc, &mut cells, key.target.fields.as_slice())?;
-    add_fields(alloc, &mut cells, key.fields.as_slice())?;
+    let of_target = key.target.fields.as_slice();
+    let of_metric = key.fields.as_slice();
+    let mut cells = Cells::from_vec(Vec::with_capacity(alloc, of_target.len() + of_metric.len())?);
+    add_fields(alloc, &mut cells, of_target)?;
+    add_fields(alloc, &mut cells, of_metric)?;
     Ok(cells)
 }
 

@@ -1,5 +1,6 @@
 // The points of a series that an alignment may see.
-ghost use Rattle.std.specs.Prelude.{◌≡◌, ◌<ℤ◌, ◌++◌, ◌∷◌, [], cond, IfOk, IfSome, OnOk};
+ghost use Rattle.std.specs.Prelude.{◌≡◌, ◌≤◌, ◌-ℤ◌, ◌<ℤ◌, ◌≤ℤ◌, ◌++◌, ◌∷◌, [], cond, length, neg_ℤ, IfOk, IfSome, OnOk};
+ghost use Rattle.mon_series.specs.Splits.{points_until};
 ghost use Rattle.mon_value.specs.Alignments as alignment;
 ghost use Rattle.mon_value.specs.Grids as grids;
 ghost use Rattle.mon_value.specs.Sources.{last_end};
@@ -9,7 +10,7 @@ ghost use Rattle.mon_meaning.specs.within.Reach.{points_within_reach};
 
 use crate::fetches::{Fetch, series_cells};
 use mon_series::{KeptPoint, Series};
-use mon_value::{Aligner, Grid, OutOfMemory, SeriesKey, TryCopy};
+use mon_value::{Aligner, Grid, LONGEST_DURATION, OutOfMemory, SeriesKey, TryCopy};
 use std::alloc::Global;
 
 /// The points in reach: those that end where an alignment may see them at some time of the grid. Their ends find them.
@@ -34,10 +35,27 @@ fn reached_points<'a>(series: &'a Series, by: Aligner, grid: &Grid) -> &'a [Kept
     ensures rises { EndsRise result.now }
 {
     let points = series.points();
-    let seconds = seconds_of(by);
-    let (before, _) = series.places(least_time(grid), seconds);
-    let (_, ended) = series.places(grid.moment, seconds);
+    let (before, ended) = reached_places(series, least_time(grid), grid.moment, seconds_of(by));
     &points[before..ended]
+}
+
+// The places of the points that end in so many seconds up to the least time, or later, up to the moment. A grid of one
+// time asks for one window alone.
+fn reached_places(series: &Series, least: i64, moment: i64, seconds: i64) -> (usize, usize)
+    requires least { neg_ℤ LONGEST_DURATION ≤ℤ least }
+    requires ordered { least ≤ℤ moment }
+    requires seconds { grids.IsDuration seconds }
+    ensures before { result.0 ≡ length (points_until (least -ℤ seconds) series.now.points) }
+    ensures ended { result.1 ≡ length (points_until moment series.now.points) }
+    ensures starts { result.0 ≤ length series.now.points }
+    ensures ends { result.1 ≤ length series.now.points }
+{
+    if least == moment {
+        return series.places(moment, seconds);
+    }
+    let (before, _) = series.places(least, seconds);
+    let (_, ended) = series.places(moment, seconds);
+    (before, ended)
 }
 
 // How many seconds an aligner looks back.

@@ -1,6 +1,7 @@
 mod AllTextLemmas
 mod CountsOfLemmas
 mod FieldsReadLemmas
+mod KeyReadLemmas
 pub mod OptionFilterLemmas
 pub mod ReadFitsLemmas
 mod RecordsLemmas

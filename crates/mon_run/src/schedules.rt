@@ -24,11 +24,11 @@ pub(crate) fn weave(alloc: Global, config: Config, schedule: &[u8]) -> Result<Wo
     let mut text = String::new(alloc);
     match run_schedule(alloc, config, schedule, &mut text) {
         Ok(()) => Ok(Woven {
-            text: Text::from_string(text),
+            text: Text::from_string(text)?,
             fault: None,
         }),
         Err(Refusal::Fault(fault)) => Ok(Woven {
-            text: Text::from_string(text),
+            text: Text::from_string(text)?,
             fault: Some(fault),
         }),
         Err(Refusal::OutOfMemory) => Err(AllocError),

@@ -28,7 +28,7 @@ pub fn made_points(alloc: Global, number: u64, file: u32) -> Result<Text, OutOfM
     for round in 0..ROUNDS {
         push_round(alloc, &mut text, &mut before, file, round)?;
     }
-    Ok(Text::from_string(text))
+    Text::from_string(text)
 }
 
 /// The records of a file's round, behind the number before it, which goes on to the one before the next round.
@@ -45,7 +45,7 @@ pub(crate) fn made_round(
 {
     let mut text = String::new(alloc);
     push_round(alloc, &mut text, before, file, round)?;
-    Ok(Text::from_string(text))
+    Text::from_string(text)
 }
 
 // Adds the records of a round.

@@ -119,7 +119,7 @@ fn made_name(alloc: Global, _number: u64, before: u64, file: u32) -> Result<Made
 {
     let name = points_name(alloc, file)?;
     Ok(Made {
-        piece: Text::from_string(section_line(alloc, name.as_str())?),
+        piece: Text::from_string(section_line(alloc, name.as_str())?)?,
         before,
         place: Place::Round(file, 0),
     })
@@ -177,7 +177,7 @@ fn named(alloc: Global, name: &str, text: &Text) -> Result<Text, OutOfMemory>
 {
     let mut made = section_line(alloc, name)?;
     made.push_str(text.as_str())?;
-    Ok(Text::from_string(made))
+    Text::from_string(made)
 }
 
 // The name of a file of points.

@@ -21,7 +21,7 @@ pub fn print(alloc: Global, table: &Table) -> Result<Text, OutOfMemory>
     let rows = sorted_references(alloc, &table.rows)?;
     let mut text = lines_of(alloc, &table.columns, rows.as_slice())?;
     text.push_str(count.as_str())?;
-    Ok(Text::from_string(text))
+    Text::from_string(text)
 }
 
 // The rows in their order.

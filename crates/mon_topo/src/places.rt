@@ -51,26 +51,26 @@ pub(crate) fn path_to(alloc: Global, place: Place) -> Result<Text, OutOfMemory>
 fn path_in_zone(alloc: Global, i: usize, key: &str) -> Result<Text, OutOfMemory>
     ensures path { IfOk result (λ path. path ≡ spec.path_in_zone i key.now) }
 {
-    Ok(Text::from_string(format!(in alloc; "$.zones[{i}].{key}")?))
+    Text::from_string(format!(in alloc; "$.zones[{i}].{key}")?)
 }
 
 // The path to an element of what a zone has under a key.
 fn path_of_element(alloc: Global, i: usize, key: &str, j: usize) -> Result<Text, OutOfMemory>
     ensures path { IfOk result (λ path. path ≡ spec.path_of_element i key.now j) }
 {
-    Ok(Text::from_string(format!(in alloc; "$.zones[{i}].{key}[{j}]")?))
+    Text::from_string(format!(in alloc; "$.zones[{i}].{key}[{j}]")?)
 }
 
 // The path to what a range of a zone has under a key.
 fn path_in_range(alloc: Global, i: usize, j: usize, key: &str) -> Result<Text, OutOfMemory>
     ensures path { IfOk result (λ path. path ≡ spec.path_in_range i j key.now) }
 {
-    Ok(Text::from_string(format!(in alloc; "$.zones[{i}].ranges[{j}].{key}")?))
+    Text::from_string(format!(in alloc; "$.zones[{i}].ranges[{j}].{key}")?)
 }
 
 // The path to a leaf of a range.
 fn path_of_replica(alloc: Global, i: usize, j: usize, k: usize) -> Result<Text, OutOfMemory>
     ensures path { IfOk result (λ path. path ≡ place_path (Place.Replica i j k)) }
 {
-    Ok(Text::from_string(format!(in alloc; "$.zones[{i}].ranges[{j}].leaves[{k}]")?))
+    Text::from_string(format!(in alloc; "$.zones[{i}].ranges[{j}].leaves[{k}]")?)
 }

@@ -9,27 +9,32 @@ use std::cmp::Ordering;
 use std::hash::{Hash, Hasher};
 use std::marker::Model;
 use std::str;
+use std::sync::ArcStr;
 
-/// A UTF-8 text. Contracts see the list of its bytes.
+/// A UTF-8 text, which its copies share: a copy is one owner more and copies no byte. Contracts see the
+/// list of its bytes.
 #[derive(Drop)]
 pub struct Text {
-    content: String,
+    content: ArcStr,
 }
 
 impl Model for Text {
-    ghost use Rattle.std.specs.Prelude.{List, ℕ, string_bytes};
+    ghost use Rattle.std.specs.Prelude.{List, ℕ};
+    ghost use Rattle.std.specs.Arc.{arc_str_bytes};
 
     ghost Value = { List ℕ };
 
-    ghost view = { λ text. string_bytes text.content };
+    ghost view = { λ text. arc_str_bytes text.content };
 }
 
 impl Text {
-    /// The text that `content` is.
-    pub fn from_string(content: String) -> Self
-        ensures bytes { result ≡ string_bytes content }
+    /// The text that `content` is. No byte is copied.
+    pub fn from_string(content: String) -> Result<Self, AllocError>
+        ensures bytes { IfOk result (λ text. text ≡ string_bytes content) }
     {
-        Text { content }
+        Ok(Text {
+            content: ArcStr::from_string(content)?,
+        })
     }
 
     /// A copy of a text.
@@ -37,7 +42,7 @@ impl Text {
         ensures bytes { IfOk result (λ text. text ≡ content.now) }
     {
         Ok(Text {
-            content: String::from_str(alloc, content)?,
+            content: ArcStr::from_str(alloc, content)?,
         })
     }
 
@@ -71,8 +76,10 @@ impl Text {
 pub type Texts = ListOf<Text>;
 
 impl TryCopy for Text {
-    fn copy(&self, alloc: Global) -> Result<Text, AllocError> {
-        Text::from_str(alloc, self.content.as_str())
+    fn copy(&self, _alloc: Global) -> Result<Text, AllocError> {
+        Ok(Text {
+            content: self.content.clone()?,
+        })
     }
 }
 

@@ -91,7 +91,7 @@ pub fn write_text(alloc: Global, value: &Value) -> Result<Text, AllocError>
     ensures text { IfOk result (λ text. text ≡ value_text value.now) }
 {
     match value {
-        Value::Int(number) => Ok(Text::from_string(format!(in alloc; "{number}")?)),
+        Value::Int(number) => Text::from_string(format!(in alloc; "{number}")?),
         Value::Bool(true) => Text::from_str(alloc, "true"),
         Value::Bool(false) => Text::from_str(alloc, "false"),
         Value::Text(text) => text.copy(alloc),
@@ -105,11 +105,11 @@ fn counts_text(alloc: Global, counts: &[u128]) -> Result<Text, AllocError>
     ensures text { IfOk result (λ text. text ≡ counts_joined counts.now) }
 {
     let Some((first, rest)) = counts.split_first() else {
-        return Ok(Text::from_string(String::new(alloc)));
+        return Text::from_string(String::new(alloc));
     };
     let mut text = format!(in alloc; "{first}")?;
     for count in rest {
         text.push_str(format!(in alloc; ";{count}")?.as_str())?;
     }
-    Ok(Text::from_string(text))
+    Text::from_string(text)
 }

@@ -29,5 +29,5 @@ pub fn print_query(alloc: Global, query: &Query) -> Result<Text, OutOfMemory>
 {
     let mut out = String::new(alloc);
     print_pipe(&mut out, &query.pipe)?;
-    Ok(Text::from_string(out))
+    Text::from_string(out)
 }

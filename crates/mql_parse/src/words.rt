@@ -40,7 +40,7 @@ pub fn word<'a>(alloc: Global, from: Cursor<'a>) -> Read<'a, Name>
     Ok((
         Name {
             at,
-            text: Text::from_string(text),
+            text: Text::from_string(text)?,
         },
         from,
     ))
@@ -58,7 +58,7 @@ pub fn metric<'a>(alloc: Global, from: Cursor<'a>) -> Read<'a, Name>
     Ok((
         Name {
             at: start.at,
-            text: Text::from_string(text),
+            text: Text::from_string(text)?,
         },
         from,
     ))

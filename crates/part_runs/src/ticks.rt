@@ -70,7 +70,7 @@ fn ask_dues<N: Names, R: Wait>(
     match ask_all(rt, alloc, store, p, dues, &mut traces, &mut text) {
         Ok(()) => Ok(LineRan {
             trace: LineTrace::Ticked(ListOf::from_vec(traces)),
-            text: Text::from_string(text),
+            text: Text::from_string(text)?,
         }),
         Err(failed) => Err(failed),
     }

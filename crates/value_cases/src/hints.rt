@@ -121,7 +121,7 @@ fn add_excerpts(bytes: &mut Vec<u8>, excerpts: &Excerpts) -> Done {
 fn pieces_of(alloc: Global, pattern: &str) -> Result<Pieces, Trouble> {
     let mut pieces = Pieces::new(alloc);
     for piece in pattern.split(".*") {
-        pieces.push(Text::from_string(text_of(alloc, piece)?))?;
+        pieces.push(Text::from_string(text_of(alloc, piece)?)?)?;
     }
     Ok(pieces)
 }

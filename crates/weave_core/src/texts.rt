@@ -23,7 +23,7 @@ pub(crate) fn write_end_text(
 ) -> Result<Text, OutOfMemory>
     ensures text { IfOk result (λ text. text ≡ spec.write_end_text topology.now range end.now) }
 {
-    Ok(Text::from_string(write_line(alloc, topology, range, end)?))
+    Text::from_string(write_line(alloc, topology, range, end)?)
 }
 
 // The line of it.
@@ -67,7 +67,7 @@ pub(crate) fn switch_text(
     ensures text { IfOk result (λ text.
         text ≡ spec.switch_text topology.now switching.leaf switching.down (switch_told came)) }
 {
-    Ok(Text::from_string(switch_line(alloc, topology, switching, came)?))
+    Text::from_string(switch_line(alloc, topology, switching, came)?)
 }
 
 // The line of it.
@@ -119,7 +119,7 @@ pub(crate) fn recover_text(
 ) -> Result<Text, OutOfMemory>
     ensures text { IfOk result (λ text. text ≡ spec.recover_text topology.now range leaf outcome.now) }
 {
-    Ok(Text::from_string(recover_line(alloc, topology, range, leaf, outcome)?))
+    Text::from_string(recover_line(alloc, topology, range, leaf, outcome)?)
 }
 
 // The line of it.
@@ -187,7 +187,7 @@ pub(crate) fn no_zone(alloc: Global) -> Result<Text, OutOfMemory>
 pub(crate) fn no_plan(alloc: Global, fault: TextFault) -> Result<Text, OutOfMemory>
     ensures text { IfOk result (λ text. text ≡ spec.no_plan_line fault) }
 {
-    Ok(Text::from_string(format!(in alloc; "refused: {fault}\n")?))
+    Text::from_string(format!(in alloc; "refused: {fault}\n")?)
 }
 
 /// The text of a query that ended so.
@@ -209,5 +209,5 @@ fn no_table(alloc: Global, topology: &Topology, fault: &RoundFault) -> Result<Te
     ensures line { IfOk result (λ line. line ≡ spec.refused_line (round_fault_text topology.now fault.now)) }
 {
     let why = fault_text(alloc, topology, fault)?;
-    Ok(Text::from_string(format!(in alloc; "refused: {why}\n")?))
+    Text::from_string(format!(in alloc; "refused: {why}\n")?)
 }

@@ -1,4 +1,5 @@
 use Rattle.std.proofs.Common.{◌≡◌, ◌∙◌, ◌++◌, [], List, ℕ, ap, sym, arith, string_bytes}
+use Rattle.std.proofs.lemmas.Result.{IfOk-weaker}
 use Rattle.std.specs.List.{flat_map, range_with_len}
 use Rattle.mon_script.specs.Made.{made_record, made_round, number_behind, rounds, tasks}
 use Rattle.mon_script.proofs.MadeLemmas.{round_more, rounds_are, texts_more}
@@ -24,6 +25,7 @@ returns c =
     let last : c.loop-round.round ≡ 100 = omega arith in
     let all : c.loop-round.round ≡ rounds = last ∙ sym rounds_are in
     record {
-      points = c.from_string.ensures.bytes ∙ c.loop-round.invariant.rounds
-          ∙ ap (λ k. flat_map (made_round c.args.number c.args.file) (range_with_len 0 k)) all;
+      points = IfOk-weaker c.from_string.result _ _ (λ text is. is ∙ c.loop-round.invariant.rounds
+          ∙ ap (λ k. flat_map (made_round c.args.number c.args.file) (range_with_len 0 k)) all)
+          c.from_string.ensures.bytes;
     }

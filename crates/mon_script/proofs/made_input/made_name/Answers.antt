@@ -9,8 +9,8 @@ pub returns : goal.returns
 returns c =
     let n = c.args._number in
     let file = c.args.file in
-    let piece : c.from_string.result ≡ section_line (points_name file) =
-    c.from_string.ensures.bytes ∙ c.in_ok-section_line.ensures.line
+    let piece : c.in_ok-from_string.field-0 ≡ section_line (points_name file) =
+    c.in_ok-from_string.ensures.bytes ∙ c.in_ok-section_line.ensures.line
     ∙ ap section_line (c.as_str.ensures.value ∙ c.in_ok-name.ensures.name) in
     let some : 0 < 100 = omega arith in
     record {

@@ -1,4 +1,4 @@
-use Rattle.std.proofs.Common.{◌≡◌, ◌∷◌, take, take_all, ap, arith}
+use Rattle.std.proofs.Common.{◌≡◌, ◌∷◌, List, ℕ, IfOk, take, take_all, ap, subst, arith, string_bytes}
 use Rattle.mon_value.specs.Values.{counts_joined}
 use Rattle.mon_value.proofs.ValueTextLemmas.{counts_joined-cons}
 use Rattle.mon_value.proofs.values.counts_text.Goals as goal
@@ -14,5 +14,8 @@ returns c =
     let joined = counts_joined-cons first rest in
     let i = c.loop-count.invariant in
     let e = c.in_ok-text.ensures.ok in
-    let s = c.from_string-2.ensures.bytes in
-    record { text = rw (whole, joined, s, i, all, e) }
+    let made : string_bytes c.loop-count.text ≡ counts_joined c.args.counts.now = rw (whole, joined, i, all, e) in
+    record {
+      text = subst (λ (bytes : List ℕ). IfOk c.from_string-2.result (λ text. text ≡ bytes)) made
+          c.from_string-2.ensures.bytes;
+    }
