@@ -2,5 +2,7 @@ mod CsvLineLemmas
 mod JoinKeyLemmas
 mod JoinLemmas
 mod JoinRoomLemmas
+mod NamedPlaceLemmas
+mod PlaceLemmas
 mod ReferenceLemmas
 mod RightSideLemmas

@@ -1,6 +1,6 @@
 -- The rows that are found by the places of the columns are the pairs of the tables.
-use Rattle.std.proofs.Common.{◌≡◌, ℕ, zero, suc, ◌+◌, ◌&&◌, ◌||◌, Bool, true, false, not, cond, List, [], ◌∷◌, ◌++◌}
-use Rattle.std.proofs.Common.{length, map, drop, Some, refl, sym, ap, ◌∙◌, arith, add-one}
+use Rattle.std.proofs.Common.{◌≡◌, ℕ, ◌+◌, ◌&&◌, ◌||◌, Bool, true, false, not, cond, List, [], ◌∷◌, ◌++◌}
+use Rattle.std.proofs.Common.{length, map, drop, Some, refl, sym, ap, ◌∙◌, arith}
 use Rattle.std.specs.Cmp.Lexicographic.{pointwise}
 use Rattle.std.specs.List.{AllByRecursion, cons_option, filter, flat_map, list_all, slice_get, zip}
 use Rattle.std.specs.Ordering.{int_eq}
@@ -13,46 +13,9 @@ use Rattle.mon_value.specs.declared.columns.Column.{Column}
 use Rattle.mon_value.specs.declared.tables.Table.{Table}
 use Rattle.mon_value.specs.declared.tables.TimedRow.{TimedRow}
 use Rattle.mon_value.specs.declared.values.Value.{Value}
+use Rattle.mon_table.proofs.PlaceLemmas.{next_place, there}
 use Rattle.mon_table.specs.Places.{left_places, left_places_of, own_places, right_places, right_places_of}
 use Rattle.mon_table.specs.RightSides.{left_pairs, pair_row, right_side}
-
--- ---- the side of two tables
-
--- what was found for the columns and rows of two tables is their side
-pub right_side-made : (a b : Table) (lefts rights : List Column) (rows : List TimedRow) → lefts ≡ a.columns → rights
-    ≡ b.columns → rows ≡ b.rows → (at at' own : List ℕ)
-    → at ≡ left_places 0 lefts rights → at' ≡ right_places lefts rights → own ≡ own_places 0 lefts rights
-    → record { lefts = at; rights = at'; own = own; rows = rows } ≡ right_side a b
-right_side-made a b lefts rights rows l r w at at' own e f g =
-    (λ i. record { lefts = e i; rights = f i; own = g i; rows = w i })
-    ∙ (λ i. record {
-      lefts = left_places 0 (l i) (r i);
-      rights = right_places (l i) (r i);
-      own = own_places 0 (l i)
-          (r i);
-      rows = b.rows;
-    })
-
--- ---- cells at places
-
--- the first of what is left behind a place stands there
-there : (cells : List Value) (place : ℕ) (cell : Value) (rest : List Value) → drop place cells ≡ cell ∷ rest
-    → slice_get cells place ≡ Some cell
-there [] zero cell rest e = absurd cc
-there [] (suc place) cell rest e = absurd cc
-there (x ∷ cells) zero cell rest e = let same : x ≡ cell = cc in ap Some same
-there (x ∷ cells) (suc place) cell rest e = there cells place cell rest e
-
-onward : (cells : List Value) (place : ℕ) (cell : Value) (rest : List Value) → drop place cells ≡ cell ∷ rest
-    → drop (suc place) cells ≡ rest
-onward [] zero cell rest e = absurd cc
-onward [] (suc place) cell rest e = absurd cc
-onward (x ∷ cells) zero cell rest e = cc
-onward (x ∷ cells) (suc place) cell rest e = onward cells place cell rest e
-
-next_place : (cells : List Value) (place : ℕ) (cell : Value) (rest : List Value) → drop place cells ≡ cell ∷ rest
-    → drop (place + 1) cells ≡ rest
-next_place cells place cell rest e = ap (λ k. drop k cells) (add-one place) ∙ onward cells place cell rest e
 
 -- ---- the cells that two rows share
 

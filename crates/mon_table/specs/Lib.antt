@@ -2,6 +2,7 @@ pub mod Bags
 pub mod CsvLines
 pub mod JoinKeys
 pub mod JoinRoom
+pub mod NamedPlaces
 pub mod Places
 pub mod References
 pub mod RightSides

@@ -1,5 +1,5 @@
 -- Where the columns of two tables stand that a join compares, and those that it keeps.
-use Rattle.std.specs.Prelude.{ℕ, ◌+◌, List, [], ◌∷◌, ◌++◌, if◌then◌else◌}
+use Rattle.std.specs.Prelude.{ℕ, ◌+◌, Bool, true, List, [], ◌∷◌, ◌++◌, set, if◌then◌else◌}
 use Rattle.std.specs.List.{flat_map}
 use Rattle.mon_value.specs.Joins.{has_name}
 use Rattle.mon_value.specs.Same.{same_text}
@@ -35,3 +35,13 @@ own_places next lefts [] = []
 own_places next lefts (column ∷ columns) =
     if has_name column.name lefts then own_places (next + 1) lefts columns
     else next ∷ own_places (next + 1) lefts columns
+
+-- marks by place, with one at each of these places
+abbrev pub marked : List ℕ → List Bool → List Bool
+marked [] marks = marks
+marked (place ∷ places) marks = marked places (set marks place true)
+
+-- the places without a mark; the marks are those from place `next` on
+abbrev pub unmarked : ℕ → List Bool → List ℕ
+unmarked next [] = []
+unmarked next (mark ∷ marks) = if mark then unmarked (next + 1) marks else next ∷ unmarked (next + 1) marks

@@ -3,6 +3,7 @@
 
 mod bags;
 mod keys;
+mod named;
 mod pairs;
 mod places;
 mod printing;

@@ -3,7 +3,7 @@ ghost use Rattle.std.specs.Prelude.{◌≡◌, ◌+◌, ◌++◌, length, map, I
 ghost use Rattle.std.specs.List.{flat_map};
 ghost use Rattle.mon_table.specs.JoinRoom.{over_room, rows_within_room, table_within_room};
 ghost use Rattle.mon_table.specs.References.{rows_behind};
-ghost use Rattle.mon_table.specs.RightSides.{left_pairs, pair_row, side_at};
+ghost use Rattle.mon_table.specs.RightSides.{left_pairs, pair_row, right_side, side_at};
 ghost use Rattle.mon_value.specs.Answers.{AnswersBy, Gives};
 ghost use Rattle.mon_value.specs.Columns.{IsWhole};
 ghost use Rattle.mon_value.specs.Groups.{cells_at};
@@ -37,8 +37,27 @@ pub fn join(alloc: Global, a: &Table, b: &Table, room: u64) -> Result<Table, Ref
     requires right { IsWhole b.now }
     ensures pairs { Gives result (table_within_room room (join_of a.now b.now)) }
 {
-    let rows = joined_rows(alloc, a, b, room)?;
-    let columns = joined_columns(alloc, &a.columns, &b.columns)?;
+    let places = Places::new(alloc, a.columns.as_slice(), b.columns.as_slice())?;
+    let table = join_at(alloc, a, b, &places, room);
+    drop(places);
+    table
+}
+
+// The join of two tables, the places of whose columns are known.
+fn join_at(
+    alloc: Global,
+    a: &Table,
+    b: &Table,
+    places: &Places,
+    room: u64,
+) -> Result<Table, Refusal<OverRoom>>
+    requires left { IsWhole a.now }
+    requires right { IsWhole b.now }
+    requires places { side_at places.now b.now.rows ≡ right_side a.now b.now }
+    ensures pairs { Gives result (table_within_room room (join_of a.now b.now)) }
+{
+    let rows = joined_rows(alloc, a, b, places, room)?;
+    let columns = joined_columns(alloc, &a.columns, &b.columns, places.own.as_slice())?;
     Ok(Table { columns, rows })
 }
 
@@ -47,16 +66,15 @@ fn joined_rows(
     alloc: Global,
     a: &Table,
     b: &Table,
+    places: &Places,
     room: u64,
 ) -> Result<TimedRows, Refusal<OverRoom>>
     requires left { IsWhole a.now }
     requires right { IsWhole b.now }
+    requires places { side_at places.now b.now.rows ≡ right_side a.now b.now }
     ensures rows { Gives result (rows_within_room room (join_of a.now b.now).rows) }
 {
-    let places = Places::new(alloc, a.columns.as_slice(), b.columns.as_slice())?;
-    let rows = rows_at(alloc, a.rows.as_slice(), b.rows.as_slice(), &places, room);
-    drop(places);
-    rows
+    rows_at(alloc, a.rows.as_slice(), b.rows.as_slice(), places, room)
 }
 
 // The rows of a join whose columns stand at these places.
@@ -190,11 +208,12 @@ fn pair_cells(
 ) -> Result<Cells, OutOfMemory>
     ensures cells { IfOk result (λ cells. cells ≡ left.now.cells ++ cells_at own.now right.now.cells) }
 {
-    let mut cells = left.cells.copy(alloc)?;
+    let mut cells = left.cells.copy(alloc)?.into_vec();
+    cells.reserve_exact(own.len())?;
     for place in own {
         if let Some(cell) = cell_at(right, *place) {
             cells.push(cell.copy(alloc)?)?;
         }
     }
-    Ok(cells)
+    Ok(Cells::from_vec(cells))
 }

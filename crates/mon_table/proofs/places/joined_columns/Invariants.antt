@@ -1,9 +1,8 @@
--- the columns so far and those that are left are all
-use Rattle.std.proofs.Common.{◌≡◌, ◌++◌}
-use Rattle.std.specs.Slice.Iter.{iter_rest}
-use Rattle.mon_value.specs.Joins.{right_columns}
+-- the columns so far and those at the places that are left are all
+use Rattle.std.proofs.Common.{◌≡◌, ◌++◌, drop}
+use Rattle.std.specs.List.{filter_map, slice_get}
 use Rattle.mon_table.proofs.places.joined_columns.Given as goal
 
-abbrev pub invariant-loop-column : goal.invariant-loop-column
-invariant-loop-column l = l.columns ++ right_columns l.lefts (iter_rest l.column-iterator) ≡ l.lefts
-    ++ right_columns l.lefts l.rights
+abbrev pub invariant-loop-place : goal.invariant-loop-place
+invariant-loop-place l = l.columns ++ filter_map (slice_get l.rights) (drop l.place-index l.own) ≡ l.lefts
+    ++ filter_map (slice_get l.rights) l.own
