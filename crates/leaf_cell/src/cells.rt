@@ -28,16 +28,17 @@ use tied_lock::{Fits, TiedLock};
 // A leaf at rest fits its number.
 struct AtRest<N>(PhantomData<N>);
 
-impl<N: Names> Fits<LeafDesk<N>> for AtRest<N> {
+impl<N: Names> Fits<Box<LeafDesk<N>>> for AtRest<N> {
     ghost use Rattle.leaf_cell.specs.Rest.{IsAtRest};
 
-    ghost fits = { λ leaf desk. IsAtRest N.setting N.raise leaf desk.state desk.owner };
+    ghost fits = { λ leaf desk. IsAtRest N.setting N.raise leaf desk.value.state desk.value.owner };
 }
 
 /// A leaf under its lock. Contracts see its number.
 #[derive(Drop)]
 pub struct LeafCell<N: Names> {
-    lock: TiedLock<LeafDesk<N>, AtRest<N>>,
+    // A lock takes and gives its value by value: so a pointer.
+    lock: TiedLock<Box<LeafDesk<N>>, AtRest<N>>,
 }
 
 impl<N: Names> Model for LeafCell<N> {
@@ -55,7 +56,7 @@ impl<N: Names> LeafCell<N> {
     {
         let (leaf, desk) = leaf.into_parts();
         Ok(LeafCell {
-            lock: TiedLock::new(alloc, leaf.0, desk)?,
+            lock: TiedLock::new(alloc, leaf.0, Box::new(alloc, desk)?)?,
         })
     }
 
