@@ -3,6 +3,7 @@ use Rattle.std.proofs.Common.{◌≡◌, ◌∙◌, ◌<◌, ℕ, nat_eq, Bool, 
 use Rattle.std.proofs.Common.{Some, Err, refl, sym, ap, subst, arith}
 use Rattle.std.specs.List.{AllByRecursion, filter}
 use Rattle.std.proofs.lemmas.Bool.Decides.{nat_tests}
+use Rattle.std.proofs.lemmas.Option.{same_Some}
 use Rattle.know.specs.Knowledge.{Knowledge}
 use Rattle.line_runs.specs.Questions.{told_fault}
 use Rattle.mon_config.specs.declared.config.Config.{Config}
@@ -26,6 +27,7 @@ use Rattle.query_core.specs.Settings.{QuerySetting}
 use Rattle.query_core.specs.Traces.{IsBetween, lengths_of, source_of}
 use Rattle.query_core.specs.declared.answers.Trace.{Trace}
 use Rattle.run_traces.specs.LineCauses.{HasCause}
+use Rattle.run_traces.specs.LineForms.{IsQuestionFault}
 use Rattle.mon_script.specs.declared.forms.LineForm.{LineForm}
 use Rattle.run_traces.specs.LineFreshness.{found_cuts, refusal_cuts}
 use Rattle.run_traces.specs.LineTables.{moment_of, text_of}
@@ -60,8 +62,15 @@ module _ (before after : Histories) where
 
 -- ---- what was found
 
-some_same : {A : Type 0} (x y : A) → Some x ≡ Some y → x ≡ y
-some_same x y same = cc
+-- a query's fault is one of a question
+pub of_question : (refused : QueryFault) (told : LineFault) → told_fault refused ≡ Some told → IsQuestionFault told
+of_question (fault.Parse parse) told is = subst IsQuestionFault (same_Some (why.Parse parse) told is) tt
+of_question (fault.Typing typing) told is = subst IsQuestionFault (same_Some (why.Typing typing) told is) tt
+of_question (fault.NoReplica range named) told is =
+    subst IsQuestionFault (same_Some (why.NoReplica range named) told is) tt
+of_question (fault.StepLimit limit trace) told is =
+    subst IsQuestionFault (same_Some (why.StepLimit limit trace) told is) tt
+of_question fault.OutOfMemory told is = absurd cc
 
 module _ (config : Config) (what : LineForm) (before after : Knowledge) where
   -- a refusal has its cause, and names cuts that lie between
@@ -107,12 +116,12 @@ module _ (config : Config) (what : LineForm) (before after : Knowledge) where
       (Err refused)
       → (told : LineFault) → told_fault refused ≡ Some told → HasItsCause told
   has_cause (fault.Parse parse) queried told is =
-      subst HasItsCause (some_same (why.Parse parse) told is) (record { cause = queried; cuts = λ leaf there. tt })
+      subst HasItsCause (same_Some (why.Parse parse) told is) (record { cause = queried; cuts = λ leaf there. tt })
   has_cause (fault.Typing typing) queried told is =
-      subst HasItsCause (some_same (why.Typing typing) told is) (record { cause = queried; cuts = λ leaf there. tt })
+      subst HasItsCause (same_Some (why.Typing typing) told is) (record { cause = queried; cuts = λ leaf there. tt })
   has_cause (fault.NoReplica range named) queried told is =
-      subst HasItsCause (some_same (why.NoReplica range named) told is) (none_up range named queried.ends.rightly)
+      subst HasItsCause (same_Some (why.NoReplica range named) told is) (none_up range named queried.ends.rightly)
   has_cause (fault.StepLimit limit trace) queried told is =
-      subst HasItsCause (some_same (why.StepLimit limit trace) told is)
+      subst HasItsCause (same_Some (why.StepLimit limit trace) told is)
       (over queried.setting limit trace queried.of_text queried.ends.rightly)
   has_cause fault.OutOfMemory queried told is = absurd cc

@@ -6,7 +6,7 @@ use Rattle.history_book.specs.Histories.{AreFronts}
 use Rattle.history_book.specs.Numbers.{times_among}
 use Rattle.know.specs.Knowledge.{Knowledge}
 use Rattle.line_runs.proofs.Answered.{look_found}
-use Rattle.line_runs.proofs.Causes.{has_cause}
+use Rattle.line_runs.proofs.Causes.{has_cause, of_question}
 use Rattle.line_runs.proofs.Growing.{grown, wider}
 use Rattle.line_runs.proofs.Wrote.{OwnsAsMuch, asked_wrote, moment_is, prints_alike, refused_wrote, suits_refused}
 use Rattle.line_runs.proofs.Wrote.{text_is}
@@ -130,7 +130,8 @@ module _ (store : Setting) (config : Config) (before : Knowledge)
       subst (λ (r : LineRan). LineWrote config (ran_line (question what moment text) content r.trace) r.text before
       after) (sym refused.ran_is)
       (refused_wrote config (question what moment text) content before after (owns_behind after goes) refused.told
-      (suits_refused what moment text refused.told) (has_cause config (question what moment text) before after fault
+      (suits_refused what moment text refused.told (of_question fault refused.told refused.told_is))
+      (has_cause config (question what moment text) before after fault
       (as_question what moment text after (Err fault) queried) refused.told refused.told_is))
   refused_ran what moment text after fault goes queried (Err failed) refused = tt
 

@@ -44,7 +44,8 @@ use Rattle.run_traces.specs.declared.traces.RowRefusal.{RowRefusal}
 use Rattle.run_traces.proofs.ListFacts.{all_as, all_at, any_at, both_all, made_kept}
 use Rattle.run_traces.proofs.RowFacts.{fed_row, lies_as, row_joined, row_key}
 use Rattle.line_runs.proofs.FeedRows.{IsNone, any_first, any_last, behind_stands, book_rows, fed_itself}
-use Rattle.line_runs.proofs.FeedRows.{fed_more, kept_all, rows_dropped, source_behind}
+use Rattle.line_runs.proofs.FeedRows.{kept_all, rows_dropped, source_behind}
+use Rattle.run_traces.proofs.Causes.{fed_more}
 
 -- ---- callers that keep their place
 

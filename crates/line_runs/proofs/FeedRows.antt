@@ -4,7 +4,7 @@ use Rattle.std.proofs.Common.{◌∷◌, ◌++◌, length, map, filter, take, dr
 use Rattle.std.proofs.Common.{arith}
 use Rattle.std.specs.List.{AllByRecursion, flat_map, list_any}
 use Rattle.std.specs.Ordering.{int_eq}
-use Rattle.std.proofs.lemmas.Bool.{false≢true}
+use Rattle.std.proofs.lemmas.Bool.{and_from, and_parts, false≢true}
 use Rattle.std.proofs.lemmas.Bool.Decides.{nat_tests}
 use Rattle.std.proofs.lemmas.Int.{ints}
 use Rattle.std.proofs.lemmas.List.{take-append-drop}
@@ -86,14 +86,6 @@ module _ {X : Type 0} where
       or_last true b is = refl
       or_last false b is = is
 
-pub and_parts : (a b : Bool) → (a && b) ≡ true → (a ≡ true) × (b ≡ true)
-and_parts true b is = (refl, is)
-and_parts false b is = absurd (false≢true is)
-
-pub and_both : (a b : Bool) → a ≡ true → b ≡ true → (a && b) ≡ true
-and_both true b x y = y
-and_both false b x y = absurd (false≢true x)
-
 -- ---- sources
 
 not_by : (b : Bool) → (b ≡ true → ⊥) → b ≡ false
@@ -138,28 +130,13 @@ rows_dropped P n es all =
 
 -- ---- whose an entry is
 
--- an entry of some rows is one of more
-pub fed_more : (pass : ℕ) (some rows : List Row)
-    → ((w : Row) → list_any (is_row w) some ≡ true → list_any (is_row w) rows ≡ true) → (e : BookEntry)
-    → is_fed pass some e ≡ true → is_fed pass rows e ≡ true
-fed_more pass some rows more (one.Leaf (entry.Opened by range slot held)) is = is
-fed_more pass some rows more (one.Leaf (entry.Put by range slot row)) is =
-    let two = and_parts (nat_eq by pass) (list_any (is_row row) some) is in
-    and_both (nat_eq by pass) (list_any (is_row row) rows) two.0 (more row two.1)
-fed_more pass some rows more (one.Leaf (entry.Down by)) is = is
-fed_more pass some rows more (one.Leaf (entry.Up by)) is = is
-fed_more pass some rows more (one.Range (range_entry.Opened by slot leaf)) is = is
-fed_more pass some rows more (one.Range (range_entry.Acked by row ack)) is =
-    let two = and_parts (nat_eq by pass) (list_any (is_row row) some) is in
-    and_both (nat_eq by pass) (list_any (is_row row) rows) two.0 (more row two.1)
-
 pub same_number : (n : ℕ) → nat_eq n n ≡ true
 same_number n = grind (arith, nat_tests)
 
 pub row_itself : (row : Row) → is_row row row ≡ true
-row_itself row = and_both (same_series row.key row.key) (int_eq row.point.end row.point.end)
+row_itself row = and_from (same_series row.key row.key) (int_eq row.point.end row.point.end)
     ((same_series-Decides row.key row.key).1 refl) (grind (arith, ints))
 
 pub fed_itself : (pass : ℕ) (row : Row) → (nat_eq pass pass && list_any (is_row row) (row ∷ [])) ≡ true
-fed_itself pass row = and_both (nat_eq pass pass) (list_any (is_row row) (row ∷ [])) (same_number pass)
+fed_itself pass row = and_from (nat_eq pass pass) (list_any (is_row row) (row ∷ [])) (same_number pass)
     (ap (λ b. b || false) (row_itself row))

@@ -6,6 +6,7 @@ use Rattle.std.specs.Prelude.{Contains, IfErr, IfOk, OnErr, Result, sum_by}
 use Rattle.std.specs.List.{AllByRecursion}
 use Rattle.std.proofs.lemmas.Bool.{false≢true}
 use Rattle.std.proofs.lemmas.Bool.Decides.{nat_tests}
+use Rattle.std.proofs.lemmas.Option.{same_Some}
 use Rattle.history_book.specs.Histories.{AreFronts, entries, is_under, same_history}
 use Rattle.history_book.specs.Numbers.{times_among}
 use Rattle.history_book.specs.declared.views.BookEntry.{BookEntry}
@@ -48,7 +49,7 @@ use Rattle.range_cell.specs.declared.answers.RecoverFault.{RecoverFault}
 use Rattle.range_cell.specs.declared.answers.RecoverFault.TheVariants as unopened
 use Rattle.run_traces.specs.LineCauses.{HasCause, HasNoSource, HasNoTarget, HasNoneUp, IsDenied}
 use Rattle.run_traces.specs.LineClaims.{Finds, RecoveryMade}
-use Rattle.run_traces.specs.LineForms.{Suits}
+use Rattle.run_traces.specs.LineForms.{IsRecoveryFault, Suits}
 use Rattle.run_traces.specs.LineFreshness.{cut_at, found_cuts, leaf_of, refusal_cuts}
 use Rattle.run_traces.specs.LineSwitches.{IsRecoveredBetween, Recovery, StandsBetween, opens, recovers, recovery_of}
 use Rattle.run_traces.specs.LineTexts.{line_text, recovery_text}
@@ -90,19 +91,27 @@ recovery_suits (form.Tick moment) recovery is slot = absurd cc
 recovery_suits form.Together recovery is slot = absurd cc
 recovery_suits form.End recovery is slot = absurd cc
 
+of_recovery : (fault : RecoverFault) (told : LineFault) → recover_told fault ≡ Some told → IsRecoveryFault told
+of_recovery (unopened.Serving slot) told is = subst IsRecoveryFault (same_Some (why.Serving slot) told is) tt
+of_recovery unopened.ThreeServing told is = subst IsRecoveryFault (same_Some why.ThreeServing told is) tt
+of_recovery (unopened.SlotsSpent count) told is = subst IsRecoveryFault (same_Some (why.SlotsSpent count) told is) tt
+of_recovery (unopened.SourceDown founds) told is = subst IsRecoveryFault (same_Some (why.SourceDown founds) told is) tt
+of_recovery (unopened.TargetDown cut) told is = subst IsRecoveryFault (same_Some (why.TargetDown cut) told is) tt
+of_recovery unopened.OutOfMemory told is = absurd cc
+
 unopened_suits : (what : LineForm) (recovery : Recovery) → recovery_of what ≡ Some recovery → (fault : LineFault)
-    → Suits what (came.Refused fault)
-unopened_suits (form.Feed name) recovery is fault = absurd cc
-unopened_suits (form.Query moment text) recovery is fault = absurd cc
-unopened_suits (form.Check moment text) recovery is fault = absurd cc
-unopened_suits (form.Explain moment text) recovery is fault = absurd cc
-unopened_suits (form.Down leaf) recovery is fault = absurd cc
-unopened_suits (form.Up leaf) recovery is fault = absurd cc
-unopened_suits (form.Recover range leaf) recovery is fault = tt
-unopened_suits (form.Standing name period text) recovery is fault = absurd cc
-unopened_suits (form.Tick moment) recovery is fault = absurd cc
-unopened_suits form.Together recovery is fault = absurd cc
-unopened_suits form.End recovery is fault = absurd cc
+    → IsRecoveryFault fault → Suits what (came.Refused fault)
+unopened_suits (form.Feed name) recovery is fault of = absurd cc
+unopened_suits (form.Query moment text) recovery is fault of = absurd cc
+unopened_suits (form.Check moment text) recovery is fault of = absurd cc
+unopened_suits (form.Explain moment text) recovery is fault of = absurd cc
+unopened_suits (form.Down leaf) recovery is fault of = absurd cc
+unopened_suits (form.Up leaf) recovery is fault of = absurd cc
+unopened_suits (form.Recover range leaf) recovery is fault of = of
+unopened_suits (form.Standing name period text) recovery is fault of = absurd cc
+unopened_suits (form.Tick moment) recovery is fault of = absurd cc
+unopened_suits form.Together recovery is fault of = absurd cc
+unopened_suits form.End recovery is fault of = absurd cc
 
 -- ---- where a new entry stands
 
@@ -322,28 +331,25 @@ module _ (config : Config) (what : LineForm) (recovery : Recovery) (asked : reco
     abbrev Caused : LineFault → Type 0
     Caused = HasItsCause config what before after
 
-    some_same : (x y : LineFault) → Some x ≡ Some y → x ≡ y
-    some_same x y same = cc
-
     caused : (fault : RecoverFault) → IsNotRecovered config range leaf before after fault → (told : LineFault)
         → recover_told fault ≡ Some told → Caused told
     caused (unopened.Serving slot) so told is =
-        subst Caused (some_same (why.Serving slot) told is)
+        subst Caused (same_Some (why.Serving slot) told is)
         (record { cause = denied (denial.ServesThere slot) so; cuts = λ other there. tt })
     caused unopened.ThreeServing so told is =
-        subst Caused (some_same why.ThreeServing told is)
+        subst Caused (same_Some why.ThreeServing told is)
         (record { cause = denied denial.ServesFully so; cuts = λ other there. tt })
     caused (unopened.SlotsSpent count) so told is =
-        subst Caused (some_same (why.SlotsSpent count) told is)
+        subst Caused (same_Some (why.SlotsSpent count) told is)
         (record { cause = denied (denial.SlotsSpent count) so; cuts = λ other there. tt })
     caused (unopened.SourceDown founds) so told is =
-        subst Caused (some_same (why.SourceDown founds) told is) (record {
+        subst Caused (same_Some (why.SourceDown founds) told is) (record {
           cause = source founds so;
           cuts = λ other there.
               founds_between before.seen after.seen other founds (all_found founds so.cause.1.down);
         })
     caused (unopened.TargetDown cut) so told is =
-        subst Caused (some_same (why.TargetDown cut) told is) (record {
+        subst Caused (same_Some (why.TargetDown cut) told is) (record {
           cause = record { recovery = recovery; asked = asked; down = found_then leaf cut so.cause.1 };
           cuts = λ other there.
               subst (λ o. AllByRecursion (LiesBetween before.seen after.seen other) (cut_at other o cut)) (sym on)
@@ -357,7 +363,7 @@ module _ (config : Config) (what : LineForm) (recovery : Recovery) (asked : reco
         (line_text config after.seen (ran_line what content (came.Refused told))) before after
     unopened_wrote fault so told is =
         refused_wrote config what content before after owns told
-        (unopened_suits what recovery asked told) (caused fault so told is)
+        (unopened_suits what recovery asked told (of_recovery fault told is)) (caused fault so told is)
 
   -- ---- however it ended
 

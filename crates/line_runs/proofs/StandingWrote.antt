@@ -15,6 +15,7 @@ use Rattle.query_texts.specs.TextTypes.{text_type}
 use Rattle.query_texts.specs.declared.faults.TextFault.{TextFault}
 use Rattle.query_texts.specs.declared.faults.TextFault.TheVariants as text_fault
 use Rattle.run_traces.specs.LineDues.{IsDueBy, stands_behind, undue_fault}
+use Rattle.run_traces.specs.declared.traces.LineFault.TheVariants as why
 use Rattle.run_traces.specs.declared.traces.LineTrace.TheVariants as came
 use Rattle.standing.specs.Adding.{add_fault, fault_in, is_taken}
 use Rattle.standing.specs.StandingStates.{StandingState}
@@ -59,14 +60,14 @@ module _ (config : Config) (state : StandingState) (name : List ℕ) (period : �
   by_fault : (fault : StandingFault) → fault_told ≡ some_fault fault → LineWrote config
       (ran_line (form.Standing name period text) content (standing_ran config.topology name (some_fault fault)).trace)
       (standing_ran config.topology name (some_fault fault)).text know know
-  by_fault unstood.NameTaken is = still_refused config (form.Standing name period text) content know _ tt
+  by_fault unstood.NameTaken is = still_refused config (form.Standing name period text) content know why.NameTaken tt
       (λ leaf. refl) tt
-  by_fault (unstood.Parse parse) is = still_refused config (form.Standing name period text) content know _ tt
-      (λ leaf. refl) (parse_is (text_type config.schemas text) parse
+  by_fault (unstood.Parse parse) is = still_refused config (form.Standing name period text) content know
+      (why.Parse parse) tt (λ leaf. refl) (parse_is (text_type config.schemas text) parse
       (not_taken (is_taken name state.queries) (unstood.Parse parse) (text_type config.schemas text) is
       (λ e. absurd cc)))
-  by_fault (unstood.Typing typing) is = still_refused config (form.Standing name period text) content know _ tt
-      (λ leaf. refl) (typing_is (text_type config.schemas text) typing
+  by_fault (unstood.Typing typing) is = still_refused config (form.Standing name period text) content know
+      (why.Typing typing) tt (λ leaf. refl) (typing_is (text_type config.schemas text) typing
       (not_taken (is_taken name state.queries) (unstood.Typing typing) (text_type config.schemas text) is
       (λ e. absurd cc)))
 
@@ -101,6 +102,6 @@ pub undue_wrote : (config : Config) (moment : ℤ) (content : List ℕ) (know : 
     (ran_line (form.Tick moment) content (refused_for config.topology (undue_fault fault)).trace)
     (refused_for config.topology (undue_fault fault)).text know know
 undue_wrote config moment content know (undue.TooManyDue most) =
-    still_refused config (form.Tick moment) content know _ tt (λ leaf. refl) tt
+    still_refused config (form.Tick moment) content know (why.TooManyDue most) tt (λ leaf. refl) tt
 undue_wrote config moment content know (undue.Backwards last) =
-    still_refused config (form.Tick moment) content know _ tt (λ leaf. refl) tt
+    still_refused config (form.Tick moment) content know (why.Backwards last) tt (λ leaf. refl) tt

@@ -39,7 +39,7 @@ use Rattle.owners.specs.Puts.{pass_of}
 use Rattle.query_core.specs.Traces.{IsBetween, lengths_of}
 use Rattle.run_traces.specs.LineCauses.{HasCause, HasSwitchedEnough, WasAlready}
 use Rattle.run_traces.specs.LineClaims.{Finds, SwitchMade}
-use Rattle.run_traces.specs.LineForms.{Suits}
+use Rattle.run_traces.specs.LineForms.{IsSwitchFault, Suits}
 use Rattle.run_traces.specs.LineFreshness.{cut_at, leaf_of, refusal_cuts}
 use Rattle.run_traces.specs.LineSwitches.{IsSwitchedBetween, StandsBetween, Switch, goes, switch_entry, switch_of, switches}
 use Rattle.run_traces.specs.LineTexts.{line_text, switch_text}
@@ -70,14 +70,19 @@ switch_suits (form.Tick moment) switch is cut = absurd cc
 switch_suits form.Together switch is cut = absurd cc
 switch_suits form.End switch is cut = absurd cc
 
-refusal_suits : (what : LineForm) (switch : Switch) → switch_of what ≡ Some switch → (fault : LineFault)
-    → Suits what (came.Refused fault)
+of_switch : (fault : ControlFault) → IsSwitchFault (control_told fault)
+of_switch (unswitched.AlreadyDown cut) = tt
+of_switch (unswitched.AlreadyUp cut) = tt
+of_switch (unswitched.SwitchesSpent count) = tt
+
+refusal_suits : (what : LineForm) (switch : Switch) → switch_of what ≡ Some switch → (fault : ControlFault)
+    → Suits what (came.Refused (control_told fault))
 refusal_suits (form.Feed name) switch is fault = absurd cc
 refusal_suits (form.Query moment text) switch is fault = absurd cc
 refusal_suits (form.Check moment text) switch is fault = absurd cc
 refusal_suits (form.Explain moment text) switch is fault = absurd cc
-refusal_suits (form.Down leaf) switch is fault = tt
-refusal_suits (form.Up leaf) switch is fault = tt
+refusal_suits (form.Down leaf) switch is fault = of_switch fault
+refusal_suits (form.Up leaf) switch is fault = of_switch fault
 refusal_suits (form.Recover range leaf) switch is fault = absurd cc
 refusal_suits (form.Standing name period text) switch is fault = absurd cc
 refusal_suits (form.Tick moment) switch is fault = absurd cc
@@ -321,7 +326,7 @@ module _ (config : Config) (what : LineForm) (switch : Switch) (asked : switch_o
       pub unswitched_wrote : LineWrote config (ran_line what content (came.Refused (control_told fault)))
           (line_text config after.seen (ran_line what content (came.Refused (control_told fault)))) before after
       unswitched_wrote = refused_wrote config what content before after owns (control_told fault)
-          (refusal_suits what switch asked (control_told fault))
+          (refusal_suits what switch asked fault)
           (cause_by switch.down refl refused.fault_is)
 
   -- ---- however it ended

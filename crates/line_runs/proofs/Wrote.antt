@@ -34,7 +34,7 @@ use Rattle.query_texts.specs.declared.faults.TextFault.{TextFault}
 use Rattle.run_traces.proofs.RunFacts.{book_length}
 use Rattle.run_traces.specs.LineCauses.{HasCause}
 use Rattle.run_traces.specs.LineClaims.{Finds, HaveGrown, LookFound, marked}
-use Rattle.run_traces.specs.LineForms.{Suits}
+use Rattle.run_traces.specs.LineForms.{IsQuestionFault, Suits}
 use Rattle.run_traces.specs.LineFreshness.{refusal_cuts}
 use Rattle.mon_script.specs.declared.forms.LineForm.{LineForm}
 use Rattle.owners.specs.Puts.{pass_of}
@@ -69,11 +69,11 @@ moment_is asked.Check moment text = refl
 moment_is asked.Explain moment text = refl
 
 -- what it comes to suits it
-pub suits_refused : (what : Asked) (moment : ℤ) (text : List ℕ) (told : LineFault)
+pub suits_refused : (what : Asked) (moment : ℤ) (text : List ℕ) (told : LineFault) → IsQuestionFault told
     → Suits (question what moment text) (came.Refused told)
-suits_refused asked.Query moment text told = tt
-suits_refused asked.Check moment text told = tt
-suits_refused asked.Explain moment text told = tt
+suits_refused asked.Query moment text told is = is
+suits_refused asked.Check moment text told is = is
+suits_refused asked.Explain moment text told is = is
 
 suits_asked : (what : Asked) (moment : ℤ) (text : List ℕ) (trace : Trace)
     → Suits (question what moment text) (came.Asked moment trace)

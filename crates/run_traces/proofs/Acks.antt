@@ -2,7 +2,7 @@
 use Rattle.std.proofs.Common.{◌≡◌, ℕ, ◌+◌, nat_eq, ◌&&◌, Bool, true, false, cond, List, [], ◌∷◌, ◌++◌, Option, Some, None}
 use Rattle.std.proofs.Common.{length, map, filter, refl, sym, ap, ◌∙◌, arith}
 use Rattle.std.specs.List.{AllByRecursion, flat_map, range_with_len}
-use Rattle.std.proofs.lemmas.Bool.{false≢true}
+use Rattle.std.proofs.lemmas.Bool.{and_parts, false≢true}
 use Rattle.std.proofs.lemmas.Bool.Decides.{nat_tests}
 use Rattle.std.proofs.lemmas.List.Concat.{flat_map-append}
 use Rattle.history_book.specs.Histories.{AreFronts, book_entry_pass, entries, same_history}
@@ -38,7 +38,6 @@ use Rattle.run_traces.specs.declared.traces.LineTrace.{LineTrace}
 use Rattle.run_traces.specs.declared.traces.LineTrace.TheVariants as came
 use Rattle.run_traces.proofs.ListFacts.{all_as}
 use Rattle.run_traces.proofs.Owners.{all_chosen, begins}
-use Rattle.run_traces.proofs.Switched.{both_true}
 
 no_rows : List Row
 no_rows = []
@@ -52,7 +51,7 @@ none_told (e ∷ es) all = ap (λ w. w ++ flat_map book_row es) all.0 ∙ none_t
 -- a switch acknowledges nothing
 going_tells : (down b : Bool) (e : BookEntry) → (b && goes down e) ≡ true → book_row e ≡ []
 going_tells down b (one.Leaf e) is = refl
-going_tells down b (one.Range e) is = absurd (false≢true (both_true b false is).1)
+going_tells down b (one.Range e) is = absurd (false≢true (and_parts b false is).1)
 
 switched_tells : (switch : Option Switch) (h : History) (e : BookEntry) → switches switch h e ≡ true → book_row e ≡ []
 switched_tells None h e is = absurd (false≢true is)
@@ -70,7 +69,7 @@ opening_tells recovery slot h (one.Leaf e) is = refl
 opening_tells recovery slot h (one.Range (range_entry.Opened by place on)) is = refl
 opening_tells recovery slot (of.Leaf leaf) (one.Range (range_entry.Acked by row ack)) is = absurd (false≢true is)
 opening_tells recovery slot (of.Range range) (one.Range (range_entry.Acked by row ack)) is =
-    absurd (false≢true (both_true (same_range recovery.range range) false is).1)
+    absurd (false≢true (and_parts (same_range recovery.range range) false is).1)
 
 recovered_tells : (recovery : Option Recovery) (slot : Slot) (h : History) (e : BookEntry)
     → recovers recovery slot h e ≡ true → book_row e ≡ []

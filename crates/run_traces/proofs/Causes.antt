@@ -4,7 +4,7 @@ use Rattle.std.proofs.Common.{[], ◌∷◌, ◌++◌, length, take, drop, slice
 use Rattle.std.proofs.Common.{subst, sym}
 use Rattle.std.specs.Prelude.{ℤ}
 use Rattle.std.specs.List.{AllByRecursion, count_by, list_any}
-use Rattle.std.proofs.lemmas.Bool.{false≢true}
+use Rattle.std.proofs.lemmas.Bool.{and_from, and_parts, false≢true}
 use Rattle.std.proofs.lemmas.List.{take_all}
 use Rattle.history_book.specs.Histories.{book_entry_pass, entries}
 use Rattle.history_book.specs.declared.views.BookEntry.{BookEntry}
@@ -105,28 +105,20 @@ module _ {X : Type 0} (test : X → Bool) where
       or_last true b is = refl
       or_last false b is = is
 
-and_parts : (a b : Bool) → (a && b) ≡ true → (a ≡ true) × (b ≡ true)
-and_parts true b is = (refl, is)
-and_parts false b is = absurd (false≢true is)
-
-and_both : (a b : Bool) → a ≡ true → b ≡ true → (a && b) ≡ true
-and_both true b x y = y
-and_both false b x y = absurd (false≢true x)
-
 -- an entry of some of a feed's rows is one of all of them
-fed_more : (pass : ℕ) (some rows : List Row)
+pub fed_more : (pass : ℕ) (some rows : List Row)
     → ((w : Row) → list_any (is_row w) some ≡ true → list_any (is_row w) rows ≡ true) → (e : BookEntry)
     → is_fed pass some e ≡ true → is_fed pass rows e ≡ true
 fed_more pass some rows more (one.Leaf (entry.Opened by range slot held)) is = is
 fed_more pass some rows more (one.Leaf (entry.Put by range slot row)) is =
     let two = and_parts (nat_eq by pass) (list_any (is_row row) some) is in
-    and_both (nat_eq by pass) (list_any (is_row row) rows) two.0 (more row two.1)
+    and_from (nat_eq by pass) (list_any (is_row row) rows) two.0 (more row two.1)
 fed_more pass some rows more (one.Leaf (entry.Down by)) is = is
 fed_more pass some rows more (one.Leaf (entry.Up by)) is = is
 fed_more pass some rows more (one.Range (range_entry.Opened by slot leaf)) is = is
 fed_more pass some rows more (one.Range (range_entry.Acked by row ack)) is =
     let two = and_parts (nat_eq by pass) (list_any (is_row row) some) is in
-    and_both (nat_eq by pass) (list_any (is_row row) rows) two.0 (more row two.1)
+    and_from (nat_eq by pass) (list_any (is_row row) rows) two.0 (more row two.1)
 
 module _ (widen : (typed : TypedTree) (moment : ℤ) (from to earlier later : Lengths) (seen more : Histories)
     (trace : Trace) → AreWider from to earlier later seen more → IsTraceBetween typed moment from to seen trace

@@ -3,7 +3,7 @@ use Rattle.std.proofs.Common.{◌≡◌, ℕ, zero, suc, ◌≤◌, nat_eq, ◌&
 use Rattle.std.proofs.Common.{map, filter, take, refl, sym, ap, ◌∙◌, subst, arith}
 use Rattle.std.specs.List.{AllByRecursion, flat_map, list_any}
 use Rattle.std.specs.Ordering.{int_eq}
-use Rattle.std.proofs.lemmas.Bool.{false≢true}
+use Rattle.std.proofs.lemmas.Bool.{and_from, and_parts, false≢true}
 use Rattle.std.proofs.lemmas.Bool.Decides.{nat_tests}
 use Rattle.std.proofs.lemmas.Int.{ints}
 use Rattle.history_book.specs.Histories.{book_entry_pass, entries}
@@ -54,14 +54,6 @@ module _ (config : Config) (whole : Histories) (from to : History → ℕ) (numb
 
 -- ---- rows
 
-and_parts : (a b : Bool) → (a && b) ≡ true → (a ≡ true) × (b ≡ true)
-and_parts true b is = (refl, is)
-and_parts false b is = absurd (false≢true is)
-
-and_both : (a b : Bool) → a ≡ true → b ≡ true → (a && b) ≡ true
-and_both true b x y = y
-and_both false b x y = absurd (false≢true x)
-
 -- two rows that are one are of one series and end together
 pub row_key : (row other : Row) → is_row row other ≡ true → row.key ≡ other.key
 row_key row other is = (same_series-Decides row.key other.key).0
@@ -80,7 +72,7 @@ same_end row other e = grind (arith, ints)
 
 -- and so are two that are one with a third
 pub row_joined : (w row other : Row) → is_row w row ≡ true → is_row w other ≡ true → is_row row other ≡ true
-row_joined w row other a b = and_both (same_series row.key other.key) (int_eq row.point.end other.point.end)
+row_joined w row other a b = and_from (same_series row.key other.key) (int_eq row.point.end other.point.end)
     (same_key row.key other.key (sym (row_key w row a) ∙ row_key w other b))
     (same_end row other (sym (row_end w row a) ∙ row_end w other b))
 

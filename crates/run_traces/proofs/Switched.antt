@@ -2,7 +2,7 @@
 use Rattle.std.proofs.Common.{◌≡◌, ℕ, zero, suc, ◌+◌, ◌<◌, ◌≤◌, nat_eq, ◌&&◌, ◌||◌, Bool, true, false, cond, List, []}
 use Rattle.std.proofs.Common.{◌∷◌, ◌++◌, length, map, filter, slice_get, Some, None, refl, sym, ap, ◌∙◌, subst, arith}
 use Rattle.std.specs.List.{slice_index_or}
-use Rattle.std.proofs.lemmas.Bool.{false≢true}
+use Rattle.std.proofs.lemmas.Bool.{and_parts, false≢true}
 use Rattle.std.proofs.lemmas.Bool.Decides.{nat_tests}
 use Rattle.std.proofs.lemmas.List.{length-append}
 use Rattle.std.proofs.lemmas.List.Concat.{flat_map-append}
@@ -40,10 +40,6 @@ use Rattle.run_traces.specs.LineSwitches.{switches}
 use Rattle.run_traces.proofs.ListFacts.{no_item}
 
 -- ---- tests
-
-pub both_true : (a b : Bool) → (a && b) ≡ true → (a ≡ true) × (b ≡ true)
-both_true true b is = (refl, is)
-both_true false b is = absurd (false≢true is)
 
 pub same_number : (n m : ℕ) → nat_eq n m ≡ true → n ≡ m
 same_number n m is = grind (arith, nat_tests)
@@ -302,7 +298,7 @@ module _ (config : Config) (ended : Histories) (from to : History → ℕ) (numb
     switched_leaf h e is =
         let mine = subst (λ o. switches o h e ≡ true) found.asked is in
         history_same found.switch.leaf h
-        (both_true (same_history (of.Leaf found.switch.leaf) h) (goes found.switch.down e) mine).0
+        (and_parts (same_history (of.Leaf found.switch.leaf) h) (goes found.switch.down e) mine).0
 
     pub switched_entry : (h : History) → of.Leaf found.switch.leaf ≡ h
         → slice_get (entries ended h) found.stands.place ≡ Some (one.Leaf (switch_entry found.switch.down number))
@@ -315,7 +311,7 @@ module _ (config : Config) (ended : Histories) (from to : History → ℕ) (numb
     pub switched_there : (h : History) (k : ℕ) (e : BookEntry) → slice_get (entries ended h) k ≡ Some e
         → (switches (switch_of what) h e && nat_eq (k + 1) cut) ≡ true → IsTheirs from to number h k e
     switched_there h k e there is =
-        let two = both_true (switches (switch_of what) h e) (nat_eq (k + 1) cut) is in
+        let two = and_parts (switches (switch_of what) h e) (nat_eq (k + 1) cut) is in
         let leaf = switched_leaf h e two.0 in
         let last : k + 1 ≡ cut = same_number (k + 1) cut two.1 in
         let stands = found.stands in
@@ -382,9 +378,9 @@ module _ (config : Config) (ended : Histories) (from to : History → ℕ) (numb
     opened_there : (h : History) (k : ℕ) (e : BookEntry) → slice_get (entries ended h) k ≡ Some e
         → opens found.recovery slot h e ≡ true → IsTheirs from to number h k e
     opened_there (of.Leaf leaf) k (one.Leaf (entry.Opened by other place rows)) there is =
-        let two = both_true (same_leaf found.recovery.leaf leaf)
+        let two = and_parts (same_leaf found.recovery.leaf leaf)
         (same_replica found.recovery.range slot other place) is in
-        let replica = both_true (nat_eq found.recovery.range.0 other.0) (nat_eq slot.0 place.0) two.1 in
+        let replica = and_parts (nat_eq found.recovery.range.0 other.0) (nat_eq slot.0 place.0) two.1 in
         let range_is = ranges_same found.recovery.range other replica.0 in
         let slot_is = slots_same slot place replica.1 in
         let stood = leaf_there (entry.Opened by other place rows) (leaf_history ended leaf) k there in
@@ -395,25 +391,25 @@ module _ (config : Config) (ended : Histories) (from to : History → ℕ) (numb
         let theirs = leaf_theirs leaf k by rows (leaves_same found.recovery.leaf leaf two.0) mine in
         record { low = theirs.low; high = theirs.high; under = theirs.under }
     opened_there (of.Leaf leaf) k (one.Leaf (entry.Put by other place row)) there is =
-        absurd (false≢true (both_true (same_leaf found.recovery.leaf leaf) false is).1)
+        absurd (false≢true (and_parts (same_leaf found.recovery.leaf leaf) false is).1)
     opened_there (of.Leaf leaf) k (one.Leaf (entry.Down by)) there is =
-        absurd (false≢true (both_true (same_leaf found.recovery.leaf leaf) false is).1)
+        absurd (false≢true (and_parts (same_leaf found.recovery.leaf leaf) false is).1)
     opened_there (of.Leaf leaf) k (one.Leaf (entry.Up by)) there is =
-        absurd (false≢true (both_true (same_leaf found.recovery.leaf leaf) false is).1)
+        absurd (false≢true (and_parts (same_leaf found.recovery.leaf leaf) false is).1)
     opened_there (of.Leaf leaf) k (one.Range e) there is = absurd (false≢true is)
     opened_there (of.Range range) k (one.Leaf e) there is = absurd (false≢true is)
     opened_there (of.Range range) k (one.Range (range_entry.Opened by place on)) there is =
-        let two = both_true (same_range found.recovery.range range)
+        let two = and_parts (same_range found.recovery.range range)
         (same_slot slot place && same_leaf found.recovery.leaf on) is in
         let slot_is = slots_same slot place
-        (both_true (same_slot slot place) (same_leaf found.recovery.leaf on) two.1).0 in
+        (and_parts (same_slot slot place) (same_leaf found.recovery.leaf on) two.1).0 in
         let stood = range_there (range_entry.Opened by place on) (range_history ended range) k there in
         let mine = subst (λ (s : Slot). slice_get (range_history ended range) k ≡ Some (range_entry.Opened by s on))
         (sym slot_is) stood in
         let theirs = range_theirs range k by on (ranges_same found.recovery.range range two.0) mine in
         record { low = theirs.low; high = theirs.high; under = theirs.under }
     opened_there (of.Range range) k (one.Range (range_entry.Acked by row ack)) there is =
-        absurd (false≢true (both_true (same_range found.recovery.range range) false is).1)
+        absurd (false≢true (and_parts (same_range found.recovery.range range) false is).1)
 
     pub recovered_there : (h : History) (k : ℕ) (e : BookEntry) → slice_get (entries ended h) k ≡ Some e
         → recovers (recovery_of what) slot h e ≡ true → IsTheirs from to number h k e
@@ -425,10 +421,10 @@ module _ (config : Config) (ended : Histories) (from to : History → ℕ) (numb
 module _ (pass : ℕ) (rows : List Row) where
   not_going : (down b : Bool) (e : BookEntry) → (b && goes down e) ≡ true → is_fed pass rows e ≡ true → ⊥
   not_going down b (one.Leaf (entry.Opened by range slot held)) is fed = false≢true fed
-  not_going down b (one.Leaf (entry.Put by range slot row)) is fed = false≢true (both_true b false is).1
+  not_going down b (one.Leaf (entry.Put by range slot row)) is fed = false≢true (and_parts b false is).1
   not_going down b (one.Leaf (entry.Down by)) is fed = false≢true fed
   not_going down b (one.Leaf (entry.Up by)) is fed = false≢true fed
-  not_going down b (one.Range e) is fed = false≢true (both_true b false is).1
+  not_going down b (one.Range e) is fed = false≢true (and_parts b false is).1
 
   pub not_switching : (switch : _) (h : History) (e : BookEntry) → switches switch h e ≡ true
       → is_fed pass rows e ≡ true → ⊥
@@ -440,14 +436,14 @@ module _ (pass : ℕ) (rows : List Row) where
       → is_fed pass rows e ≡ true → ⊥
   not_opening recovery slot (of.Leaf leaf) (one.Leaf (entry.Opened by range place held)) is fed = false≢true fed
   not_opening recovery slot (of.Leaf leaf) (one.Leaf (entry.Put by range place row)) is fed =
-      false≢true (both_true (same_leaf recovery.leaf leaf) false is).1
+      false≢true (and_parts (same_leaf recovery.leaf leaf) false is).1
   not_opening recovery slot (of.Leaf leaf) (one.Leaf (entry.Down by)) is fed = false≢true fed
   not_opening recovery slot (of.Leaf leaf) (one.Leaf (entry.Up by)) is fed = false≢true fed
   not_opening recovery slot (of.Leaf leaf) (one.Range e) is fed = false≢true is
   not_opening recovery slot (of.Range range) (one.Leaf e) is fed = false≢true is
   not_opening recovery slot (of.Range range) (one.Range (range_entry.Opened by place on)) is fed = false≢true fed
   not_opening recovery slot (of.Range range) (one.Range (range_entry.Acked by row ack)) is fed =
-      false≢true (both_true (same_range recovery.range range) false is).1
+      false≢true (and_parts (same_range recovery.range range) false is).1
 
   pub not_recovering : (recovery : _) (slot : Slot) (h : History) (e : BookEntry) → recovers recovery slot h e ≡ true
       → is_fed pass rows e ≡ true → ⊥

@@ -26,7 +26,6 @@ use Rattle.query_texts.specs.declared.faults.TextFault.TheVariants as fault
 use Rattle.range_cell.specs.declared.answers.WriteFault.{WriteFault}
 use Rattle.range_cell.specs.declared.answers.WriteFault.TheVariants as unwritten
 use Rattle.mon_script.specs.declared.forms.LineForm.{LineForm}
-use Rattle.mon_script.specs.declared.forms.LineForm.TheVariants as form
 use Rattle.run_traces.specs.LinePlaces.{highs, lows}
 use Rattle.run_traces.specs.LineSwitches.{Recovery, Switch, recovery_of, switch_of}
 use Rattle.run_traces.specs.LineTables.{moment_of, text_of}
@@ -44,36 +43,6 @@ use Rattle.write_core.specs.declared.copies.Denial.{Denial}
 use Rattle.write_core.specs.declared.copies.Denial.TheVariants as denial
 use Rattle.write_core.specs.declared.refusals.Refused.{Refused}
 use Rattle.write_core.specs.declared.refusals.Refused.TheVariants as ranged
-
--- ---- standing queries
-
--- a line by which a query is to stand
-abbrev pub IsToStand : LineForm → Type 0
-IsToStand (form.Feed name) = ⊥
-IsToStand (form.Query moment text) = ⊥
-IsToStand (form.Check moment text) = ⊥
-IsToStand (form.Explain moment text) = ⊥
-IsToStand (form.Down leaf) = ⊥
-IsToStand (form.Up leaf) = ⊥
-IsToStand (form.Recover range leaf) = ⊥
-IsToStand (form.Standing name period text) = Unit {0}
-IsToStand (form.Tick moment) = ⊥
-IsToStand form.Together = ⊥
-IsToStand form.End = ⊥
-
--- a line that asks those that are due
-abbrev pub AsksDue : LineForm → Type 0
-AsksDue (form.Feed name) = ⊥
-AsksDue (form.Query moment text) = ⊥
-AsksDue (form.Check moment text) = ⊥
-AsksDue (form.Explain moment text) = ⊥
-AsksDue (form.Down leaf) = ⊥
-AsksDue (form.Up leaf) = ⊥
-AsksDue (form.Recover range leaf) = ⊥
-AsksDue (form.Standing name period text) = ⊥
-AsksDue (form.Tick moment) = Unit {0}
-AsksDue form.Together = ⊥
-AsksDue form.End = ⊥
 
 -- ---- causes between two moments
 
@@ -133,7 +102,7 @@ module _ (config : Config) (ended : Histories) (from to : Lengths) where
     pub asked : recovery_of what ≡ Some recovery
     pub down : IsFoundBetween from to ended (record { leaf = recovery.leaf; cut = cut })
 
-  -- why a line is refused; what is wrong with a query that is to stand, and with a moment, is told by those that stand
+  -- why a line is refused; that a query isn't to stand, or a moment isn't taken, is told by the queries that stand
   abbrev pub HasCause : LineForm → LineFault → Type 0
   HasCause what (why.Parse parse) = text_type config.schemas (text_of what) ≡ Err (fault.Parse parse)
   HasCause what (why.Typing typing) = text_type config.schemas (text_of what) ≡ Err (fault.Typing typing)
@@ -147,9 +116,9 @@ module _ (config : Config) (ended : Histories) (from to : Lengths) where
   HasCause what (why.SlotsSpent count) = IsDenied what (denial.SlotsSpent count)
   HasCause what (why.SourceDown founds) = HasNoSource what founds
   HasCause what (why.TargetDown cut) = HasNoTarget what cut
-  HasCause what why.NameTaken = IsToStand what
-  HasCause what (why.TooManyDue most) = AsksDue what
-  HasCause what (why.Backwards last) = AsksDue what
+  HasCause what why.NameTaken = Unit {0}
+  HasCause what (why.TooManyDue most) = Unit {0}
+  HasCause what (why.Backwards last) = Unit {0}
 
   -- the range's history at a length between them refuses the row so
   pub record IsRefusedByRange (row : Row) (told : Refused) : Type 0 where

@@ -1,6 +1,6 @@
 -- The cells of a printed table, and sums of them.
-use Rattle.std.specs.Prelude.{ℕ, ℤ, pos, neg_ℤ, ◌+ℤ◌, int_le, ◌-◌, ◌^◌, ◌==◌, ◌&&◌, Bool, List, [], ◌∷◌, Option, Some}
-use Rattle.std.specs.Prelude.{None, option_and_then, if◌then◌else◌}
+use Rattle.std.specs.Prelude.{ℕ, ℤ, pos, neg_ℤ, ◌+ℤ◌, int_le, ◌-◌, ◌*◌, ◌^◌, ◌==◌, ◌&&◌, Bool, List, [], ◌∷◌, Option, Some}
+use Rattle.std.specs.Prelude.{None, option_and_then, option_map, if◌then◌else◌}
 use Rattle.mon_value.specs.Numbers.{number_of}
 
 abbrev pub comma : ℕ
@@ -22,11 +22,11 @@ is_number z = int_le (neg_ℤ (pos (2 ^ 63))) z && int_le z (pos (2 ^ 63 - 1))
 abbrev pub number_in : List ℕ → Option ℤ
 number_in cell = option_and_then (λ z. if is_number z then Some z else None) (number_of cell)
 
-abbrev pub is_sum : ℤ → Bool
-is_sum z = int_le (neg_ℤ (pos (2 ^ 126))) z && int_le z (pos (2 ^ 126))
+-- whether a number may be the sum of so many numbers of 64 bits
+abbrev pub is_sum_of : ℕ → ℤ → Bool
+is_sum_of count z = int_le (neg_ℤ (pos (count * 2 ^ 63))) z && int_le z (pos (count * 2 ^ 63))
 
--- A sum with one cell more. There is none where a cell is no number, or the sum is beyond 2 ^ 126
+-- A sum with one cell more. There is none where a cell is no number
 abbrev pub sum_with : Option ℤ → List ℕ → Option ℤ
 sum_with None cell = None
-sum_with (Some sum) cell =
-    option_and_then (λ z. if is_sum (sum +ℤ z) then Some (sum +ℤ z) else None) (number_in cell)
+sum_with (Some sum) cell = option_map (λ z. sum +ℤ z) (number_in cell)

@@ -1,11 +1,8 @@
 // The cells of a printed table, and sums of them.
-ghost use Rattle.std.specs.Prelude.{◌≡◌, true, None, Some, option_map, IfSome, if◌then◌else◌};
+ghost use Rattle.std.specs.Prelude.{◌≡◌, ◌-◌, ◌^◌, true, option_map, IfSome};
 ghost use Rattle.trials.specs.Cells as spec;
 
 use mon_value::read_number;
-
-/// The greatest sum, and with `-` the least one.
-const MOST: i128 = 1 << 126;
 
 /// The last cell of a line: what stands behind its last comma, if it has one.
 pub(crate) fn last_cell(line: &[u8]) -> Option<&[u8]>
@@ -32,24 +29,12 @@ fn number_in(cell: &[u8]) -> Option<i128>
     Some(number)
 }
 
-/// A sum with one cell more. There is none where a cell is no number, or the sum is too great.
+/// A sum with one cell more. There is none where a cell is no number.
 pub(crate) fn sum_with(sum: Option<i128>, cell: &[u8]) -> Option<i128>
-    requires small { IfSome sum (λ sum. spec.is_sum sum ≡ true) }
+    requires small { IfSome sum (λ sum. spec.is_sum_of (2 ^ 64 - 1) sum ≡ true) }
     ensures sum { result ≡ spec.sum_with sum cell.now }
-    ensures small { IfSome result (λ sum. spec.is_sum sum ≡ true) }
 {
     let sum = sum?;
     let number = number_in(cell)?;
-    within(sum + number)
-}
-
-// A sum that is not too great.
-fn within(sum: i128) -> Option<i128>
-    ensures sum { result ≡ (if spec.is_sum sum then Some sum else None) }
-    ensures small { IfSome result (λ sum. spec.is_sum sum ≡ true) }
-{
-    if sum < -MOST || sum > MOST {
-        return None;
-    }
-    Some(sum)
+    Some(sum + number)
 }

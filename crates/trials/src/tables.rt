@@ -1,5 +1,5 @@
 // Tables as they were printed, line by line.
-ghost use Rattle.std.specs.Prelude.{◌≡◌, drop};
+ghost use Rattle.std.specs.Prelude.{◌≡◌, ◌≤◌, drop, length};
 ghost use Rattle.mon_script.specs.Lines.{lines_of};
 ghost use Rattle.trials.specs.Reading.{read_of};
 ghost use Rattle.trials.specs.Summaries.{table_behind};
@@ -43,6 +43,7 @@ pub(crate) fn table_at(text: &[u8]) -> Table<'_>
 /// The text behind so many lines.
 pub(crate) fn lines_behind(text: &[u8], count: usize) -> &[u8]
     ensures behind { lines_of result.now ≡ drop count (lines_of text.now) }
+    ensures within { length result.now ≤ length text.now }
 {
     let mut rest = text;
     for _line in 0..count {
