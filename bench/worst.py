@@ -8,6 +8,7 @@ many series. For each it prints the processor seconds and the peak memory of the
 grew from one size to twice that size, at its worst. Seconds of a run that takes next to none are not compared. A star
 marks the cases that grow faster than their input, or that take more than SECONDS or MEBIBYTES, and the last line counts
 them. The largest input of a case has a megabyte at most."""
+import functools
 import json
 import os
 import pathlib
@@ -16,6 +17,10 @@ import subprocess
 import sys
 import tempfile
 import time
+
+sys.dont_write_bytecode = True
+
+import colliding
 
 ROOT = pathlib.Path(__file__).resolve().parent.parent
 PROGRAM = ROOT / "crates/program/out/program"
@@ -140,14 +145,15 @@ def text_of_wide_joins(size):
 
 
 def wide_joins_over_leaves(size):
-    """The same over 64 leaves without a point."""
+    """The same over 64 leaves, each with a point."""
     made = text_of_wide_joins(size)
     config = a_config(text_fields(1), [gauge()])
     config["zones"] = [
         {"name": f"z{zone}", "locations": [f"l{zone}"], "leaves": [f"e{zone}_{leaf}" for leaf in range(32)],
          "ranges": [{"from": [] if leaf == 0 else ["T", f"{leaf:03}"], "leaves": [f"e{zone}_{leaf}"]} for leaf in range(32)]}
         for zone in range(2)]
-    return {**made, "config.json": json.dumps(config), "p.csv": ""}
+    points = rows(f"T,/m,1,1,1,{leaf:03},l{zone}" for zone in range(2) for leaf in range(32))
+    return {**made, "config.json": json.dumps(config), "p.csv": points}
 
 
 def text_of_groups(size):
@@ -171,6 +177,16 @@ def points_of_long_texts(size):
 
 def points_of_new_series(size):
     return feed(ONE_FIELD, series(8_000 * size))
+
+
+@functools.cache
+def colliding_texts():
+    return colliding.texts(2_000, "T")
+
+
+def points_of_colliding_keys(size):
+    """Rows of new series whose keys all come to one place in a map."""
+    return feed(ONE_FIELD, rows(f"T,/m,1,1,1,{text},e" for text in colliding_texts()[: 500 * size]))
 
 
 def points_of_one_series(size):
@@ -214,10 +230,12 @@ def query_of_times(size):
     return ask(ONE_FIELD, series(60), f"fetch T::/m | align next_older(1000000s) | every 1s | within {2_000 * size}s", 100_000)
 
 
-def long_keys_over_times(size):
+def long_keys(text):
+    """A query of 60 series with 14 KB of key text each."""
     config = a_config(text_fields(15), [gauge()])
-    points = rows(f"T,/m,1,1,1,{','.join('k' * 1_000 for _ in range(14))},{number},e" for number in range(15 * size))
-    return ask(config, points, "fetch T::/m | align next_older(1000000s) | every 1s | within 10000s", 10_000)
+    series = lambda size: range(15 * size)
+    points = lambda size: rows(f"T,/m,1,1,1,{','.join('k' * 1_000 for _ in range(14))},{n},e" for n in series(size))
+    return lambda size: ask(config, points(size), f"fetch T::/m | align next_older(1000000s){text}", 10_000)
 
 
 def wide_rows(size):
@@ -258,11 +276,12 @@ CASES = {
     "text: branches of a union": text_of_branches,
     "text: branches of a join": text_of_joins,
     "text: a wide join": text_of_wide_joins,
-    "text: a wide join over 64 leaves without points": wide_joins_over_leaves,
+    "text: a wide join over 64 leaves": wide_joins_over_leaves,
     "text: aggregates": text_of_groups,
     "text: no query": text_that_is_no_query,
     "points: long texts": points_of_long_texts,
     "points: new series": points_of_new_series,
+    "points: colliding keys": points_of_colliding_keys,
     "points: one series": points_of_one_series,
     "points: three replicas": points_of_three_replicas,
     "points: refused": points_that_are_refused,
@@ -279,7 +298,8 @@ CASES = {
     "query: join": query_of_new_series("{fetch T::/m; fetch T::/m | value [w: v]} | join | top 10, w"),
     "query: join of two metrics": join_of_one_key,
     "query: times": query_of_times,
-    "query: long keys over 10,000 times": long_keys_over_times,
+    "query: long keys over 10,000 times": long_keys(" | group_by [], count() | every 1s | within 10000s"),
+    "query: long keys over 100 times, printed": long_keys(" | every 1s | within 100s"),
     "query: rows of 1,000 columns": wide_rows,
     "query: patterns in long texts": patterns_in_long_texts,
     "query: 99 percentiles": percentiles,
