@@ -1,5 +1,6 @@
 // A text.
-ghost use Rattle.std.specs.Prelude.{◌≡◌, IfOk, string_bytes};
+ghost use Rattle.std.specs.Cmp.Lexicographic.{pointwise};
+ghost use Rattle.std.specs.Prelude.{◌≡◌, IfOk, nat_eq, string_bytes};
 ghost use Rattle.mon_value.specs.Texts.{text_in};
 
 use crate::copying::TryCopy;
@@ -72,6 +73,25 @@ impl Text {
     }
 }
 
+// Names and fields are mostly shorter than this. Up to here it is cheaper to compare bytes one by one than many at a
+// time, and keys are compared again and again as rows come in.
+const SHORT: usize = 16;
+
+// Whether bytes are the same.
+fn same_bytes(own: &[u8], others: &[u8]) -> bool
+    ensures same { result ≡ pointwise nat_eq own.now others.now }
+{
+    if own.len() != others.len() {
+        return false;
+    }
+    for i in 0..own.len() {
+        if own[i] != others[i] {
+            return false;
+        }
+    }
+    true
+}
+
 /// Texts in order.
 pub type Texts = ListOf<Text>;
 
@@ -93,7 +113,12 @@ impl PartialEq for Text {
     ghost laws = { partial_equiv_from_equiv nat_list_eq_equiv };
 
     fn eq(&self, other: &Self) -> bool {
-        self.content.as_str() == other.content.as_str()
+        let (own, others) = (self.content.as_bytes(), other.content.as_bytes());
+        if own.len() < SHORT {
+            same_bytes(own, others)
+        } else {
+            self.content.as_str() == other.content.as_str()
+        }
     }
 }
 
