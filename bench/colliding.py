@@ -1,49 +1,78 @@
-"""Texts that collide as keys of a series: all of them bring the maps' hasher, whose seed is fixed, to one state.
+"""Texts that lie on one path as keys of a series: the hashes of the keys end with the same bits.
 
-The hasher takes 16 bytes at a time and multiplies their halves, each with a number added bit by bit, so a half that
-equals the hasher's state makes 0 of all that came before. Such a text is 16 bytes of its own, 8 that are the state
-behind them, and an end that all texts share."""
+A map finds a key by SipHash-1-3 over words (crates/insertion_map), bit by bit from the lowest, and its keys are fixed, so
+whoever tries enough texts finds some whose hashes share their lowest bits. Each bit more takes twice as many trials."""
 import itertools
 import string
 
-FIRST, FACTOR, WORD = 0x243F6A8885A308D3, 0x9E3779B97F4A7C15, (1 << 64) - 1
-HIGH_BITS = 0x8080808080808080
-LETTERS = (string.ascii_letters + string.digits).encode()
-PLAIN = bytes(byte for byte in range(33, 127) if chr(byte) not in ',"')
-PADDING, END = b"k" * 8, b"m" * 8 + b"0123456789abcdef"
+WORD = (1 << 64) - 1
+START = (0x736F6D6570736575, 0x646F72616E646F6D, 0x6C7967656E657261, 0x7465646279746573)
+PATH_BITS = 8
+LETTERS = string.ascii_letters.encode()
+TEXT = 2
 
 
-def number(part):
-    return int.from_bytes(part, "little")
+def turned(word, count):
+    return (word << count | word >> 64 - count) & WORD
 
 
-def folded(one, other):
-    product = one * other
-    return product & WORD ^ product >> 64
+def round_of(a, b, c, d):
+    a, c = a + b & WORD, c + d & WORD
+    b, d = turned(b, 13) ^ a, turned(d, 16) ^ c
+    c, a = c + b & WORD, turned(a, 32) + d & WORD
+    return a, turned(b, 17) ^ c, turned(c, 32), turned(d, 21) ^ a
 
 
-def behind(state, part):
-    """The hasher's state behind a short write."""
-    count = len(part)
-    if count >= 4:
-        short = number(part[:4]) | number(part[-4:]) << 32
-    else:
-        short = part[0] | part[count // 2] << 8 | part[-1] << 16
-    return folded(state ^ short, FACTOR ^ 2 * count)
+def behind(state, word):
+    a, b, c, d = state
+    a, b, c, d = round_of(a, b, c, d ^ word)
+    return a ^ word, b, c, d
 
 
-def texts(count, schema):
-    """So many texts of 48 bytes for the first field, a text, of a target of two fields with this one-letter schema."""
-    state = FIRST
-    for part in (schema.encode(), b"\xff", (2).to_bytes(8, "little"), (2).to_bytes(8, "little")):
-        state = behind(state, part)
-    state = state + 48 & WORD
-    made, other = [], number(PADDING) ^ FACTOR
+def words_of(part):
+    """The words of one write: eight bytes in each, and in the last one those that are left, behind their count."""
+    whole = len(part) - len(part) % 8
+    words = [int.from_bytes(part[at : at + 8], "big") for at in range(0, whole, 8)]
+    return words + [(len(part) % 8) << 8 * (len(part) % 8) | int.from_bytes(part[whole:], "big")]
+
+
+def written(*parts):
+    return [word for part in parts for word in words_of(part)]
+
+
+def count_of(number):
+    return number.to_bytes(8, "little")
+
+
+def text_of(text):
+    return text, b"\xff"
+
+
+def after(state, words):
+    for word in words:
+        state = behind(state, word)
+    return state
+
+
+def finished(state):
+    a, b, c, d = state
+    state = a, b, c ^ 0xFF, d
+    for _ in range(3):
+        state = round_of(*state)
+    a, b, c, d = state
+    return a ^ b ^ c ^ d
+
+
+def texts(count, schema, location, metric):
+    """So many texts for the first field of a target with this schema, whose second field is its location, and a metric
+    without fields."""
+    front = after(START, written(*text_of(schema.encode()), count_of(2), count_of(TEXT)))
+    end = written(b"\xff", count_of(TEXT), *text_of(location.encode()), *text_of(metric.encode()), count_of(0))
+    made = []
     for letters in itertools.product(LETTERS, repeat=8):
         if len(made) == count:
-            return made
-        own = bytes(letters)
-        reached = folded(number(own) ^ state, other)
-        if not reached & HIGH_BITS and all(byte in PLAIN for byte in reached.to_bytes(8, "little")):
-            made.append((own + PADDING + reached.to_bytes(8, "little") + END).decode())
+            break
+        text = bytes(letters)
+        if not finished(after(after(front, words_of(text)), end)) % (1 << PATH_BITS):
+            made.append(text.decode())
     return made

@@ -181,11 +181,11 @@ def points_of_new_series(size):
 
 @functools.cache
 def colliding_texts():
-    return colliding.texts(2_000, "T")
+    return colliding.texts(2_000, "T", "e", "/m")
 
 
 def points_of_colliding_keys(size):
-    """Rows of new series whose keys all come to one place in a map."""
+    """Rows of new series whose keys all lie on one path of a map."""
     return feed(ONE_FIELD, rows(f"T,/m,1,1,1,{text},e" for text in colliding_texts()[: 500 * size]))
 
 

@@ -7,7 +7,7 @@ ghost use Rattle.mon_fold.specs.GroupKeys.{cell_at, cells_seen, key_row, owned_g
 ghost use Rattle.mon_fold.specs.PartialGroups.{CanTakeGroup, PartialGroup, partial_groups, parts_over, with_group};
 
 use crate::aggregate_parts::{AggregateParts, add_row, parts_of_row};
-use indexmap::IndexMap;
+use insertion_map::InsertionMap;
 use mon_value::{Aggregate, Cells, OutOfMemory, Table, TimedRow, TryCopy, Value};
 use std::alloc::Global;
 
@@ -91,11 +91,11 @@ pub(crate) fn groups_of(
     t: &Table,
     by: &[u32],
     with: &[Aggregate],
-) -> Result<IndexMap<TimedRow, AggregateParts>, OutOfMemory>
+) -> Result<InsertionMap<TimedRow, AggregateParts>, OutOfMemory>
     requires { CanGroup t.now.columns by.now with.now t.now.rows }
     ensures { IfOk result (λ groups. groups.entries ≡ partial_groups by.now with.now t.now.rows) }
 {
-    let mut groups = IndexMap::new(alloc);
+    let mut groups = InsertionMap::new(alloc);
     let mut key = GroupKey::new(alloc);
     for row in t.rows.as_slice() {
         key.set(row, by)?;
@@ -107,7 +107,7 @@ pub(crate) fn groups_of(
 // Puts a row into the group of its key, or into one of its own at the end.
 fn put_row<'a>(
     alloc: Global,
-    groups: &mut IndexMap<GroupKey<'a>, AggregateParts>,
+    groups: &mut InsertionMap<GroupKey<'a>, AggregateParts>,
     with: &[Aggregate],
     key: &GroupKey<'a>,
     row: &TimedRow,
@@ -132,12 +132,12 @@ fn put_row<'a>(
 // The groups, by keys that have cells of their own.
 fn groups_with_rows(
     alloc: Global,
-    groups: IndexMap<GroupKey<'_>, AggregateParts>,
-) -> Result<IndexMap<TimedRow, AggregateParts>, OutOfMemory>
+    groups: InsertionMap<GroupKey<'_>, AggregateParts>,
+) -> Result<InsertionMap<TimedRow, AggregateParts>, OutOfMemory>
     ensures { IfOk result (λ owned. owned.entries ≡ owned_groups groups.entry.entries) }
 {
-    let mut owned = IndexMap::with_capacity(alloc, groups.len())?;
-    for (key, parts) in groups {
+    let mut owned = InsertionMap::with_capacity(alloc, groups.len())?;
+    for (key, parts) in groups.into_entries() {
         owned.insert(key.to_row(alloc)?, parts)?;
     }
     Ok(owned)

@@ -13,7 +13,7 @@ ghost use Rattle.mon_fold.specs.PartialGroups.{merged_groups, partial_groups, pa
 use crate::aggregate_parts::{AggregateParts, finish_part};
 use crate::grouping::groups_of;
 use crate::merging::{copied_groups, new_groups, put_groups};
-use indexmap::IndexMap;
+use insertion_map::InsertionMap;
 use mon_value::{
     Aggregate, AggregateKind, Aggregates, Cells, Column, Columns, ListOf, OutOfMemory, Positions,
     ROW_BITS, Table, Text, TimedRow, TimedRows, TryCopy, ValueType,
@@ -28,7 +28,7 @@ use std::marker::Model;
 pub struct Parts {
     columns: Columns,
     kinds: ListOf<AggregateKind>,
-    groups: IndexMap<TimedRow, AggregateParts>,
+    groups: InsertionMap<TimedRow, AggregateParts>,
 }
 
 impl Model for Parts {
@@ -194,7 +194,7 @@ pub fn finish_parts(alloc: Global, parts: Parts) -> Result<Table, OutOfMemory>
         groups,
     } = parts;
     let mut rows = TimedRows::new(alloc);
-    for (key, parts) in groups {
+    for (key, parts) in groups.into_entries() {
         rows.push(finish_row(key, parts)?)?;
     }
     Ok(Table { columns, rows })

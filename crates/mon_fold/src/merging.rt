@@ -10,7 +10,7 @@ ghost use Rattle.mon_fold.specs.PartialGroups.{CanMergeGroups, CanTakeGroup, mer
 ghost use Rattle.mon_fold.specs.PartialGroups.{with_group};
 
 use crate::aggregate_parts::{AggregateParts, merge_lists};
-use indexmap::IndexMap;
+use insertion_map::InsertionMap;
 use mon_value::{OutOfMemory, TimedRow, TryCopy};
 use std::alloc::Global;
 use std::vec::IntoIter;
@@ -18,13 +18,13 @@ use std::vec::IntoIter;
 /// Copies of those of the others that no group has the key of.
 pub(crate) fn new_groups(
     alloc: Global,
-    groups: &IndexMap<TimedRow, AggregateParts>,
-    others: &IndexMap<TimedRow, AggregateParts>,
+    groups: &InsertionMap<TimedRow, AggregateParts>,
+    others: &InsertionMap<TimedRow, AggregateParts>,
 ) -> Result<Vec<(TimedRow, AggregateParts)>, OutOfMemory>
     ensures { IfOk result (λ copies. copies.items ≡ new_to groups.now.entries others.now.entries) }
 {
     let mut copies = Vec::new(alloc);
-    for (key, parts) in others.iter() {
+    for (key, parts) in others.entries() {
         add_if_new(alloc, &mut copies, groups, key, parts)?;
     }
     Ok(copies)
@@ -34,7 +34,7 @@ pub(crate) fn new_groups(
 fn add_if_new(
     alloc: Global,
     copies: &mut Vec<(TimedRow, AggregateParts)>,
-    groups: &IndexMap<TimedRow, AggregateParts>,
+    groups: &InsertionMap<TimedRow, AggregateParts>,
     key: &TimedRow,
     parts: &AggregateParts,
 ) -> Result<(), OutOfMemory>
@@ -51,8 +51,8 @@ fn add_if_new(
 /// Puts each of the others into the groups: merged into the one of its key, or else its copy at the end.
 /// There is room for the copies, so no memory is taken.
 pub(crate) fn put_groups(
-    groups: &mut IndexMap<TimedRow, AggregateParts>,
-    others: &IndexMap<TimedRow, AggregateParts>,
+    groups: &mut InsertionMap<TimedRow, AggregateParts>,
+    others: &InsertionMap<TimedRow, AggregateParts>,
     copies: Vec<(TimedRow, AggregateParts)>,
 )
     requires room { length copies.items ≤ spare groups.old }
@@ -61,14 +61,14 @@ pub(crate) fn put_groups(
     ensures { groups.new.entries ≡ merged_groups groups.old.entries others.now.entries }
 {
     let mut copies = copies.into_iter();
-    for (key, parts) in others.iter() {
+    for (key, parts) in others.entries() {
         put_group(groups, key, parts, &mut copies);
     }
 }
 
 // Merges a group into the one of its key, or else puts its copy at the end, which is the next.
 fn put_group(
-    groups: &mut IndexMap<TimedRow, AggregateParts>,
+    groups: &mut InsertionMap<TimedRow, AggregateParts>,
     key: &TimedRow,
     parts: &AggregateParts,
     copies: &mut IntoIter<(TimedRow, AggregateParts)>,
@@ -92,7 +92,7 @@ fn put_group(
 
 // Adds a group at the end, where there is room.
 fn add_group(
-    groups: &mut IndexMap<TimedRow, AggregateParts>,
+    groups: &mut InsertionMap<TimedRow, AggregateParts>,
     group: Option<(TimedRow, AggregateParts)>,
 )
     requires room { 0 < spare groups.old }
@@ -108,12 +108,12 @@ fn add_group(
 /// A copy of groups.
 pub(crate) fn copied_groups(
     alloc: Global,
-    groups: &IndexMap<TimedRow, AggregateParts>,
-) -> Result<IndexMap<TimedRow, AggregateParts>, OutOfMemory>
+    groups: &InsertionMap<TimedRow, AggregateParts>,
+) -> Result<InsertionMap<TimedRow, AggregateParts>, OutOfMemory>
     ensures { IfOk result (λ copied. copied.entries ≡ groups.now.entries) }
 {
-    let mut copied = IndexMap::with_capacity(alloc, groups.len())?;
-    for (key, parts) in groups.iter() {
+    let mut copied = InsertionMap::with_capacity(alloc, groups.len())?;
+    for (key, parts) in groups.entries() {
         copied.insert(key.copy(alloc)?, parts.copy(alloc)?)?;
     }
     Ok(copied)

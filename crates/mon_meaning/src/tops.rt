@@ -9,7 +9,7 @@ ghost use Rattle.mon_value.specs.Sorting.{sorted_list};
 ghost use Rattle.mon_value.specs.Tops.{rank_cmp, top_rows};
 ghost use Rattle.mon_meaning.specs.within.Times.{groups_at};
 
-use indexmap::IndexMap;
+use insertion_map::InsertionMap;
 use mon_value::{OutOfMemory, TimedRow, TimedRows, Value, compare};
 use std::alloc::Global;
 use std::cmp::Ordering;
@@ -25,7 +25,7 @@ pub fn top_rows(
     ensures top { IfOk result (λ top. top ≡ top_rows most column rows) }
 {
     let mut first = Vec::new(alloc);
-    for (_, group) in rows_by_time(alloc, rows)? {
+    for (_, group) in rows_by_time(alloc, rows)?.into_entries() {
         let mut group = first_rows(most, column, group);
         first.append(&mut group)?;
     }
@@ -33,10 +33,13 @@ pub fn top_rows(
 }
 
 // The rows at each time, in the order of the times' first rows.
-fn rows_by_time(alloc: Global, rows: TimedRows) -> Result<IndexMap<i64, Vec<TimedRow>>, OutOfMemory>
+fn rows_by_time(
+    alloc: Global,
+    rows: TimedRows,
+) -> Result<InsertionMap<i64, Vec<TimedRow>>, OutOfMemory>
     ensures groups { IfOk result (λ groups. groups_at groups.entries ≡ rows_by_group [] rows) }
 {
-    let mut groups = IndexMap::new(alloc);
+    let mut groups = InsertionMap::new(alloc);
     for row in rows {
         add_row(alloc, &mut groups, row)?;
     }
@@ -46,7 +49,7 @@ fn rows_by_time(alloc: Global, rows: TimedRows) -> Result<IndexMap<i64, Vec<Time
 // Adds a row to those of its time.
 fn add_row(
     alloc: Global,
-    groups: &mut IndexMap<i64, Vec<TimedRow>>,
+    groups: &mut InsertionMap<i64, Vec<TimedRow>>,
     row: TimedRow,
 ) -> Result<(), OutOfMemory>
     ensures added { OnOk result (groups_at groups.new.entries

@@ -8,7 +8,7 @@ ghost use Rattle.mon_points.specs.Keys as spec;
 use crate::cells::{read_field, spells_field};
 use crate::faults::RowFault;
 use csv::StringRecord;
-use indexmap::IndexMap;
+use insertion_map::InsertionMap;
 use mon_value::{
     Field, FieldValue, FieldValues, MetricSchema, OutOfMemory, Refusal, SeriesKey, Shared, Target,
     TargetSchema, TryCopy,
@@ -24,7 +24,7 @@ pub(crate) const LEADING: usize = 5;
 /// one that comes next if the places of keys go on as from the last one but one to the last.
 #[derive(Drop)]
 pub(crate) struct KeyCache {
-    keys: IndexMap<Vec<u8>, Shared<SeriesKey>>,
+    keys: InsertionMap<Vec<u8>, Shared<SeriesKey>>,
     // The place of the last record's key, and the place that would come next.
     last: usize,
     next: usize,
@@ -36,7 +36,7 @@ impl KeyCache {
     /// No keys, which take their memory from `alloc` as records are read.
     pub(crate) fn new(alloc: Global) -> KeyCache {
         KeyCache {
-            keys: IndexMap::new(alloc),
+            keys: InsertionMap::new(alloc),
             last: 0,
             next: 0,
             cells: Vec::new(alloc),

@@ -14,7 +14,7 @@ use crate::limits::{MOST_FIELDS, MOST_METRICS, MOST_TARGETS};
 use crate::metrics::{is_bounded, is_kind_met};
 use crate::names::{is_column_name, is_metric_name, is_name};
 use crate::rows::row_fits;
-use indexmap::IndexMap;
+use insertion_map::InsertionMap;
 use mon_value::{MetricSchema, Refusal, Row, TargetSchema, TryCopy};
 use std::alloc::{AllocError, Global};
 use std::marker::Model;
@@ -23,8 +23,8 @@ use std::marker::Model;
 #[derive(Drop)]
 pub struct Schemas {
     alloc: Global,
-    targets: IndexMap<Vec<u8>, TargetSchema>,
-    metrics: IndexMap<Vec<u8>, MetricSchema>,
+    targets: InsertionMap<Vec<u8>, TargetSchema>,
+    metrics: InsertionMap<Vec<u8>, MetricSchema>,
 }
 
 impl Model for Schemas {
@@ -53,8 +53,8 @@ impl Schemas {
     {
         Schemas {
             alloc,
-            targets: IndexMap::new(alloc),
-            metrics: IndexMap::new(alloc),
+            targets: InsertionMap::new(alloc),
+            metrics: InsertionMap::new(alloc),
         }
     }
 
@@ -203,11 +203,11 @@ impl TryCopy for Schemas {
 // Copies of schemas, each under a name of its own.
 fn copied_schemas<V: TryCopy + Drop>(
     alloc: Global,
-    map: &IndexMap<Vec<u8>, V>,
-) -> Result<IndexMap<Vec<u8>, V>, AllocError>
+    map: &InsertionMap<Vec<u8>, V>,
+) -> Result<InsertionMap<Vec<u8>, V>, AllocError>
     ensures entries { IfOk result (λ copied. named_entries copied.entries ≡ named_entries map.now.entries) }
 {
-    let mut copied = IndexMap::with_capacity(alloc, map.len())?;
+    let mut copied = InsertionMap::with_capacity(alloc, map.len())?;
     match add_copies(alloc, &mut copied, map) {
         Ok(()) => Ok(copied),
         Err(fault) => {
@@ -220,13 +220,13 @@ fn copied_schemas<V: TryCopy + Drop>(
 // Adds copies of schemas to a map without any.
 fn add_copies<V: TryCopy + Drop>(
     alloc: Global,
-    copied: &mut IndexMap<Vec<u8>, V>,
-    map: &IndexMap<Vec<u8>, V>,
+    copied: &mut InsertionMap<Vec<u8>, V>,
+    map: &InsertionMap<Vec<u8>, V>,
 ) -> Result<(), AllocError>
     requires empty { copied.old.entries ≡ [] }
     ensures entries { OnOk result (named_entries copied.new.entries ≡ named_entries map.now.entries) }
 {
-    for (name, schema) in map.iter() {
+    for (name, schema) in map.entries() {
         add_copy(alloc, copied, name.as_slice(), schema)?;
     }
     Ok(())
@@ -235,7 +235,7 @@ fn add_copies<V: TryCopy + Drop>(
 // Adds a copy of a schema under a name that is new.
 fn add_copy<V: TryCopy + Drop>(
     alloc: Global,
-    copied: &mut IndexMap<Vec<u8>, V>,
+    copied: &mut InsertionMap<Vec<u8>, V>,
     name: &[u8],
     schema: &V,
 ) -> Result<(), AllocError>
@@ -250,7 +250,7 @@ fn add_copy<V: TryCopy + Drop>(
 
 // Adds what is new under its name.
 fn add_new<V: Drop>(
-    map: &mut IndexMap<Vec<u8>, V>,
+    map: &mut InsertionMap<Vec<u8>, V>,
     name: Vec<u8>,
     value: V,
 ) -> Result<(), AllocError>

@@ -1,5 +1,5 @@
 -- Numbers under their metrics, as a series comes.
-use Rattle.std.proofs.Common.{◌≡◌, ◌∙◌, ◌≤◌, ◌<◌, ◌+◌, ℕ, zero, suc, Bool, true, false, cond, ◌||◌, Option, Some, None}
+use Rattle.std.proofs.Common.{◌≡◌, ◌∙◌, ◌≤◌, ◌+◌, ℕ, zero, suc, Bool, true, false, cond, ◌||◌, Option, Some, None}
 use Rattle.std.proofs.Common.{IfSome, Result, Ok, Err, IfOk, OnOk, List, [], ◌∷◌, ◌++◌, map, length, refl, sym, ap}
 use Rattle.std.proofs.Common.{subst, append-nil, append_assoc, slice_get, arith}
 use Rattle.std.specs.Map.{keys_of, lookup}
@@ -247,19 +247,6 @@ pub all_numbered : (index : Index) (number : ℕ) (left all : Entries) → Numbe
 all_numbered index number left all so_far none =
     subst (NumbersKeys index) (sym (append-nil so_far.done) ∙ ap (λ (es : Entries). so_far.done ++ keys_of es)
     (sym none) ∙ so_far.split) so_far.numbered
-
--- a number that is left is below the count of all
-pub number_within : (index : Index) (number : ℕ) (left rest all : Entries) (key : SeriesKey) (series : SeriesPoints)
-    → NumberedSoFar index number left all → left ≡ (key, series) ∷ rest → number < length all
-number_within index number left rest all key series so_far is =
-    omega (
-      arith,
-      so_far.count,
-      length-append so_far.done (keys_of left),
-      ap (λ (es : Entries). length (keys_of es)) is,
-      ap length so_far.split,
-      length-map all (λ entry. entry.0),
-    )
 
 -- a row of a series that is there
 pub numbers_known : (index : Index) (rows : List Row) (row : Row) (at : ℕ) → slice_get (series_of rows) at

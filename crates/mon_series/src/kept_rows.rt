@@ -10,13 +10,13 @@ use crate::kept_point::KeptPoint;
 use crate::metrics::{ByMetric, add_number, index_of, make_room, numbers_of};
 use crate::placing::{Place, push_first, push_known};
 use crate::series::Series;
-use indexmap::IndexMap;
+use insertion_map::InsertionMap;
 use mon_value::{OutOfMemory, RoomListOf, Row, SeriesKey, Shared, Text, TryCopy};
 use std::alloc::{AllocError, AllocFailed, Global};
 use std::marker::Model;
 
 /// Series under their keys, in the order of their first rows.
-pub type SeriesMap = IndexMap<Shared<SeriesKey>, Series>;
+pub type SeriesMap = InsertionMap<Shared<SeriesKey>, Series>;
 
 /// A series that has rows: its number in the order of the first rows, and the end of its last point.
 #[derive(Clone, Copy, PartialEq, Eq)]
@@ -232,7 +232,7 @@ fn copied_series(alloc: Global, groups: &SeriesMap) -> Result<SeriesMap, AllocEr
     ensures groups { IfOk result (λ copied. series_held copied.entries ≡ series_held groups.now.entries) }
 {
     let mut copied = SeriesMap::with_capacity(alloc, groups.len())?;
-    for (key, series) in groups.iter() {
+    for (key, series) in groups.entries() {
         let own = key.copy(alloc)?;
         let points = series.copy(alloc)?;
         copied.insert(own, points)?;

@@ -6,12 +6,12 @@ ghost use Rattle.mon_series.specs.within.Metrics.{HasRoom, MoreRoom, NumbersKeys
 ghost use Rattle.mon_series.specs.within.Metrics.{numbers_held};
 
 use crate::kept_rows::SeriesMap;
-use indexmap::IndexMap;
+use insertion_map::InsertionMap;
 use mon_value::{OutOfMemory, RoomListOf, Text, TryCopy};
 use std::alloc::Global;
 
 /// The numbers of series, rising, under the metric that they are of.
-pub(crate) type ByMetric = IndexMap<Text, RoomListOf<u32>>;
+pub(crate) type ByMetric = InsertionMap<Text, RoomListOf<u32>>;
 
 /// The numbers under a metric.
 pub(crate) fn numbers_of<'a>(index: &'a ByMetric, metric: &Text) -> &'a [u32]
@@ -30,7 +30,7 @@ pub(crate) fn index_of(alloc: Global, series: &SeriesMap) -> Result<ByMetric, Ou
 {
     let mut index = ByMetric::new(alloc);
     let mut number: u32 = 0;
-    for (key, _) in series.iter() {
+    for (key, _) in series.entries() {
         let at = make_room(alloc, &mut index, &key.metric)?;
         add_number(&mut index, at, number);
         number += 1;

@@ -4,7 +4,7 @@ ghost use Rattle.std.specs.Option.{option_copied};
 ghost use Rattle.mon_table.specs.NamedPlaces.{AddsPlace, KnowsPlaces, places_under};
 ghost use Rattle.mon_table.specs.Places.{right_places_of};
 
-use indexmap::IndexMap;
+use insertion_map::InsertionMap;
 use mon_value::{Column, OutOfMemory, Text};
 use std::alloc::Global;
 use std::marker::Model;
@@ -14,7 +14,7 @@ use std::marker::Model;
 #[derive(Drop)]
 pub(crate) struct NamedPlaces<'a> {
     columns: &'a [Column],
-    places: IndexMap<&'a str, Vec<usize>>,
+    places: InsertionMap<&'a str, Vec<usize>>,
 }
 
 impl<'a> Model for NamedPlaces<'a> {
@@ -50,10 +50,10 @@ impl<'a> NamedPlaces<'a> {
 fn places_by_name<'a>(
     alloc: Global,
     columns: &'a [Column],
-) -> Result<IndexMap<&'a str, Vec<usize>>, OutOfMemory>
+) -> Result<InsertionMap<&'a str, Vec<usize>>, OutOfMemory>
     ensures entries { IfOk result (KnowsPlaces columns.now) }
 {
-    let mut places = IndexMap::new(alloc);
+    let mut places = InsertionMap::new(alloc);
     match add_places(alloc, &mut places, columns) {
         Ok(()) => Ok(places),
         Err(fault) => {
@@ -66,7 +66,7 @@ fn places_by_name<'a>(
 // Adds the places of columns by their names to a map without any.
 fn add_places<'a>(
     alloc: Global,
-    places: &mut IndexMap<&'a str, Vec<usize>>,
+    places: &mut InsertionMap<&'a str, Vec<usize>>,
     columns: &'a [Column],
 ) -> Result<(), OutOfMemory>
     requires empty { KnowsPlaces [] places.old }
@@ -81,7 +81,7 @@ fn add_places<'a>(
 // Adds a place to those of its name, or under a new name.
 fn add_place<'a>(
     alloc: Global,
-    places: &mut IndexMap<&'a str, Vec<usize>>,
+    places: &mut InsertionMap<&'a str, Vec<usize>>,
     name: &'a str,
     place: usize,
 ) -> Result<(), OutOfMemory>

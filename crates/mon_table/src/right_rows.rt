@@ -8,7 +8,7 @@ ghost use Rattle.mon_value.specs.Groups.{rows_in};
 
 use crate::keys::{JoinKey, join_key};
 use crate::places::Places;
-use indexmap::IndexMap;
+use insertion_map::InsertionMap;
 use mon_value::{OutOfMemory, TimedRow};
 use std::alloc::Global;
 use std::marker::Model;
@@ -19,7 +19,7 @@ use std::marker::Model;
 pub(crate) struct RightRows<'a> {
     places: &'a Places,
     rows: &'a [TimedRow],
-    by_key: IndexMap<JoinKey<'a>, Vec<&'a TimedRow>>,
+    by_key: InsertionMap<JoinKey<'a>, Vec<&'a TimedRow>>,
 }
 
 impl<'a> Model for RightRows<'a> {
@@ -78,10 +78,10 @@ fn rows_by_key<'a>(
     alloc: Global,
     rows: &'a [TimedRow],
     places: &[usize],
-) -> Result<IndexMap<JoinKey<'a>, Vec<&'a TimedRow>>, OutOfMemory>
+) -> Result<InsertionMap<JoinKey<'a>, Vec<&'a TimedRow>>, OutOfMemory>
     ensures entries { IfOk result (KeepsByKey places.now rows.now) }
 {
-    let mut by_key = IndexMap::new(alloc);
+    let mut by_key = InsertionMap::new(alloc);
     match add_rows(alloc, &mut by_key, rows, places) {
         Ok(()) => Ok(by_key),
         Err(fault) => {
@@ -94,7 +94,7 @@ fn rows_by_key<'a>(
 // Adds rows by their keys to a map without any.
 fn add_rows<'a>(
     alloc: Global,
-    by_key: &mut IndexMap<JoinKey<'a>, Vec<&'a TimedRow>>,
+    by_key: &mut InsertionMap<JoinKey<'a>, Vec<&'a TimedRow>>,
     rows: &'a [TimedRow],
     places: &[usize],
 ) -> Result<(), OutOfMemory>
@@ -110,7 +110,7 @@ fn add_rows<'a>(
 // Adds a row to those of its key, or under a new key.
 fn add_row<'a>(
     alloc: Global,
-    by_key: &mut IndexMap<JoinKey<'a>, Vec<&'a TimedRow>>,
+    by_key: &mut InsertionMap<JoinKey<'a>, Vec<&'a TimedRow>>,
     key: JoinKey<'a>,
     row: &'a TimedRow,
 ) -> Result<(), OutOfMemory>

@@ -5,7 +5,7 @@ ghost use Rattle.std.specs.Map.{keys_of, lookup};
 ghost use Rattle.mon_value.specs.Same.{same_text};
 ghost use Rattle.mon_topo.specs.Indexed.{with_name};
 
-use indexmap::IndexMap;
+use insertion_map::InsertionMap;
 use mon_value::OutOfMemory;
 use std::alloc::Global;
 use std::marker::Model;
@@ -14,7 +14,7 @@ use std::marker::Model;
 #[derive(Drop)]
 pub(crate) struct NameMap {
     alloc: Global,
-    numbers: IndexMap<Vec<u8>, u32>,
+    numbers: InsertionMap<Vec<u8>, u32>,
 }
 
 impl Model for NameMap {
@@ -36,7 +36,7 @@ impl NameMap {
     {
         NameMap {
             alloc,
-            numbers: IndexMap::new(alloc),
+            numbers: InsertionMap::new(alloc),
         }
     }
 

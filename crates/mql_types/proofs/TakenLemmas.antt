@@ -1,5 +1,5 @@
 -- Names that are taken one after another.
-use Rattle.std.proofs.Common.{◌≡◌, ◌∙◌, ℕ, Bool, true, false, not, cond, ◌||◌, nat_eq, List, [], ◌∷◌, ◌++◌, map, refl}
+use Rattle.std.proofs.Common.{◌≡◌, ◌∙◌, ℕ, Bool, true, false, cond, ◌||◌, nat_eq, List, [], ◌∷◌, ◌++◌, map, refl, is_some, Option, Some}
 use Rattle.std.proofs.Common.{ap, sym, append_assoc}
 use Rattle.mql_ast.specs.declared.names.Name.{Name}
 use Rattle.mql_types.specs.declared.faults.TypeFault.{TypeFault}
@@ -7,7 +7,8 @@ use Rattle.mql_types.specs.declared.faults.TypeKind.TheVariants.{DuplicateColumn
 use Rattle.mql_types.specs.Faults.{fault_where}
 use Rattle.mql_types.specs.Items.{is_taken, name_texts, taken_faults, with_name, with_names}
 use Rattle.std.specs.Cmp.Lexicographic.{pointwise}
-use Rattle.std.specs.List.{list_any}
+use Rattle.std.specs.Map.{lookup}
+use Rattle.indexmap.specs.IndexMap.{insert_entry}
 use Rattle.mon_value.specs.Same.{same_text}
 use denote.Ref.{Bor}
 use Rattle.mql_types.proofs.FaultLemmas.{first_with-append}
@@ -22,34 +23,38 @@ taken_faults-append taken (x ∷ xs) ys =
     ∙ sym (append_assoc own (taken_faults (with_name taken x.text) xs) _)
 
 -- the names that are lent
-abbrev pub lent : List (Bor (List ℕ)) → List (List ℕ)
-lent keys = map (λ key. key.now) keys
+abbrev pub lent : List (Bor (List ℕ) × Unit {0}) → List (List ℕ)
+lent entries = map (λ entry. entry.0.now) entries
 
-pub any_lent : (name : List ℕ) (keys : List (Bor (List ℕ)))
-    → list_any (λ key. pointwise nat_eq name key.now) keys ≡ is_taken name (lent keys)
-any_lent name [] = refl
-any_lent name (key ∷ keys) = ap (λ (b : Bool). same_text name key.now || b) (any_lent name keys)
+is_some-either : (b : Bool) (rest : Option (Unit {0})) → is_some (cond b (Some tt) rest) ≡ b || is_some rest
+is_some-either true rest = refl
+is_some-either false rest = refl
 
-lent-append : (keys : List (Bor (List ℕ))) (key : Bor (List ℕ)) → lent (keys ++ key ∷ []) ≡ lent keys ++ key.now ∷ []
-lent-append [] key = refl
-lent-append (k ∷ keys) key = ap (λ rest. k.now ∷ rest) (lent-append keys key)
+pub found_lent : (name : List ℕ) (entries : List (Bor (List ℕ) × Unit {0}))
+    → is_some (lookup (λ key. pointwise nat_eq name key.now) entries) ≡ is_taken name (lent entries)
+found_lent name [] = refl
+found_lent name (entry ∷ entries) =
+    is_some-either (same_text name entry.0.now) (lookup (λ key. pointwise nat_eq name key.now) entries)
+    ∙ ap (λ (b : Bool). same_text name entry.0.now || b) (found_lent name entries)
 
--- a name that was added is new
-pub taken_before : (b added : Bool) → added ≡ not b → not added ≡ b
-taken_before true added e = rw e refl
-taken_before false added e = rw e refl
-
-by_taken : (b : Bool) (keys keys' : List (Bor (List ℕ))) (key : Bor (List ℕ))
-    → keys' ≡ cond b keys (keys ++ key ∷ []) → lent keys' ≡ cond b (lent keys) (lent keys ++ key.now ∷ [])
-by_taken true keys keys' key grown = ap lent grown
-by_taken false keys keys' key grown = ap lent grown ∙ lent-append keys key
+behind : (b : Bool) (first name : List ℕ) (names : List (List ℕ))
+    → first ∷ cond b names (names ++ name ∷ []) ≡ cond b (first ∷ names) (first ∷ names ++ name ∷ [])
+behind true first name names = refl
+behind false first name names = refl
 
 -- the names with one more
-pub lent-insert : (keys keys' : List (Bor (List ℕ))) (key : Bor (List ℕ))
-    → keys' ≡ cond (list_any (λ k. pointwise nat_eq key.now k.now) keys) keys (keys ++ key ∷ [])
-    → lent keys' ≡ with_name (lent keys) key.now
-lent-insert keys keys' key grown =
-    by_taken (list_any (λ k. pointwise nat_eq key.now k.now) keys) keys keys' key grown
-    ∙ ap (λ b. cond b (lent keys) (lent keys ++ key.now ∷ [])) (any_lent key.now keys)
+pub lent-insert : (key : Bor (List ℕ)) (entries : List (Bor (List ℕ) × Unit {0}))
+    → lent (insert_entry (λ a b. pointwise nat_eq a.now b.now) entries key tt) ≡ with_name (lent entries) key.now
+lent-insert key [] = refl
+lent-insert key (entry ∷ entries) = by (same_text key.now entry.0.now) (lent-insert key entries)
+  where
+    by : (b : Bool)
+        → lent (insert_entry (λ a b. pointwise nat_eq a.now b.now) entries key tt) ≡ with_name (lent entries) key.now
+        → lent (cond b ((entry.0, tt) ∷ entries) (entry ∷ insert_entry (λ a b. pointwise nat_eq a.now b.now) entries key tt))
+        ≡ cond (b || is_taken key.now (lent entries)) (lent (entry ∷ entries)) (lent (entry ∷ entries) ++ key.now ∷ [])
+    by true rest = refl
+    by false rest =
+        ap (λ names. entry.0.now ∷ names) rest
+        ∙ behind (is_taken key.now (lent entries)) entry.0.now key.now (lent entries)
 
 pub ruleset taken_names = (taken_faults-append, first_with-append, append_assoc)

@@ -12,7 +12,7 @@ ghost use Rattle.mql_types.specs.NamedPlaces.{AddsPlace};
 
 use crate::faults::{Faults, TypeKind, TypeWord};
 use crate::widths::Width;
-use indexmap::IndexMap;
+use insertion_map::InsertionMap;
 use mon_value::{Column, ListOf, Text, ValueType};
 use mql_ast::Name;
 use std::alloc::{AllocError, Global};
@@ -22,7 +22,7 @@ use std::marker::Model;
 #[derive(Drop)]
 pub(crate) struct NamedColumns<'a> {
     columns: &'a [Column],
-    places: IndexMap<&'a str, usize>,
+    places: InsertionMap<&'a str, usize>,
 }
 
 impl<'a> Model for NamedColumns<'a> {
@@ -42,7 +42,7 @@ impl<'a> NamedColumns<'a> {
     pub(crate) fn new(alloc: Global, columns: &'a [Column]) -> Result<Self, AllocError>
         ensures columns { IfOk result (λ all. all ≡ columns.now) }
     {
-        let mut places = IndexMap::new(alloc);
+        let mut places = InsertionMap::new(alloc);
         for (place, column) in columns.iter().enumerate() {
             add_place(&mut places, column.name.as_str(), place)?;
         }
@@ -114,7 +114,7 @@ impl<'a> NamedColumns<'a> {
 
 // Puts the place of a name with the others, where it stands for the first time.
 fn add_place<'a>(
-    places: &mut IndexMap<&'a str, usize>,
+    places: &mut InsertionMap<&'a str, usize>,
     name: &'a str,
     place: usize,
 ) -> Result<(), AllocError>

@@ -4,7 +4,7 @@ ghost use Rattle.mql_types.specs.Faults.{fault_where, first_with};
 ghost use Rattle.mql_types.specs.Items as spec;
 
 use crate::faults::{Faults, TypeKind};
-use indexmap::IndexSet;
+use insertion_map::InsertionMap;
 use mql_ast::Name;
 use std::alloc::{AllocError, Global};
 use std::marker::Model;
@@ -32,7 +32,7 @@ impl<'a> Label<'a> {
 /// Names that are taken. Contracts see them in the order of their taking, each once.
 #[derive(Drop)]
 pub(crate) struct Taken<'a> {
-    names: IndexSet<&'a str>,
+    names: InsertionMap<&'a str, ()>,
 }
 
 impl<'a> Model for Taken<'a> {
@@ -40,7 +40,7 @@ impl<'a> Model for Taken<'a> {
 
     ghost Value = { List (List ℕ) };
 
-    ghost view = { λ taken. map (λ key. key.now) taken.names.keys };
+    ghost view = { λ taken. map (λ entry. entry.0.now) taken.names.entries };
 }
 
 impl<'a> Taken<'a> {
@@ -49,7 +49,7 @@ impl<'a> Taken<'a> {
         ensures none { result ≡ [] }
     {
         Taken {
-            names: IndexSet::new(alloc),
+            names: InsertionMap::new(alloc),
         }
     }
 
@@ -67,7 +67,7 @@ impl<'a> Taken<'a> {
         ensures taken { IfOk result (λ taken. taken ≡ spec.is_taken name.now self.old) }
         ensures names { OnOk result (self.new ≡ spec.with_name self.old name.now) }
     {
-        Ok(!self.names.insert(name)?)
+        Ok(self.names.insert(name, ())?.is_some())
     }
 
     /// Takes a name, tells where it was taken before, and says so.

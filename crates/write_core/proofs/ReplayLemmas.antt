@@ -1,6 +1,6 @@
 -- What one entry more makes of a range's replay.
 use Rattle.std.proofs.Common.{◌≡◌, ◌≤◌, ℤ, Bool, true, false, cond, List, [], ◌∷◌, ◌++◌, length, map, refl, sym}
-use Rattle.std.proofs.Common.{ap, ◌∙◌, Some, Result, Ok, Err, OnOk, is_ok, arith}
+use Rattle.std.proofs.Common.{ap, ◌∙◌, Some, None, Option, is_some, Result, Ok, Err, OnOk, is_ok, arith}
 use Rattle.std.specs.Map.{lookup}
 use Rattle.std.proofs.lemmas.List.{append-nil, map-append}
 use Rattle.std.proofs.lemmas.List.Elements.{filter-append}
@@ -61,6 +61,11 @@ lasts_told old new row rows updated tells key =
     ∙ (λ i. cond (eq-same_series row.key key i) (Some row.point.end) (lookup (same_test key i) old))
     ∙ (λ i. cond (symmetric row.key key i) (Some row.point.end) (tells key i))
     ∙ sym (last_after key rows row)
+
+-- where no place was found there is no value
+pub none_found : {V : Type 0} (found : Option V) → false ≡ is_some found → found ≡ None
+none_found None e = refl
+none_found (Some v) e = absurd cc
 
 pub ok_claim : {V E : Type 0} (P : Type 0) (r : Result V E) → is_ok r ≡ true → OnOk r P → P
 ok_claim P (Ok value) ok claim = claim

@@ -19,7 +19,7 @@ use crate::asks::WriteTold;
 use crate::copies::Denial;
 use crate::kept_entries::KeptEntries;
 use crate::refusals::Refused;
-use indexmap::IndexMap;
+use insertion_map::InsertionMap;
 use mon_topo::{MOST_REPLICAS, MOST_SLOTS, RangeSight};
 use mon_value::{
     Ack, Leaf, Leaves, Miss, OutOfMemory, RangeEntry, Row, SeriesKey, Shared, Slot, SlotLeaf,
@@ -29,7 +29,7 @@ use std::alloc::Global;
 use std::marker::Model;
 
 /// The end of the last row of each series.
-type Lasts = IndexMap<Shared<SeriesKey>, i64>;
+type Lasts = InsertionMap<Shared<SeriesKey>, i64>;
 
 /// The replay of a range's history: the replicas that serve, how many were opened, how many rows were acknowledged, and
 /// the end of the last one of each series. Contracts see the history, and the room that was made for more of it.
@@ -41,6 +41,10 @@ pub struct RangeReplay {
     lasts: Lasts,
     count: u64,
     opened: u64,
+    // The place of the last row's series, and the one that would come next if places go on as they did. They are guesses,
+    // so what is told does not depend on them.
+    place: usize,
+    next: usize,
 }
 
 impl Model for RangeReplay {
@@ -78,6 +82,8 @@ impl RangeReplay {
             lasts: Lasts::new(alloc),
             count: 0,
             opened: 0,
+            place: 0,
+            next: 0,
         }
     }
 
@@ -165,7 +171,9 @@ impl RangeReplay {
         requires room { HasAckRoom self.old }
         ensures acknowledged { self.new.history ≡ self.old.history ++ RangeEntry.Acked pass row ack ∷ [] }
     {
-        note_last(&mut self.lasts, key, row.point.end);
+        let place = note_last(&mut self.lasts, self.next, key, row.point.end);
+        self.next = place.wrapping_add(place.wrapping_sub(self.place));
+        self.place = place;
         drop_missed(&mut self.serving, ack.missed.as_slice());
         self.count = one_more(self.count, &self.history);
         self.history.push(RangeEntry::Acked { pass, row, ack });
@@ -200,17 +208,20 @@ impl RangeReplay {
     fn last(&self, key: &Shared<SeriesKey>) -> Option<i64>
         ensures last { result ≡ last_end (points_of key.now (acknowledged_rows self.now.history)) }
     {
-        self.lasts.get(key).copied()
+        let place = self.lasts.get_near(self.next, key)?;
+        let (_, end) = self.lasts.get_index(place)?;
+        Some(*end)
     }
 }
 
-// The last row of a series ends there, in the room that was made.
-fn note_last(lasts: &mut Lasts, key: Shared<SeriesKey>, end: i64)
+// The last row of a series ends there, in the room that was made. Gives the place of the series, which is guessed.
+fn note_last(lasts: &mut Lasts, guess: usize, key: Shared<SeriesKey>, end: i64) -> usize
     requires room { 0 < spare lasts.old }
     ensures told { (rows : List a_row.Row) (row : a_row.Row) → row.key ≡ key → row.point.end ≡ end
         → TellsLasts lasts.old.entries rows → TellsLasts lasts.new.entries (rows ++ row ∷ []) }
 {
-    let _before = lasts.insert(key, end).unwrap();
+    let (place, _before) = lasts.insert_near(guess, key, end).unwrap();
+    place
 }
 
 // One row more than those that this history acknowledges.

@@ -1,4 +1,5 @@
-use Rattle.std.proofs.Common.{◌≡◌, ◌∷◌, [], List, slice_get, drop, length, sym, ap, subst, ◌∙◌, rules}
+use Rattle.std.proofs.Common.{◌≡◌, ◌∷◌, [], ◌+◌, arith, List, slice_get, drop, length, sym, ap, subst, ◌∙◌, rules}
+use Rattle.std.proofs.lemmas.List.{drop_more}
 use Rattle.std.specs.List.{IsDistinct}
 use Rattle.std.specs.Map.{keys_of}
 use Rattle.std.specs.Vec.Iter.{into_iter_items}
@@ -9,7 +10,7 @@ use Rattle.mon_fold.proofs.merging.put_groups.Goals as goal
 
 pub loop-key-init : goal.loop-key-init
 loop-key-init c =
-    let listed : c.into_iter-key-iterator.result ≡ c.args.others.now.entries = search rules in
+    let listed : c.entries-key-items.result.now ≡ c.args.others.now.entries = c.entries-key-items.ensures.entries in
     let copied : into_iter_items c.into_iter-copies.result ≡ c.args.copies.items = search rules in record {
       made = ap (λ (es : List PartialGroup). merged_groups c.args.groups.now.entries es) listed;
       can = subst (λ (es : List PartialGroup). CanMergeGroups c.args.groups.now.entries es) (sym listed) c.requires.can;
@@ -18,15 +19,17 @@ loop-key-init c =
       room = rw copied c.requires.room;
       counted = search rules;
       distinct = subst (λ (es : List PartialGroup). IsDistinct same_row (keys_of es)) (sym listed)
-          (distinct_kept c.args.others.now.entries c.iter-key-items.ensures.unique);
+          (distinct_kept c.args.others.now.entries c.entries-key-items.ensures.unique);
     }
 
 pub put_group-requires : goal.put_group-requires
 put_group-requires c =
     let gs = c.loop-key.groups.entries in
-    let g : PartialGroup = (c.in-Some.key.now, c.in-Some.parts.now) in
-    let rest : List PartialGroup = c.next.new.self in
-    let next : c.loop-key.key-iterator ≡ g ∷ rest = c.in-Some.ensures.steps in
+    let items : List PartialGroup = c.entries-key-items.result.now in
+    let g : PartialGroup = c.loop-key-item.result in
+    let rest : List PartialGroup = drop (c.loop-key.key-index + 1) items in
+    let next : drop c.loop-key.key-index items ≡ g ∷ rest = drop_more items c.loop-key.key-index g
+    (omega (arith, c.loop-key-test.true)) ∙ ap (λ (e : PartialGroup). e ∷ rest) (sym c.loop-key-item.is) in
     let copied = c.loop-key.invariant.copied ∙ ap (λ (es : List PartialGroup). new_to gs es) next in
     let can = subst (λ (es : List PartialGroup). CanMergeGroups gs es) next c.loop-key.invariant.can in record {
       can = can.0;
@@ -38,9 +41,11 @@ put_group-requires c =
 pub loop-key-preserved : goal.loop-key-preserved
 loop-key-preserved c =
     let gs = c.loop-key.groups.entries in
-    let g : PartialGroup = (c.in-Some.key.now, c.in-Some.parts.now) in
-    let rest : List PartialGroup = c.next.new.self in
-    let next : c.loop-key.key-iterator ≡ g ∷ rest = c.in-Some.ensures.steps in
+    let items : List PartialGroup = c.entries-key-items.result.now in
+    let g : PartialGroup = c.loop-key-item.result in
+    let rest : List PartialGroup = drop (c.loop-key.key-index + 1) items in
+    let next : drop c.loop-key.key-index items ≡ g ∷ rest = drop_more items c.loop-key.key-index g
+    (omega (arith, c.loop-key-test.true)) ∙ ap (λ (e : PartialGroup). e ∷ rest) (sym c.loop-key-item.is) in
     let copied = c.loop-key.invariant.copied ∙ ap (λ (es : List PartialGroup). new_to gs es) next in
     let can = subst (λ (es : List PartialGroup). CanMergeGroups gs es) next c.loop-key.invariant.can in
     let distinct = subst (λ (es : List PartialGroup). IsDistinct same_row (keys_of es)) next

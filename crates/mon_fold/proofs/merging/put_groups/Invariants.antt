@@ -1,5 +1,5 @@
 -- the groups so far take those that are left, whose copies are left too
-use Rattle.std.proofs.Common.{◌≡◌, ◌≤◌, length}
+use Rattle.std.proofs.Common.{◌≡◌, ◌≤◌, drop, length}
 use Rattle.std.specs.List.{IsDistinct}
 use Rattle.std.specs.Map.{keys_of}
 use Rattle.std.specs.Vec.Iter.{into_iter_items, into_iter_len}
@@ -10,10 +10,10 @@ use Rattle.mon_fold.proofs.merging.put_groups.Given as goal
 
 abbrev pub invariant-loop-key : goal.invariant-loop-key
 invariant-loop-key l = record {
-  made : merged_groups l.groups.entries l.key-iterator ≡ merged_groups l.fn.groups.entries l.others.entries;
-  can : CanMergeGroups l.groups.entries l.key-iterator;
-  copied : into_iter_items l.copies ≡ new_to l.groups.entries l.key-iterator;
+  made : merged_groups l.groups.entries (drop l.key-index l.key-items) ≡ merged_groups l.fn.groups.entries l.others.entries;
+  can : CanMergeGroups l.groups.entries (drop l.key-index l.key-items);
+  copied : into_iter_items l.copies ≡ new_to l.groups.entries (drop l.key-index l.key-items);
   room : length (into_iter_items l.copies) ≤ spare l.groups;
   counted : into_iter_len l.copies ≡ length (into_iter_items l.copies);
-  distinct : IsDistinct same_row (keys_of l.key-iterator);
+  distinct : IsDistinct same_row (keys_of (drop l.key-index l.key-items));
 }

@@ -1,26 +1,21 @@
-use Rattle.std.proofs.Common.{rules, ◌<◌, length, refl, subst}
+use Rattle.std.proofs.Common.{◌≡◌, ◌∙◌, ◌∷◌, ◌+◌, arith, drop, refl, subst, sym, ap}
+use Rattle.std.proofs.lemmas.List.{drop_more}
 use Rattle.mon_value.specs.declared.rows.SeriesKey.{SeriesKey}
 use Rattle.mon_series.specs.within.Metrics.{HasRoom}
-use Rattle.mon_series.proofs.MetricLemmas.{number_within, one_numbered}
+use Rattle.mon_series.proofs.MetricLemmas.{one_numbered}
 use Rattle.mon_series.proofs.metrics.index_of.Goals as goal
-
-pub overflow_add-number : goal.overflow_add-number
-overflow_add-number c =
-    let l = c.loop-key in
-    let within : l.number < length c.args.series.now.entries =
-    number_within l.index.entries l.number l.key-iterator c.next.new.self c.args.series.now.entries c.in-Some.key.now
-    c.in-Some.field-0-1.now
-    l.invariant c.in-Some.ensures.steps in
-    let few = c.requires.few in search rules
 
 pub loop-key-preserved : goal.loop-key-preserved
 loop-key-preserved c =
     let l = c.loop-key in
-    let room : HasRoom c.make_room.new.index.entries c.in-Some.key.now.metric c.in_ok-at.at =
+    let entry = c.loop-key-item.result in
+    let items = c.entries-key-items.result.now in
+    let rest = drop (l.key-index + 1) items in
+    let next : drop l.key-index items ≡ entry ∷ rest = drop_more items l.key-index entry (omega (arith, c.loop-key-test.true))
+    ∙ ap (λ e. e ∷ rest) (sym c.loop-key-item.is) in
+    let room : HasRoom c.make_room.new.index.entries entry.0.metric c.in_ok-at.at =
     subst (λ (key : SeriesKey). HasRoom c.make_room.new.index.entries key.metric c.in_ok-at.at) c.deref.ensures
     c.in_ok-at.ensures.room in
-    one_numbered l.index.entries c.make_room.new.index.entries c.add_number.new.index.entries l.number _ l.key-iterator
-    c.next.new.self
-    c.args.series.now.entries c.in-Some.key.now c.in-Some.field-0-1.now l.invariant c.in-Some.ensures.steps
-    c.in_ok-at.ensures.numbers
-    (c.add_number.ensures.added c.in-Some.key.now.metric room) refl
+    one_numbered l.index.entries c.make_room.new.index.entries c.add_number.new.index.entries l.number _
+    (drop l.key-index items) rest c.args.series.now.entries entry.0 entry.1 l.invariant next c.in_ok-at.ensures.numbers
+    (c.add_number.ensures.added entry.0.metric room) refl

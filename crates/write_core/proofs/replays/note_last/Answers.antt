@@ -6,10 +6,10 @@ use Rattle.write_core.proofs.replays.note_last.Goals as goal
 
 pub returns : goal.returns
 returns c =
-    let updated = ok_claim _ c.insert.result (c.insert.ensures.succeeds c.requires.room) c.insert.ensures.updates in
+    let updated = ok_claim _ c.insert_near.result (c.insert_near.ensures.succeeds c.requires.room) c.insert_near.ensures.updates in
     let plain : to_z w64 (of_z w64 c.args.end) ≡ c.args.end = search rules in
     record {
-      told = λ rows row same end tells. lasts_told c.args.lasts.now.entries c.insert.new.self.entries row rows
+      told = λ rows row same end tells. lasts_told c.args.lasts.now.entries c.insert_near.new.self.entries row rows
           (λ q. updated.0 q ∙ (λ i. cond (derived.eq-value.it (sym same i) q) (Some ((plain ∙ sym end) i))
           (lookup (derived.eq-value.it q) c.args.lasts.now.entries)))
           tells;

@@ -31,8 +31,8 @@ invariant_of-self c =
       opened = c.self.invariant.opened
           ∙ ap length (sym (opened-acked old c.args.pass row c.args.ack))
           ∙ ap (λ h. length (opened_slots h)) (sym grown);
-      lasts = subst (λ (h : List RangeEntry). TellsLasts c.note_last.new.lasts.entries (acknowledged_rows h))
+      lasts = subst (λ (h : List RangeEntry). TellsLasts c.note_last-place.new.lasts.entries (acknowledged_rows h))
           (sym grown)
-          (subst (λ (rs : List Row). TellsLasts c.note_last.new.lasts.entries rs) (sym more)
-          (c.note_last.ensures.told rows row (sym c.requires.key) (sym plain) c.self.invariant.lasts));
+          (subst (λ (rs : List Row). TellsLasts c.note_last-place.new.lasts.entries rs) (sym more)
+          (c.note_last-place.ensures.told rows row (sym c.requires.key) (sym plain) c.self.invariant.lasts));
     }

@@ -1,0 +1,4 @@
+pub mod Hashes
+pub mod Lends
+pub mod Tree
+pub mod WordHasher
