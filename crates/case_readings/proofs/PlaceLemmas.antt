@@ -1,5 +1,6 @@
 -- Rows that lie at other places share no location with others, and no target.
-use Rattle.std.proofs.Common.{◌≡◌, ℕ, Bool, false, true, ◌||◌, List, [], ◌∷◌, refl, sym, ap, ◌∙◌, Option, Some}
+use Rattle.std.proofs.lemmas.Bool.{or_parts, or_from, false_from_ne_true}
+use Rattle.std.proofs.Common.{◌≡◌, ℕ, false, true, List, [], ◌∷◌, refl, sym, ap, ◌∙◌, Option, Some}
 use Rattle.std.proofs.Common.{None}
 use Rattle.std.specs.Option.{option_map_or}
 use Rattle.mixer.proofs.ApartTargets.{one_target}
@@ -18,18 +19,6 @@ same_place place = (same_text-Decides place place).1 refl
 
 -- ---- places
 
-neither : (a b : Bool) → (a || b) ≡ false → (a ≡ false) × (b ≡ false)
-neither false false e = (refl, refl)
-neither false true e = absurd cc
-neither true b e = absurd cc
-
-nor : (a b : Bool) → a ≡ false → b ≡ false → (a || b) ≡ false
-nor a b p q = cc
-
-is_false : (a : Bool) → (a ≡ true → ⊥) → a ≡ false
-is_false true never = absurd (never refl)
-is_false false never = refl
-
 true_is_false : true ≡ false → ⊥
 true_is_false e = absurd cc
 
@@ -43,13 +32,13 @@ module _ (held : SchemaLists) (place : List ℕ) (target : Target) (at : locatio
 
   is_other : (row : Row) → lies_at held place row ≡ false → same_target row.key.target target ≡ false
   is_other row apart =
-      is_false (same_target row.key.target target) (λ same. true_is_false (sym (lies_there row same) ∙ apart))
+      false_from_ne_true (same_target row.key.target target) (λ same. true_is_false (sym (lies_there row same) ∙ apart))
 
   no_target : (others : List Row) → has_location held others place ≡ false → has_target others target ≡ false
   no_target [] apart = refl
   no_target (row ∷ others) apart =
-      let parts = neither (lies_at held place row) (has_location held others place) apart in
-      nor (same_target row.key.target target) (has_target others target) (is_other row parts.0)
+      let parts = or_parts (lies_at held place row) (has_location held others place) apart in
+      or_from (same_target row.key.target target) (has_target others target) (is_other row parts.0)
       (no_target others parts.1)
 
 -- ---- rows

@@ -1,5 +1,6 @@
 -- Readings that share nothing are divided, however they lie in zones.
-use Rattle.std.proofs.Common.{◌≡◌, ℕ, Bool, false, true, ◌||◌, List, [], ◌∷◌, ◌++◌, map, refl, ◌∙◌, Option, Some, None}
+use Rattle.std.proofs.lemmas.Bool.{or_from}
+use Rattle.std.proofs.Common.{◌≡◌, ℕ, false, true, List, [], ◌∷◌, ◌++◌, map, refl, ◌∙◌, Option, Some, None}
 use Rattle.std.specs.List.{AllByRecursion}
 use Rattle.std.specs.Option.{option_map_or}
 use Rattle.std.proofs.lemmas.List.Folds.{list_any-append}
@@ -58,9 +59,6 @@ module _ (held : SchemaLists) where
   share_with_none [] = tt
   share_with_none (row ∷ rows) = (nowhere (location_of held row.key.target), share_with_none rows)
 
-  neither : (a b : Bool) → a ≡ false → b ≡ false → (a || b) ≡ false
-  neither a b p q = cc
-
   in_neither : (some others : List Row) (place : Option (List ℕ))
       → option_map_or (has_location held some) place false ≡ false
       → option_map_or (has_location held others) place false ≡ false
@@ -68,7 +66,7 @@ module _ (held : SchemaLists) where
   in_neither some others None p q = refl
   in_neither some others (Some place) p q =
       list_any-append (lies_at held place) some others
-      ∙ neither (has_location held some place) (has_location held others place) p q
+      ∙ or_from (has_location held some place) (has_location held others place) p q
 
   share_with_neither : (rows some others : List Row) → ShareNoLocation held rows some
       → ShareNoLocation held rows others → ShareNoLocation held rows (some ++ others)

@@ -1,4 +1,5 @@
 -- What a switch asks for, and what it leaves to whoever asked for it: it brings no row, and is about no range.
+use Rattle.std.proofs.lemmas.Bool.{not-false}
 use Rattle.std.proofs.Common.{◌≡◌, ◌<◌, ℕ, ◌+◌, Bool, true, false, not, List, [], ◌∷◌, ◌++◌}
 use Rattle.std.proofs.Common.{arith, cond, length, length-append, refl}
 use Rattle.std.proofs.Common.{Option, Some, None}
@@ -52,15 +53,11 @@ passed : (b : Bool) (why : ControlFault) (rest : Option ControlFault) → cond b
 passed true why rest e = absurd cc
 passed false why rest e = refl
 
-up_again : (b : Bool) → not b ≡ false → b ≡ true
-up_again true e = refl
-up_again false e = absurd cc
-
 -- a switch that nothing speaks against may follow
 pub switch_follows : (to : Control) (history : List Entry) (pass : ℕ) → switch_fault to history ≡ None
     → count_by is_switch history < MOST_SWITCHES → MayFollow history (switch_entry to pass)
 switch_follows going.Down history pass none few = (passed (is_down history) _ _ none, few)
-switch_follows going.Up history pass none few = (up_again (is_down history) (passed (not (is_down history)) _ _ none), few)
+switch_follows going.Up history pass none few = (not-false (is_down history) (passed (not (is_down history)) _ _ none), few)
 
 pub one_longer : (history : List Entry) (e : Entry) → length (history ++ e ∷ []) ≡ length history + 1
 one_longer history e = let both = length-append history (e ∷ []) in omega (arith, both)

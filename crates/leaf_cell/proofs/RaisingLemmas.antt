@@ -4,7 +4,7 @@ use Rattle.std.proofs.Common.{refl, sym, ap, subst, ◌∙◌, arith, inl, inr, 
 use Rattle.std.specs.Prelude.{nat_eq}
 use Rattle.std.specs.List.{Contains, list_any}
 use Rattle.std.specs.Int.{bit_at}
-use Rattle.std.proofs.lemmas.Bool.{and_parts, or_cases, or_left, or_right}
+use Rattle.std.proofs.lemmas.Bool.{and_parts, or_cases, or_left, or_right, eqb-true}
 use Rattle.std.proofs.lemmas.Bool.Decides.{nat_tests}
 use Rattle.std.proofs.lemmas.List.{append_assoc}
 use Rattle.std.proofs.lemmas.List.Folds.{list_any-append}
@@ -24,16 +24,13 @@ use Rattle.raise_table.specs.declared.views.Raised.{Raised}
 
 -- ---- tests
 
-equal : (a b : ℕ) → nat_eq a b ≡ true → a ≡ b
-equal a b e = grind (arith, nat_tests)
-
 equal_self : (a : ℕ) → nat_eq a a ≡ true
 equal_self a = grind (arith, nat_tests)
 
 below_none : (a : ℕ) → nat_lt a 0 ≡ false
 below_none a = grind (arith, nat_tests)
 
-one_number : (a b : Place) → place_number a ≡ place_number b → a ≡ b
+pub one_number : (a b : Place) → place_number a ≡ place_number b → a ≡ b
 one_number at.Root at.Root e = refl
 one_number at.Root (at.Zone b) e = absurd (omega (arith, e))
 one_number (at.Zone a) at.Root e = absurd (omega (arith, e))
@@ -42,7 +39,7 @@ one_number (at.Zone a) (at.Zone b) e =
     ap (λ (z : Zone). at.Zone z) (ap zone_numbered same)
 
 pub one_place : (a b : Place) → same_place a b ≡ true → a ≡ b
-one_place a b e = one_number a b (equal (place_number a) (place_number b) e)
+one_place a b e = one_number a b (eqb-true (place_number a) (place_number b) e)
 
 pub same_self : (a : Place) → same_place a a ≡ true
 same_self a = equal_self (place_number a)
@@ -60,7 +57,7 @@ one_raised : (place : Place) (bucket : ℕ) (raised : Raised)
 one_raised place bucket raised e =
     let parts = and_parts (same_place raised.place place) (nat_eq raised.bucket bucket) e in
     let p : raised.place ≡ place = one_place raised.place place parts.0 in
-    let b : raised.bucket ≡ bucket = equal raised.bucket bucket parts.1 in
+    let b : raised.bucket ≡ bucket = eqb-true raised.bucket bucket parts.1 in
     λ i. record { place = p i; bucket = b i }
 
 pub contained : (place : Place) (bucket : ℕ) (raised : List Raised) → is_raised place bucket raised ≡ true
@@ -125,8 +122,8 @@ module _ (place : Place) (set : ℕ → Bool) (old : Owner) where
     module _ (next : ℕ) (is : IsNext set from next) (new : Owner) (e : new ≡ after_raise place next now) where
       one_more : (bucket : ℕ) → set_below set (next + 1) bucket ≡ (set_below set from bucket || nat_eq next bucket)
       one_more bucket = grows (set bucket) (nat_lt bucket from) (nat_eq next bucket) (nat_lt bucket (next + 1))
-          (λ one. ap set (sym (equal next bucket one)) ∙ is.among)
-          (λ one. let same = equal next bucket one in grind (arith, nat_tests))
+          (λ one. ap set (sym (eqb-true next bucket one)) ∙ is.among)
+          (λ one. let same = eqb-true next bucket one in grind (arith, nat_tests))
           (λ apart low high. is.least bucket (grind (arith, nat_tests)) (grind (arith, nat_tests)))
           (λ low. let reached = is.reached in grind (arith, nat_tests))
 

@@ -1,4 +1,5 @@
 -- The series of replicas that share none are those of all their rows.
+use Rattle.std.proofs.lemmas.Bool.{or_from}
 use Rattle.std.proofs.Common.{◌≡◌, ◌∙◌, ◌||◌, Bool, true, false, List, [], ◌∷◌, ◌++◌, map, refl, sym, ap}
 use Rattle.std.specs.Borrow.{Bor}
 use Rattle.std.specs.List.{AllByRecursion, flat_map}
@@ -51,10 +52,6 @@ two_apart rows others none =
     series-apart (λ key. has_series others key ≡ false) (λ key. has_series others key ≡ true)
     (λ key. not_both (has_series others key)) rows others none (own_series others)
 
-or_false : (a b : Bool) → a ≡ false → b ≡ false → (a || b) ≡ false
-or_false true b e f = absurd cc
-or_false false b e f = f
-
 none_of_none : (rows : List Row) → ShareNoSeries rows []
 none_of_none [] = tt
 none_of_none (row ∷ rows) = (refl, none_of_none rows)
@@ -64,7 +61,7 @@ none_of_both : (rows others more : List Row) → ShareNoSeries rows others → S
 none_of_both [] others more none left = tt
 none_of_both (row ∷ rows) others more none left = (
   list_any-append (λ (other : Row). same_series row.key other.key) others more
-      ∙ or_false (has_series others row.key) (has_series more row.key) none.0 left.0,
+      ∙ or_from (has_series others row.key) (has_series more row.key) none.0 left.0,
   none_of_both rows others more none.1 left.1,
 )
 

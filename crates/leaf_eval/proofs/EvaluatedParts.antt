@@ -1,5 +1,5 @@
 -- The parts that were evaluated so far.
-use Rattle.std.proofs.Common.{◌≡◌, ◌≤◌, ℕ, ℤ, ◌+◌, ◌-◌, List, [], ◌∷◌, ◌++◌, length, map, refl, sym, ap, subst, ◌∙◌}
+use Rattle.std.proofs.Common.{◌≡◌, ◌≤◌, ℕ, ℤ, ◌+◌, ◌-◌, List, [], ◌∷◌, ◌++◌, map, refl, sym, ap, subst, ◌∙◌}
 use Rattle.std.proofs.Common.{append_assoc, append-nil, arith}
 use Rattle.std.specs.Prelude.{IsPermutation}
 use Rattle.std.proofs.lemmas.List.Sums.{sum_by-append, sum_by-cons}
@@ -131,10 +131,6 @@ module _ (grid : Grid) (source : List Row) where
         sum_by-cons (λ (p : TopPart). load_of grid p.1 source) part left,
         ap (parts_load grid source) so_far.split,
       )
-
-pub none_long : {A : Type 0} (xs : List A) → length xs ≡ 0 → xs ≡ []
-none_long [] e = refl
-none_long (x ∷ xs) e = absurd cc
 
 meant_sent : (grid : Grid) (source : List Row) (parts : List TopPart)
     → pieces_sent (map (piece_meant grid source) parts) ≡ parts_sent grid source parts

@@ -123,7 +123,7 @@ AddsBelow old new own from = (bucket : ℕ) → new bucket ≡ (old bucket || (n
 below_none : (bucket : ℕ) → nat_lt bucket 0 ≡ false
 below_none bucket = grind (arith, nat_tests)
 
-one_more : (bucket next from : ℕ) (old among : Bool) (t1 t2 t3 : Bool) → nat_lt bucket from ≡ t1 → (bucket == next)
+pub one_more : (bucket next from : ℕ) (old among : Bool) (t1 t2 t3 : Bool) → nat_lt bucket from ≡ t1 → (bucket == next)
     ≡ t2 → nat_lt bucket (next + 1) ≡ t3 →
     from ≤ next → (bucket ≡ next → among ≡ true) → (from ≤ bucket → bucket < next → among ≡ false)
     → (t2 || (old || (t1 && among))) ≡ (old || (t3 && among))

@@ -1,8 +1,7 @@
 -- Why a question was refused, between what its caller had seen before it and has seen behind it.
-use Rattle.std.proofs.Common.{◌≡◌, ◌∙◌, ◌<◌, ℕ, nat_eq, Bool, true, false, cond, List, [], ◌∷◌, length, map}
-use Rattle.std.proofs.Common.{Some, Err, refl, sym, ap, subst, arith}
+use Rattle.std.proofs.Common.{◌≡◌, ◌∙◌, ◌<◌, ℕ, Bool, true, false, cond, List, [], ◌∷◌, length, map}
+use Rattle.std.proofs.Common.{Some, Err, refl, sym, subst}
 use Rattle.std.specs.List.{AllByRecursion, filter}
-use Rattle.std.proofs.lemmas.Bool.Decides.{nat_tests}
 use Rattle.std.proofs.lemmas.Option.{same_Some}
 use Rattle.know.specs.Knowledge.{Knowledge}
 use Rattle.line_runs.specs.Questions.{told_fault}
@@ -13,7 +12,7 @@ use Rattle.mon_store.specs.declared.queries.QueryFault.{QueryFault}
 use Rattle.mon_store.specs.declared.queries.QueryFault.TheVariants as fault
 use Rattle.mon_topo.proofs.RangeHistoryLemmas.{all_filter}
 use Rattle.mon_value.specs.Histories.{leaf_history}
-use Rattle.mon_value.specs.Positions.{leaf_numbered, same_leaf}
+use Rattle.mon_value.specs.Positions.{same_leaf}
 use Rattle.mon_value.specs.declared.histories.Histories.{Histories}
 use Rattle.mon_value.specs.declared.positions.FoundDown.{FoundDown}
 use Rattle.mon_value.specs.declared.positions.Leaf.{Leaf}
@@ -33,13 +32,9 @@ use Rattle.run_traces.specs.LineFreshness.{found_cuts, refusal_cuts}
 use Rattle.run_traces.specs.LineTables.{moment_of, text_of}
 use Rattle.run_traces.specs.declared.traces.LineFault.{LineFault}
 use Rattle.run_traces.specs.declared.traces.LineFault.TheVariants as why
+use Rattle.query_core.proofs.LeafLemmas.{same_leaves}
 
 -- ---- cuts
-
-pub same_leaves : (a b : Leaf) → same_leaf a b ≡ true → a ≡ b
-same_leaves a b same =
-    let number : a.0 ≡ b.0 = let test : nat_eq a.0 b.0 ≡ true = same in grind (arith, nat_tests) in
-    ap leaf_numbered number
 
 module _ (before after : Histories) where
   abbrev pub LiesBetween : Leaf → ℕ → Type 0

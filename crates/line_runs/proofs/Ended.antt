@@ -1,8 +1,6 @@
 -- How a question ends, by how its query did.
-use Rattle.std.proofs.Common.{◌≡◌, ◌∙◌, ℕ, ℤ, List, Ok, Err, refl, sym, ap, subst}
+use Rattle.std.proofs.Common.{◌≡◌, ◌∙◌, ℕ, ℤ, List, Ok, Err, sym, ap, subst}
 use Rattle.std.specs.Prelude.{IfOk, Result, sum_by}
-use Rattle.history_book.proofs.ListLemmas.{prefix_refl, prefix_trans}
-use Rattle.history_book.specs.Histories.{AreFronts}
 use Rattle.history_book.specs.Numbers.{times_among}
 use Rattle.know.specs.Knowledge.{Knowledge}
 use Rattle.line_runs.proofs.Answered.{look_found}
@@ -21,7 +19,6 @@ use Rattle.mon_store.specs.Stores.{setting_of}
 use Rattle.mon_store.specs.declared.queries.QueryFault.{QueryFault}
 use Rattle.mon_topo.specs.HeldHistories.{AreHeld}
 use Rattle.mon_topo.specs.Settings.{Setting}
-use Rattle.mon_value.specs.Histories.{leaf_history, range_history}
 use Rattle.mon_value.specs.declared.histories.Histories.{Histories}
 use Rattle.mon_value.specs.declared.positions.Leaf.{Leaf}
 use Rattle.mon_value.specs.declared.rows.SeriesKey.{SeriesKey}
@@ -38,6 +35,7 @@ use Rattle.run_traces.specs.LineTexts.{line_text}
 use Rattle.run_traces.specs.declared.traces.LineTrace.{LineTrace}
 use Rattle.run_traces.specs.declared.traces.LineTrace.TheVariants as came
 use Rattle.running_query.specs.Looks.{GoesOn}
+use Rattle.running_query.proofs.GoingLemmas.{fronts_through}
 
 -- ---- what is seen
 
@@ -57,29 +55,6 @@ at_limit config text asked at moment limit before after result same_text same mo
     subst (λ l. IsQueried config text moment l before after result) most
     (subst (λ m. IsQueried config text m limit before after result) same
     (subst (λ t. IsQueried config t at limit before after result) same_text queried))
-
-pub owns_itself : (know : Knowledge) → OwnsTheSame know know
-owns_itself know = record {
-  fronts = (
-    λ leaf. prefix_refl (leaf_history know.seen leaf),
-    λ range. prefix_refl (range_history know.seen range),
-  );
-  own = refl;
-  met = refl;
-  stock = refl;
-  lost = refl;
-  rooms = refl;
-  holds = refl;
-}
-
-pub fronts_through : (before mid after : Histories) → AreFronts before mid → AreFronts mid after
-    → AreFronts before after
-fronts_through before mid after first last = (
-  λ leaf. prefix_trans (leaf_history before leaf) (leaf_history mid leaf) (leaf_history after leaf) (first.0 leaf)
-      (last.0 leaf),
-  λ range. prefix_trans (range_history before range) (range_history mid range) (range_history after range)
-      (first.1 range) (last.1 range),
-)
 
 module _ (store : Setting) (config : Config) (before : Knowledge)
     (was : AreHeld store.held store.zones store.points before.seen) where

@@ -1,5 +1,6 @@
 -- Why a row was refused, at lengths that histories had as it was.
-use Rattle.std.proofs.Common.{◌≡◌, ◌≤◌, ℕ, suc, ◌||◌, Bool, true, false, List, []}
+use Rattle.std.proofs.lemmas.Bool.{or_right}
+use Rattle.std.proofs.Common.{◌≡◌, ◌≤◌, ℕ, suc, ◌||◌, true, List, []}
 use Rattle.std.proofs.Common.{◌∷◌, length, map, take, Some, refl, sym, ap, ◌∙◌, subst, arith}
 use Rattle.std.specs.Prelude.{Contains}
 use Rattle.std.specs.List.{AllByRecursion, list_any}
@@ -54,10 +55,6 @@ contained P (x ∷ xs) f = (
   contained P xs
       (λ y there. f y (suc there.0, (let l = there.1 in omega arith), there.2)),
 )
-
-or_right : (a b : Bool) → b ≡ true → (a || b) ≡ true
-or_right true b is = refl
-or_right false b is = is
 
 -- each replica is on one of their leaves
 pub all_avoided : (replicas : List SlotLeaf)

@@ -9,8 +9,8 @@ use Rattle.std.proofs.lemmas.List.{drop-append-le, drop_all, drop_at, length-app
 use Rattle.std.proofs.lemmas.List.Concat.{flat_map-append}
 use Rattle.std.proofs.lemmas.List.Elements.{filter-append}
 use mathlib.Core.List.{IsPrefix}
-use Rattle.history_book.proofs.ListLemmas.{prefix_length, prefix_refl}
-use Rattle.history_book.specs.Histories.{AreFronts, book_entry_pass, entries, is_under, same_history}
+use Rattle.history_book.proofs.ListLemmas.{prefix_length}
+use Rattle.history_book.specs.Histories.{book_entry_pass, entries, is_under, same_history}
 use Rattle.history_book.specs.declared.views.BookEntry.{BookEntry}
 use Rattle.history_book.specs.declared.views.BookEntry.TheVariants as one
 use Rattle.history_book.specs.declared.views.History.{History}
@@ -21,15 +21,14 @@ use Rattle.mon_config.specs.KeyRanges.{range_of_key}
 use Rattle.mon_config.specs.declared.config.Config.{Config}
 use Rattle.mon_points.specs.declared.records.RowRead.{RowRead}
 use Rattle.mon_points.specs.declared.records.RowRead.TheVariants as read
-use Rattle.mon_store.proofs.OwnLemmas.{drop_prefix, entries_front, fronts_through}
+use Rattle.mon_store.proofs.OwnLemmas.{drop_prefix, entries_front}
 use Rattle.mon_store.specs.Writes.{IsStill, IsUnwritten, new_entries, only_in, own_entries, put_in, written}
 use Rattle.mon_topo.specs.RangeHistories.{acked_row, acknowledged_rows}
-use Rattle.mon_value.specs.Histories.{leaf_history, range_history}
+use Rattle.mon_value.specs.Histories.{range_history}
 use Rattle.mon_value.specs.Positions.{same_range}
 use Rattle.mon_value.specs.Sources.{IsSource}
 use Rattle.mon_value.specs.declared.histories.Ack.{Ack}
 use Rattle.mon_value.specs.declared.histories.Entry.TheVariants as entry
-use Rattle.mon_value.specs.declared.histories.Histories.{Histories}
 use Rattle.mon_value.specs.declared.histories.RangeEntry.{RangeEntry}
 use Rattle.mon_value.specs.declared.histories.RangeEntry.TheVariants as range_entry
 use Rattle.mon_value.specs.declared.positions.Range.{Range}
@@ -46,6 +45,7 @@ use Rattle.run_traces.proofs.RowFacts.{fed_row, lies_as, row_joined, row_key}
 use Rattle.line_runs.proofs.FeedRows.{IsNone, any_first, any_last, behind_stands, book_rows, fed_itself}
 use Rattle.line_runs.proofs.FeedRows.{kept_all, rows_dropped, source_behind}
 use Rattle.run_traces.proofs.Causes.{fed_more}
+use Rattle.running_query.proofs.GoingLemmas.{fronts_through, same_fronts}
 
 -- ---- callers that keep their place
 
@@ -62,15 +62,9 @@ still_through x y z a b = record {
   handed = b.handed ∙ a.handed;
 }
 
-pub fronts_itself : (seen : Histories) → AreFronts seen seen
-fronts_itself seen = (
-  λ leaf. prefix_refl (leaf_history seen leaf),
-  λ range. prefix_refl (range_history seen range),
-)
-
 still_itself : (x : Knowledge) → IsStill x x
 still_itself x = record {
-  fronts = fronts_itself x.seen;
+  fronts = same_fronts x.seen;
   number = refl;
   met = refl;
   stock = refl;

@@ -4,7 +4,7 @@ use Rattle.std.proofs.Common.{◌∷◌, ◌++◌, length, map, filter, take, dr
 use Rattle.std.proofs.Common.{arith}
 use Rattle.std.specs.List.{AllByRecursion, flat_map, list_any}
 use Rattle.std.specs.Ordering.{int_eq}
-use Rattle.std.proofs.lemmas.Bool.{and_from, and_parts, false≢true}
+use Rattle.std.proofs.lemmas.Bool.{and_from, and_parts, false≢true, false_from_ne_true}
 use Rattle.std.proofs.lemmas.Bool.Decides.{nat_tests}
 use Rattle.std.proofs.lemmas.Int.{ints}
 use Rattle.std.proofs.lemmas.List.{take-append-drop}
@@ -22,7 +22,7 @@ use Rattle.mon_value.specs.declared.histories.RangeEntry.TheVariants as range_en
 use Rattle.mon_value.specs.declared.rows.Row.{Row}
 use Rattle.run_theory.proofs.Callers.{both_all}
 use Rattle.run_traces.specs.LineClaims.{book_row}
-use Rattle.run_traces.specs.LinePlaces.{is_fed, is_row}
+use Rattle.run_traces.specs.LinePlaces.{is_row}
 use Rattle.run_traces.proofs.ListFacts.{all_as, last_all}
 use Rattle.run_traces.proofs.RowFacts.{row_key}
 
@@ -88,10 +88,6 @@ module _ {X : Type 0} where
 
 -- ---- sources
 
-not_by : (b : Bool) → (b ≡ true → ⊥) → b ≡ false
-not_by true never = absurd (never refl)
-not_by false never = refl
-
 -- none of these rows is of the row's series with its end
 abbrev pub IsNone : Row → List Row → Type 0
 IsNone row olds = AllByRecursion (λ old. is_row row old ≡ false) olds
@@ -102,7 +98,7 @@ row_end row other is =
     grind (arith, ints)
 
 ends_apart : (old row : Row) → EndsBefore old row → is_row row old ≡ false
-ends_apart old row before = not_by (is_row row old) (λ is.
+ends_apart old row before = false_from_ne_true (is_row row old) (λ is.
     let less = before ((same_series-Decides old.key row.key).1 (sym (row_key row old is))) in
     let same = row_end row old is in omega (arith, ints))
 

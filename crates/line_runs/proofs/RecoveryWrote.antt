@@ -1,11 +1,10 @@
 -- What a line owes that opened a range's replica on a leaf, and one that opened none.
-use Rattle.std.proofs.Common.{◌≡◌, ◌∙◌, ◌+◌, ◌<◌, ◌≤◌, ◌&&◌, ◌++◌, ◌∷◌, ℕ, zero, suc, nat_eq, Bool, true, false, cond}
-use Rattle.std.proofs.Common.{List, [], drop, filter, length, map, take, slice_get, Some, None, Ok, Err, refl, sym, ap}
-use Rattle.std.proofs.Common.{subst, arith, append-nil}
+use Rattle.std.proofs.Common.{◌≡◌, ◌∙◌, ◌+◌, ◌<◌, ◌&&◌, ◌++◌, ◌∷◌, ℕ, zero, suc, nat_eq, Bool, true, false, cond}
+use Rattle.std.proofs.Common.{List, [], drop, filter, length, slice_get, Some, None, Ok, Err, refl, sym, ap}
+use Rattle.std.proofs.Common.{subst, arith}
 use Rattle.std.specs.Prelude.{Contains, IfErr, IfOk, OnErr, Result, sum_by}
 use Rattle.std.specs.List.{AllByRecursion}
-use Rattle.std.proofs.lemmas.Bool.{false≢true}
-use Rattle.std.proofs.lemmas.Bool.Decides.{nat_tests}
+use Rattle.std.proofs.lemmas.Bool.{false≢true, and_from, eq-eqb}
 use Rattle.std.proofs.lemmas.Option.{same_Some}
 use Rattle.history_book.specs.Histories.{AreFronts, entries, is_under, same_history}
 use Rattle.history_book.specs.Numbers.{times_among}
@@ -14,9 +13,8 @@ use Rattle.history_book.specs.declared.views.BookEntry.TheVariants as one
 use Rattle.history_book.specs.declared.views.History.{History}
 use Rattle.history_book.specs.declared.views.History.TheVariants as of
 use Rattle.know.specs.Knowledge.{Knowledge}
-use Rattle.line_runs.specs.Controls.{IsNotOpenedFor, IsRecoveryRan, recover_told, recovery_ran}
+use Rattle.line_runs.specs.Controls.{IsRecoveryRan, recover_told}
 use Rattle.line_runs.specs.LineWrites.{KeepsItsPlace, LineWrote, ran_line}
-use Rattle.line_runs.specs.Questions.{refused_for}
 use Rattle.line_runs.specs.declared.lines.LineRan.{LineRan}
 use Rattle.mon_config.specs.declared.config.Config.{Config}
 use Rattle.mon_script.specs.declared.forms.LineForm.{LineForm}
@@ -25,54 +23,47 @@ use Rattle.mon_store.specs.Recoveries.{IsMoved, IsNotRecovered, IsNotRecoveredAs
 use Rattle.mon_store.specs.Recoveries.{WereFoundDown, opened}
 use Rattle.mon_store.specs.Writes.{WasFoundSo, new_entries, only_in}
 use Rattle.mon_topo.proofs.FrontLemmas.{begins_length}
-use Rattle.mon_topo.specs.HeldHistories.{BeginsWith}
 use Rattle.mon_topo.specs.RangeHistories.{acknowledged_rows, serving}
 use Rattle.mon_topo.specs.Serving.{is_avoided}
 use Rattle.mon_value.specs.Histories.{leaf_history, range_history}
-use Rattle.mon_value.specs.LeafHistories.{IsDownAt, same_replica}
+use Rattle.mon_value.specs.LeafHistories.{same_replica}
 use Rattle.mon_value.specs.Positions.{same_leaf, same_range, same_slot}
-use Rattle.mon_value.specs.declared.histories.Entry.{Entry}
 use Rattle.mon_value.specs.declared.histories.Entry.TheVariants as entry
-use Rattle.mon_value.specs.declared.histories.Histories.{Histories}
 use Rattle.mon_value.specs.declared.histories.RangeEntry.{RangeEntry}
 use Rattle.mon_value.specs.declared.histories.RangeEntry.TheVariants as range_entry
 use Rattle.mon_value.specs.declared.positions.FoundDown.{FoundDown}
 use Rattle.mon_value.specs.declared.positions.Leaf.{Leaf}
 use Rattle.mon_value.specs.declared.positions.Range.{Range}
 use Rattle.mon_value.specs.declared.positions.Slot.{Slot}
-use Rattle.mon_value.specs.declared.positions.SlotLeaf.{SlotLeaf}
 use Rattle.mon_value.specs.declared.rows.Row.{Row}
 use Rattle.owners.specs.Puts.{pass_of}
 use Rattle.query_core.specs.Findings.{IsFoundBetween}
 use Rattle.query_core.specs.Traces.{IsBetween, found_leaves, lengths_of}
 use Rattle.range_cell.specs.declared.answers.RecoverFault.{RecoverFault}
 use Rattle.range_cell.specs.declared.answers.RecoverFault.TheVariants as unopened
-use Rattle.run_traces.specs.LineCauses.{HasCause, HasNoSource, HasNoTarget, HasNoneUp, IsDenied}
-use Rattle.run_traces.specs.LineClaims.{Finds, RecoveryMade}
+use Rattle.run_traces.specs.LineCauses.{HasNoSource, IsDenied}
+use Rattle.run_traces.specs.LineClaims.{RecoveryMade}
 use Rattle.run_traces.specs.LineForms.{IsRecoveryFault, Suits}
-use Rattle.run_traces.specs.LineFreshness.{cut_at, found_cuts, leaf_of, refusal_cuts}
-use Rattle.run_traces.specs.LineSwitches.{IsRecoveredBetween, Recovery, StandsBetween, opens, recovers, recovery_of}
+use Rattle.run_traces.specs.LineFreshness.{cut_at, leaf_of}
+use Rattle.run_traces.specs.LineSwitches.{Recovery, StandsBetween, opens, recovers, recovery_of}
 use Rattle.run_traces.specs.LineTexts.{line_text, recovery_text}
 use Rattle.run_traces.specs.declared.traces.LineFault.{LineFault}
 use Rattle.run_traces.specs.declared.traces.LineFault.TheVariants as why
 use Rattle.run_traces.specs.declared.traces.LineTrace.TheVariants as came
 use Rattle.run_traces.proofs.ListFacts.{both_all, no_item}
-use Rattle.run_traces.proofs.RunFacts.{book_length, range_length}
 use Rattle.run_traces.proofs.Switched.{leaf_there, range_there}
 use Rattle.running_query.specs.Ends.{WasFoundDown}
 use Rattle.write_core.specs.Openings.{denial_of}
 use Rattle.write_core.specs.declared.copies.Denial.{Denial}
 use Rattle.write_core.specs.declared.copies.Denial.TheVariants as denial
-use Rattle.line_runs.proofs.Causes.{HasItsCause, LiesBetween, same_leaves}
+use Rattle.line_runs.proofs.Causes.{HasItsCause, LiesBetween}
 use Rattle.line_runs.proofs.Causes.{founds_between}
 use Rattle.line_runs.proofs.FeedCauses.{all_avoided, contained}
 use Rattle.line_runs.proofs.FeedWrote.{Holds}
 use Rattle.line_runs.proofs.Growing.{forth, grown, seen_of}
-use Rattle.line_runs.proofs.SwitchWrote.{both_hold, only_passes}
+use Rattle.line_runs.proofs.SwitchWrote.{only_passes}
 use Rattle.line_runs.proofs.Wrote.{OwnsAsMuch, refused_wrote}
-
-same_to : (n m : ℕ) → n ≡ m → nat_eq n m ≡ true
-same_to n m is = grind (arith, nat_tests)
+use Rattle.query_core.proofs.LeafLemmas.{same_leaves}
 
 -- ---- forms
 
@@ -191,17 +182,17 @@ module _ (config : Config) (what : LineForm) (recovery : Recovery) (asked : reco
     made = opened (pass_of before) range slot leaf rows
 
     opens_leaf : (h : History) → same_history (of.Leaf leaf) h ≡ true → opens recovery slot h on_leaf ≡ true
-    opens_leaf (of.Leaf other) same = both_hold (same_leaf leaf other) (same_replica range slot range slot) same
-        (both_hold (nat_eq range.0 range.0) (nat_eq slot.0 slot.0) (same_to range.0 range.0 refl)
-        (same_to slot.0 slot.0 refl))
+    opens_leaf (of.Leaf other) same = and_from (same_leaf leaf other) (same_replica range slot range slot) same
+        (and_from (nat_eq range.0 range.0) (nat_eq slot.0 slot.0) (eq-eqb range.0 range.0 refl)
+        (eq-eqb slot.0 slot.0 refl))
     opens_leaf (of.Range other) same = absurd (false≢true same)
 
     opens_range : (h : History) → same_history (of.Range range) h ≡ true → opens recovery slot h in_range ≡ true
     opens_range (of.Leaf other) same = absurd (false≢true same)
-    opens_range (of.Range other) same = both_hold (same_range range other)
+    opens_range (of.Range other) same = and_from (same_range range other)
         (same_slot slot slot && same_leaf leaf leaf) same
-        (both_hold (same_slot slot slot) (same_leaf leaf leaf) (same_to slot.0 slot.0 refl)
-        (same_to leaf.0 leaf.0 refl))
+        (and_from (same_slot slot slot) (same_leaf leaf leaf) (eq-eqb slot.0 slot.0 refl)
+        (eq-eqb leaf.0 leaf.0 refl))
 
     makes : RecoveryMade config what slot made
     makes h = subst (λ o. AllByRecursion (λ e. recovers o slot h e ≡ true) (made h)) (sym asked)
@@ -211,10 +202,10 @@ module _ (config : Config) (what : LineForm) (recovery : Recovery) (asked : reco
         (only_passes (opens recovery slot h) in_range (same_history (of.Range range) h) (opens_range h)))
 
     leaf_made : made (of.Leaf leaf) ≡ on_leaf ∷ []
-    leaf_made = ap (λ b. cond b (on_leaf ∷ []) [] ++ []) (same_to leaf.0 leaf.0 refl)
+    leaf_made = ap (λ b. cond b (on_leaf ∷ []) [] ++ []) (eq-eqb leaf.0 leaf.0 refl)
 
     range_made : made (of.Range range) ≡ in_range ∷ []
-    range_made = ap (λ b. cond b (in_range ∷ []) []) (same_to range.0 range.0 refl)
+    range_made = ap (λ b. cond b (in_range ∷ []) []) (eq-eqb range.0 range.0 refl)
 
     held : StandsBetween (seen_of before.seen (of.Leaf leaf)) (seen_of after.seen (of.Leaf leaf))
         (leaf_history after.seen leaf) (entry.Opened (pass_of before) range slot rows)

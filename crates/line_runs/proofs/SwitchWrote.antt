@@ -1,10 +1,9 @@
 -- What a line owes that took a leaf down or up, and one that found it so already.
-use Rattle.std.proofs.Common.{◌≡◌, ◌∙◌, ◌+◌, ◌<◌, ◌≤◌, ◌&&◌, ◌++◌, ◌∷◌, ℕ, zero, suc, nat_eq, not, Bool, true, false, cond}
-use Rattle.std.proofs.Common.{List, [], length, take, slice_get, Option, Some, None, Ok, Err, refl, sym, ap, subst, arith}
+use Rattle.std.proofs.Common.{◌≡◌, ◌∙◌, ◌+◌, ◌≤◌, ◌++◌, ◌∷◌, ℕ, nat_eq, not, Bool, true, false, cond}
+use Rattle.std.proofs.Common.{List, [], length, take, slice_get, Some, None, Ok, Err, refl, sym, ap, subst, arith}
 use Rattle.std.specs.Prelude.{IfErr, IfOk, OnErr, Result, sum_by}
 use Rattle.std.specs.List.{AllByRecursion, count_by}
-use Rattle.std.proofs.lemmas.Bool.{false≢true}
-use Rattle.std.proofs.lemmas.Bool.Decides.{nat_tests}
+use Rattle.std.proofs.lemmas.Bool.{and_from}
 use Rattle.std.proofs.lemmas.List.{length-append}
 use Rattle.history_book.specs.Histories.{AreFronts, same_history}
 use Rattle.history_book.specs.Numbers.{times_among}
@@ -25,33 +24,31 @@ use Rattle.mon_config.specs.declared.config.Config.{Config}
 use Rattle.mon_script.specs.declared.forms.LineForm.{LineForm}
 use Rattle.mon_script.specs.declared.forms.LineForm.TheVariants as form
 use Rattle.mon_store.specs.Switches.{IsNotSwitched, IsSwitched}
-use Rattle.mon_store.specs.Writes.{IsStill, IsUnwritten, only_in}
+use Rattle.mon_store.specs.Writes.{IsUnwritten, only_in}
 use Rattle.mon_topo.proofs.FrontLemmas.{begins_length}
-use Rattle.mon_topo.specs.HeldHistories.{BeginsWith}
 use Rattle.mon_value.specs.Histories.{leaf_history}
 use Rattle.mon_value.specs.LeafHistories.{is_down, is_switch}
 use Rattle.mon_value.specs.Positions.{same_leaf}
 use Rattle.mon_value.specs.declared.histories.Entry.{Entry}
-use Rattle.mon_value.specs.declared.histories.Histories.{Histories}
 use Rattle.mon_value.specs.declared.limits.TheConstants.{MOST_SWITCHES}
 use Rattle.mon_value.specs.declared.positions.Leaf.{Leaf}
 use Rattle.owners.specs.Puts.{pass_of}
 use Rattle.query_core.specs.Traces.{IsBetween, lengths_of}
-use Rattle.run_traces.specs.LineCauses.{HasCause, HasSwitchedEnough, WasAlready}
-use Rattle.run_traces.specs.LineClaims.{Finds, SwitchMade}
+use Rattle.run_traces.specs.LineCauses.{HasSwitchedEnough, WasAlready}
+use Rattle.run_traces.specs.LineClaims.{SwitchMade}
 use Rattle.run_traces.specs.LineForms.{IsSwitchFault, Suits}
-use Rattle.run_traces.specs.LineFreshness.{cut_at, leaf_of, refusal_cuts}
-use Rattle.run_traces.specs.LineSwitches.{IsSwitchedBetween, StandsBetween, Switch, goes, switch_entry, switch_of, switches}
+use Rattle.run_traces.specs.LineFreshness.{cut_at, leaf_of}
+use Rattle.run_traces.specs.LineSwitches.{StandsBetween, Switch, goes, switch_entry, switch_of, switches}
 use Rattle.run_traces.specs.LineTexts.{line_text, switch_text}
-use Rattle.run_traces.specs.declared.traces.LineFault.{LineFault}
 use Rattle.run_traces.specs.declared.traces.LineFault.TheVariants as why
 use Rattle.run_traces.specs.declared.traces.LineTrace.TheVariants as came
 use Rattle.run_traces.proofs.RunFacts.{book_length}
 use Rattle.run_traces.proofs.Switched.{same_number}
-use Rattle.line_runs.proofs.Causes.{HasItsCause, LiesBetween, same_leaves}
+use Rattle.line_runs.proofs.Causes.{HasItsCause, LiesBetween}
 use Rattle.line_runs.proofs.FeedWrote.{Holds}
 use Rattle.line_runs.proofs.Growing.{forth, grown, seen_of}
 use Rattle.line_runs.proofs.Wrote.{OwnsAsMuch, refused_wrote}
+use Rattle.query_core.proofs.LeafLemmas.{same_leaves}
 
 -- ---- forms
 
@@ -105,10 +102,6 @@ goes_so : (down : Bool) (pass : ℕ) → goes down (one.Leaf (cell.switch_entry 
 goes_so true pass = refl
 goes_so false pass = refl
 
-pub both_hold : (a b : Bool) → a ≡ true → b ≡ true → (a && b) ≡ true
-both_hold true b first second = second
-both_hold false b first second = absurd (false≢true first)
-
 -- what is in one history alone passes a test that it passes there, and is one entry at most
 pub only_passes : (test : BookEntry → Bool) (e : BookEntry) (b : Bool) → (b ≡ true → test e ≡ true)
     → AllByRecursion (λ x. test x ≡ true) (cond b (e ∷ []) [])
@@ -145,7 +138,7 @@ module _ (config : Config) (what : LineForm) (switch : Switch) (asked : switch_o
       own = λ history. only_passes (switches (switch_of what) history) (one.Leaf entry)
           (same_history (of.Leaf leaf) history)
           (λ same. subst (λ o. switches o history (one.Leaf entry) ≡ true) (sym asked)
-          (both_hold (same_history (of.Leaf leaf) history) (goes switch.down (one.Leaf entry)) same
+          (and_from (same_history (of.Leaf leaf) history) (goes switch.down (one.Leaf entry)) same
           (goes_so switch.down (pass_of before))));
       few = λ history. only_few (one.Leaf entry) (same_history (of.Leaf leaf) history);
     }

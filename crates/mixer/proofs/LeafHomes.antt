@@ -21,6 +21,7 @@ use Rattle.mql_types.specs.Levels.{have_fields, is_anchored, is_location_anchor,
 use Rattle.mql_types.proofs.MadeCells.{same_item}
 use Rattle.mixer.proofs.AnchorLemmas.{found_in, name_is, same_anchor-is}
 use Rattle.mixer.proofs.HeldCells.{Holds, SaysIf, Tell}
+use Rattle.mon_value.proofs.OrderLemmas.{same_fields}
 
 -- a cell that holds a field of a target, of a schema that the target fits
 pub record HoldsField (held : SchemaLists) (target : Target) (name : List ℕ) (place : ℕ) (cell : Value) : Type 0 where
@@ -70,17 +71,6 @@ target_alike held home a b x same says =
 
 -- ---- columns that tell the target
 
-same_field_value : (a b : FieldValue) → field_as_value a ≡ field_as_value b → a ≡ b
-same_field_value (field.Int y) (field.Int z) e = cc
-same_field_value (field.Int y) (field.Bool p) e = absurd cc
-same_field_value (field.Int y) (field.Text s) e = absurd cc
-same_field_value (field.Bool p) (field.Int z) e = absurd cc
-same_field_value (field.Bool p) (field.Bool q) e = cc
-same_field_value (field.Bool p) (field.Text s) e = absurd cc
-same_field_value (field.Text s) (field.Int z) e = absurd cc
-same_field_value (field.Text s) (field.Bool p) e = absurd cc
-same_field_value (field.Text s) (field.Text t) e = cc
-
 -- an anchor that is the one that is wanted
 anchored_says : (held : SchemaLists) (home : Target) (wanted : Anchor) (o : Option Anchor) (x : Value)
     → option_map_or (same_anchor wanted) o false ≡ true → SaysIf (TargetSays held) home o x
@@ -95,7 +85,7 @@ one_field : (held : SchemaLists) (home other : Target) (name : List ℕ) (place 
 one_field held home other name place x y z left right at also =
     let first : left.own ≡ y = same_item left.own y (sym left.at ∙ at) in
     let second : right.own ≡ z = same_item right.own z (sym right.at ∙ also) in
-    sym first ∙ same_field_value left.own right.own (sym left.is ∙ right.is) ∙ second
+    sym first ∙ same_fields left.own right.own (sym left.is ∙ right.is) ∙ second
 
 fields_same : (held : SchemaLists) (home other : Target) (name : List ℕ) (columns : List Column) (cells : List Value)
     → Holds (TargetSays held) home columns cells → Holds (TargetSays held) other columns cells

@@ -1,4 +1,5 @@
 -- Pairs of a join: rows that agree in columns that tell their home have one home, and so has their pair.
+use Rattle.std.proofs.lemmas.Bool.{and_parts}
 use Rattle.std.proofs.Common.{◌≡◌, ◌&&◌, ◌||◌, Bool, true, false, not, cond, Option, Some, None, List, [], ◌∷◌, map}
 use Rattle.std.proofs.Common.{refl, sym, subst}
 use Rattle.std.specs.Prelude.{find, option_map, unwrap_or}
@@ -24,9 +25,6 @@ agree_by : (b : Bool) (x y : Value) → b ≡ true → (not b || same_value x y)
 agree_by true x y e agree = (same_value-Decides x y).0 agree
 agree_by false x y e agree = absurd cc
 
-and_split : (b c : Bool) → (b && c) ≡ true → (b ≡ true) × (c ≡ true)
-and_split = both
-
 module _ {H : Type 0} (Says : H → Anchor → Value → Type 0) (held : SchemaLists)
     (at_least : (home : H) (a : Anchor) (x : Value) → is_location_anchor held a ≡ true → Says home a x
     → Says home anchor.Location x)
@@ -44,7 +42,7 @@ module _ {H : Type 0} (Says : H → Anchor → Value → Type 0) (held : SchemaL
       → SaysIf Says home (common_anchor held o p) x
   left_anchor home (Some a) (Some b) x says =
       left_anchor_by home a b x (same_anchor a b) (is_location_anchor held a && is_location_anchor held b)
-      (λ e. (and_split (is_location_anchor held a) (is_location_anchor held b) e).0) says
+      (λ e. (and_parts (is_location_anchor held a) (is_location_anchor held b) e).0) says
   left_anchor home (Some a) None x says = tt
   left_anchor home None p x says = tt
 
@@ -60,7 +58,7 @@ module _ {H : Type 0} (Says : H → Anchor → Value → Type 0) (held : SchemaL
   right_anchor home (Some a) (Some b) x says =
       right_anchor_by home a b x (same_anchor a b) (is_location_anchor held a && is_location_anchor held b)
       (λ e. alike home a b x e says)
-      (λ e. (and_split (is_location_anchor held a) (is_location_anchor held b) e).1) says
+      (λ e. (and_parts (is_location_anchor held a) (is_location_anchor held b) e).1) says
   right_anchor home (Some a) None x says = tt
   right_anchor home None p x says = tt
 
@@ -84,7 +82,7 @@ module _ {H : Type 0} (Says : H → Anchor → Value → Type 0) (held : SchemaL
   found_says other left [] (x ∷ xs) holds agree = absurd holds
   found_says other left (c ∷ cs) [] holds agree = absurd holds
   found_says other left (c ∷ cs) (x ∷ xs) holds agree =
-      let parts = and_split (cells_agree left (c, x)) (list_all (λ cell. cells_agree left cell) (zip cs xs)) agree in
+      let parts = and_parts (cells_agree left (c, x)) (list_all (λ cell. cells_agree left cell) (zip cs xs)) agree in
       found_by other (same_text left.0.name c.name) left.1 x c
       (find (λ (d : Column). same_text left.0.name d.name) cs)
       (λ e. agree_by (same_text left.0.name c.name) left.1 x e parts.0) holds.0
@@ -114,7 +112,7 @@ module _ {H : Type 0} (Says : H → Anchor → Value → Type 0) (held : SchemaL
   agree_in home other rights others right [] (x ∷ xs) left agree = absurd left
   agree_in home other rights others right (c ∷ cs) [] left agree = absurd left
   agree_in home other rights others right (c ∷ cs) (x ∷ xs) left agree =
-      let parts = and_split (list_all (λ (o : Named). cells_agree (c, x) o) (zip rights others))
+      let parts = and_parts (list_all (λ (o : Named). cells_agree (c, x) o) (zip rights others))
       (list_all (λ cell. list_all (λ (o : Named). cells_agree cell o) (zip rights others)) (zip cs xs)) agree in
       let found : FoundSays other (column_named c.name rights) x =
       subst (λ o. FoundSays other o x) (find_at (λ (d : Column). same_text c.name d.name) rights)
@@ -151,7 +149,7 @@ module _ {H : Type 0} (Says : H → Anchor → Value → Type 0) (held : SchemaL
   left_holds home (l ∷ ls) [] cells same holds = absurd cc
   left_holds home (l ∷ ls) (r ∷ rs) [] same holds = absurd holds
   left_holds home (l ∷ ls) (r ∷ rs) (x ∷ xs) same holds =
-      let parts = and_split _ (same_columns ls rs) same in
+      let parts = and_parts _ (same_columns ls rs) same in
       (left_anchor home l.anchor r.anchor x holds.0, left_holds home ls rs xs parts.1 holds.1)
 
   pub right_holds : (home : H) (lefts rights : List Column) (cells : List Value) → same_columns lefts rights ≡ true
@@ -162,5 +160,5 @@ module _ {H : Type 0} (Says : H → Anchor → Value → Type 0) (held : SchemaL
   right_holds home (l ∷ ls) [] cells same holds = absurd cc
   right_holds home (l ∷ ls) (r ∷ rs) [] same holds = absurd holds
   right_holds home (l ∷ ls) (r ∷ rs) (x ∷ xs) same holds =
-      let parts = and_split _ (same_columns ls rs) same in
+      let parts = and_parts _ (same_columns ls rs) same in
       (right_anchor home l.anchor r.anchor x holds.0, right_holds home ls rs xs parts.1 holds.1)

@@ -1,5 +1,6 @@
 -- Two sides that share no target, or no location: each row has its home there, and none on both.
-use Rattle.std.proofs.Common.{◌≡◌, ◌∙◌, ◌||◌, ℕ, Bool, true, false, Option, Some, None, List, [], ◌∷◌, ◌++◌, refl, sym}
+use Rattle.std.proofs.lemmas.Bool.{or_right, or_left, or_from}
+use Rattle.std.proofs.Common.{◌≡◌, ◌∙◌, ℕ, Bool, true, false, Option, Some, None, List, [], ◌∷◌, ◌++◌, refl, sym}
 use Rattle.std.proofs.Common.{ap}
 use Rattle.std.specs.List.{AllByRecursion}
 use Rattle.std.specs.Option.{option_map_or}
@@ -26,18 +27,6 @@ use Rattle.mixer.proofs.ZoneHomes.{IsLocated, Location, LocationSays, has_locati
 never : (b : Bool) → b ≡ false → b ≡ true → ⊥
 never b e f = cc
 
-or_true : (b c : Bool) → c ≡ true → (b || c) ≡ true
-or_true true c e = refl
-or_true false c e = e
-
-first_true : (b c : Bool) → b ≡ true → (b || c) ≡ true
-first_true true c e = refl
-first_true false c e = absurd cc
-
-both_false : (b c : Bool) → b ≡ false → c ≡ false → (b || c) ≡ false
-both_false true c e f = absurd cc
-both_false false c e f = f
-
 -- ---- targets
 
 same_itself : (row : Row) → same_target row.key.target row.key.target ≡ true
@@ -48,10 +37,10 @@ same_itself row =
 targets_there : (rows : List Row) → AllByRecursion (λ row. has_target rows row.key.target ≡ true) rows
 targets_there [] = tt
 targets_there (row ∷ rows) = (
-  first_true (same_target row.key.target row.key.target) (has_target rows row.key.target) (same_itself row),
+  or_left (same_target row.key.target row.key.target) (has_target rows row.key.target) (same_itself row),
   all-map (λ other. has_target rows other.key.target ≡ true) (λ other. has_target (row ∷ rows) other.key.target ≡ true)
       rows
-      (λ other e. or_true (same_target row.key.target other.key.target) (has_target rows other.key.target) e)
+      (λ other e. or_right (same_target row.key.target other.key.target) (has_target rows other.key.target) e)
       (targets_there rows),
 )
 
@@ -91,7 +80,7 @@ targets_together rows (child ∷ children) apart =
     all-map (λ row. (has_target child row.key.target ≡ false) × (has_target (together children) row.key.target ≡ false))
     (λ row. has_target (child ++ together children) row.key.target ≡ false) rows
     (λ row e. list_any-append (λ (other : Row). same_target other.key.target row.key.target) child (together children)
-    ∙ both_false (has_target child row.key.target) (has_target (together children) row.key.target) e.0 e.1)
+    ∙ or_from (has_target child row.key.target) (has_target (together children) row.key.target) e.0 e.1)
     (all-both (λ row. has_target child row.key.target ≡ false)
     (λ row. has_target (together children) row.key.target ≡ false) rows apart.0
     (targets_together rows children apart.1))
@@ -161,13 +150,13 @@ module _ (held : SchemaLists) (tell : AllByRecursion TellsLocation held.targets)
       → has_location held rows location ≡ true) rows
   locations_there [] = tt
   locations_there (row ∷ rows) = (
-    (λ location e. first_true (lies_at held location row) (has_location held rows location)
+    (λ location e. or_left (lies_at held location row) (has_location held rows location)
         (lies_there row location e)),
     all-map (λ other. (location : List ℕ) → location_of held other.key.target ≡ Some location
         → has_location held rows location ≡ true)
         (λ other. (location : List ℕ) → location_of held other.key.target ≡ Some location
         → has_location held (row ∷ rows) location ≡ true) rows
-        (λ other there location e. or_true (lies_at held location row) (has_location held rows location)
+        (λ other there location e. or_right (lies_at held location row) (has_location held rows location)
         (there location e)) (locations_there rows),
   )
 
@@ -197,7 +186,7 @@ apart_by : (held : SchemaLists) (child rest : List Row) (o : Option (List ℕ))
 apart_by held child rest None e f = refl
 apart_by held child rest (Some location) e f =
     list_any-append (lies_at held location) child rest
-    ∙ both_false (has_location held child location) (has_location held rest location) e f
+    ∙ or_from (has_location held child location) (has_location held rest location) e f
 
 pub locations_together : (held : SchemaLists) (rows : List Row) (children : List (List Row))
     → AllByRecursion (ShareNoLocation held rows) children → ShareNoLocation held rows (together children)

@@ -1,5 +1,6 @@
 -- The rows of a typed tree have the types of its columns, however many there are.
-use Rattle.std.proofs.Common.{◌≡◌, ◌∙◌, ◌<◌, ℕ, Bool, true, false, ◌||◌, cond, Option, Some, None, List, [], ◌∷◌}
+use Rattle.std.proofs.lemmas.Bool.{or_parts}
+use Rattle.std.proofs.Common.{◌≡◌, ◌∙◌, ◌<◌, ℕ, Bool, true, false, cond, Option, Some, None, List, [], ◌∷◌}
 use Rattle.std.proofs.Common.{◌++◌, map, length, refl, sym, ap, subst}
 use Rattle.std.specs.Prelude.{option_and_then, option_map, slice_get}
 use Rattle.std.specs.List.{AllByRecursion, cons_option, filter_map, flat_map, list_any}
@@ -205,10 +206,6 @@ item_typed columns label (tree.Percentile at name p) none cells fit some =
     sum_typed columns (item_name (record { name = label; sum = tree.Percentile at name p })).text
     (tree.Percentile at name p) none cells fit some
 
-any_split : (b c : Bool) → (b || c) ≡ false → (b ≡ false) × (c ≡ false)
-any_split true c e = absurd cc
-any_split false c e = (refl, e)
-
 items_typed : (columns : List Column) (items : List ItemTree) → flat_map (item_sum_faults columns) items ≡ []
     → (cells : List Value) → FitColumns columns cells
     → list_any (λ (item : ItemTree). meets_no_values item.sum columns cells) items ≡ false
@@ -217,7 +214,7 @@ items_typed : (columns : List Column) (items : List ItemTree) → flat_map (item
 items_typed columns [] none cells fit some = tt
 items_typed columns (item ∷ items) none cells fit some =
     let parts = no_faults (item_sum_faults columns item) (flat_map (item_sum_faults columns) items) none in
-    let both = any_split (meets_no_values item.sum columns cells)
+    let both = or_parts (meets_no_values item.sum columns cells)
     (list_any (λ (i : ItemTree). meets_no_values i.sum columns cells) items) some in (
       item_typed columns item.name item.sum parts.0 cells fit both.0,
       items_typed columns items parts.1 cells fit both.1,

@@ -1,16 +1,16 @@
 -- The tables of a typed tree have the types of its columns, however much work the tree is.
-use Rattle.std.proofs.Common.{◌≡◌, ◌∙◌, ◌&&◌, ℕ, true, List, [], ◌∷◌, ◌++◌, map}
+use Rattle.std.proofs.Common.{◌≡◌, ◌∙◌, ℕ, List, [], ◌∷◌, ◌++◌, map}
 use Rattle.std.proofs.Common.{length, take, sym, ap, subst}
-use Rattle.std.specs.List.{AllByRecursion, filter, filter_map, flat_map}
+use Rattle.std.specs.List.{filter, filter_map, flat_map}
 use Rattle.mon_value.specs.Alignments.{aligned_values}
 use Rattle.mon_value.specs.Columns.{FitColumns, HasType}
 use Rattle.mon_value.specs.Grids.{IsLawfulGrid}
 use Rattle.mon_value.specs.Groups.{group_key, group_keys, group_rows, rows_in}
 use Rattle.mon_value.specs.Joins.{is_pair, pair_of, pairs_of}
-use Rattle.mon_value.specs.Same.{same_row, same_series, same_text, same_truth}
+use Rattle.mon_value.specs.Same.{same_row}
 use Rattle.mon_value.specs.SeriesRows.{row_of}
 use Rattle.mon_value.specs.Sorting.{sorted_list}
-use Rattle.mon_value.specs.Sources.{key_of_row, points_by_series, points_of, rows_of, series_of}
+use Rattle.mon_value.specs.Sources.{points_by_series}
 use Rattle.mon_value.specs.Tops.{rank_cmp}
 use Rattle.mon_value.specs.declared.aggregates.Aggregate as folds
 use Rattle.mon_value.specs.declared.aligners.Aligner.{Aligner}
@@ -20,18 +20,15 @@ use Rattle.mon_value.specs.declared.grids.TimedValue.{TimedValue}
 use Rattle.mon_value.specs.declared.rows.Point.{Point}
 use Rattle.mon_value.specs.declared.rows.Row.{Row}
 use Rattle.mon_value.specs.declared.rows.SeriesKey.{SeriesKey}
-use Rattle.mon_value.specs.declared.schemas.MetricSchema.{MetricSchema}
-use Rattle.mon_value.specs.declared.schemas.TargetSchema.{TargetSchema}
 use Rattle.mon_value.specs.declared.tables.TimedRow.{TimedRow}
 use Rattle.mon_value.specs.declared.values.Value.{Value}
 use Rattle.mon_value.specs.declared.values.Value.TheVariants as value
 use Rattle.mon_value.specs.declared.values.ValueType.TheVariants as type
-use Rattle.mon_value.proofs.SameLemmas.{both, same_series-Decides}
 use Rattle.mon_schema.specs.SchemaLists.{SchemaLists}
 use Rattle.mql_ast.specs.Trees.{ItemTree}
 use Rattle.mql_ast.specs.Truths.{predicate_truth}
-use Rattle.mql_types.specs.Branches.{join_columns, same_column, same_columns}
-use Rattle.mql_types.specs.Branches.{same_type, union_columns}
+use Rattle.mql_types.specs.Branches.{join_columns}
+use Rattle.mql_types.specs.Branches.{union_columns}
 use Rattle.mql_types.specs.Fetches.{value_column}
 use Rattle.mql_types.specs.Groupings.{aggregate_columns, key_columns_at}
 use Rattle.mql_types.specs.Items.{value_columns}
@@ -42,45 +39,23 @@ use Rattle.mql_types.specs.Nodes.{NodeTree, columns_of}
 use Rattle.mql_types.specs.Typing.{aligned_column, aligned_width}
 use Rattle.mql_types.specs.Widths.{with_width}
 use Rattle.mql_types.specs.declared.nodes.NodeInfo.{NodeInfo}
-use Rattle.mql_types.proofs.AlignedRows.{aligned_are}
-use Rattle.mql_types.proofs.AlignedValues.{PointFits, aligned_fit}
-use Rattle.mql_types.proofs.FetchedPoints.{IsRowOf, IsSeriesOf, series_columns, series_typed, value_small, value_typed}
+use Rattle.mql_types.proofs.AlignedRows.{SeriesFits, aligned_are, series_fit}
+use Rattle.mql_types.proofs.AlignedValues.{aligned_fit}
+use Rattle.mql_types.proofs.FetchedPoints.{series_columns, series_typed}
 use Rattle.mql_types.proofs.FetchedTrees.{AllFit, columns_fetched_are, points_of_schemas}
 use Rattle.mql_types.proofs.JoinedRows.{FitColumns-append, all-flat_map, all-made, all-map}
 use Rattle.mql_types.proofs.KeptRows.{all-append, all-filter, all-sorted, all-take}
 use Rattle.mql_types.proofs.MadeCells.{all-filter_map, length_fit}
 use Rattle.mql_types.proofs.SumBounds.{AreLawful}
 use Rattle.mql_types.proofs.TypedTrees.{AlignOf, AreRows, GroupOf, ValueOf, lawful_columns}
-use Rattle.mql_types.proofs.UnitedRows.{left_fits, same_type-HasType}
+use Rattle.mql_types.proofs.UnitedRows.{left_fits, right_fits}
 use Rattle.mql_types.proofs.JoinedRows.{pair_fits}
-use Rattle.mon_meaning.proofs.ApartKeys.{all_keys}
 use Rattle.mixer.proofs.LocalTrees.{MakesWhole}
 use Rattle.mixer.proofs.StemmingRows.{AreWhole}
 use Rattle.mixer.proofs.TypedCells.{AreTyped}
 use Rattle.mixer.proofs.TypedRows.{group_typed, value_made}
 
 -- ---- alignments
-
--- a series of the schemas that are fetched, with its points
-record SeriesFits (target : TargetSchema) (found : MetricSchema) (series : SeriesKey × List Point) : Type 0 where
-  key : IsSeriesOf target found series.0
-  points : AllByRecursion (PointFits found.value) series.1
-
-series_fit : (target : TargetSchema) (found : MetricSchema) (rows : List Row)
-    → AllByRecursion (IsRowOf target found) rows → AllByRecursion (SeriesFits target found) (points_by_series rows)
-series_fit target found rows fit =
-    all-made (IsSeriesOf target found) (SeriesFits target found) (λ key. (key, points_of key rows)) (series_of rows)
-    (λ key own. record {
-      key = own;
-      points = all-made (IsRowOf target found) (PointFits found.value) (λ (row : Row). row.point) (rows_of key rows)
-          (λ row r. (
-            value_typed found.value row.point.value r.value,
-            value_small found.value row.point.value r.value,
-          ))
-          (all-filter (IsRowOf target found) (λ (row : Row). same_series key row.key) rows fit);
-    })
-    (all_keys same_series same_series-Decides key_of_row (IsSeriesOf target found) rows
-    (all-map (IsRowOf target found) (λ (row : Row). IsSeriesOf target found row.key) rows (λ row r. r.series) fit))
 
 align_typed : (held : SchemaLists) (grid : Grid) → IsLawfulGrid grid → (rows : List Row) → AllFit held rows
     → (info : NodeInfo) (by : Aligner) (input : NodeTree) → AlignOf held info by input
@@ -119,20 +94,6 @@ join_typed held lefts rights rows others fit more =
     (filter (is_pair lefts rights left) others)
     (λ right r. pair_fits held lefts rights left right l r)
     (all-filter (λ (row : TimedRow). FitColumns rights row.cells) (is_pair lefts rights left) others more)) fit
-
-right_united : (held : SchemaLists) (lefts rights : List Column) (xs : List Value) → same_columns lefts rights ≡ true
-    → FitColumns rights xs → FitColumns (union_columns held lefts rights) xs
-right_united held [] [] [] same fit = tt
-right_united held [] [] (x ∷ xs) same fit = absurd fit
-right_united held [] (r ∷ rs) xs same fit = absurd cc
-right_united held (l ∷ ls) [] xs same fit = absurd cc
-right_united held (l ∷ ls) (r ∷ rs) [] same fit = absurd fit
-right_united held (l ∷ ls) (r ∷ rs) (x ∷ xs) same fit =
-    let parts = both (same_column l r) (same_columns ls rs) same in
-    let types = both (same_text l.name r.name) (same_type l.of r.of && same_truth l.key r.key) parts.0 in (
-      same_type-HasType l.of r.of x (both (same_type l.of r.of) (same_truth l.key r.key) types.1).0 fit.0,
-      right_united held ls rs xs parts.1 fit.1,
-    )
 
 -- ---- trees
 
@@ -205,7 +166,7 @@ module _ (held : SchemaLists) (grid : Grid) (lawful : IsLawfulGrid grid) (rows :
       (tree_typed left own.1.0))
       (all-map (λ (row : TimedRow). FitColumns (columns_of right) row.cells)
       (λ (row : TimedRow). FitColumns to row.cells) (rows_meant grid right rows)
-      (λ row f. right_united held (columns_of left) (columns_of right) row.cells own.0.same f)
+      (λ row f. right_fits held (columns_of left) (columns_of right) row.cells own.0.same f)
       (tree_typed right own.1.1)))
 
   whole : (columns : List Column) (some : List TimedRow) → AreTyped columns some → AreWhole columns some

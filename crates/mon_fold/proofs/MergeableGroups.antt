@@ -1,5 +1,6 @@
 -- Groups of rows that can be grouped together can be merged.
-use Rattle.std.proofs.Common.{◌≡◌, ◌≤◌, ℕ, ℤ, Bool, true, false, ◌||◌, List, [], ◌∷◌, ◌++◌, map, length, IfSome, refl}
+use Rattle.std.proofs.lemmas.Bool.{or_parts}
+use Rattle.std.proofs.Common.{◌≡◌, ◌≤◌, ℕ, ℤ, true, false, List, [], ◌∷◌, ◌++◌, map, length, IfSome, refl}
 use Rattle.std.proofs.Common.{sym, ap, subst, ◌∙◌, arith}
 use Rattle.std.specs.List.{AllByRecursion, IsDistinct, list_any}
 use Rattle.std.specs.Map.{keys_of, lookup}
@@ -23,15 +24,11 @@ use Rattle.mon_fold.specs.PartialGroups.{parts_over}
 
 -- ---- keys that differ
 
-neither : (a b : Bool) → (a || b) ≡ false → (a ≡ false) × (b ≡ false)
-neither true b e = absurd cc
-neither false b e = (refl, e)
-
 apart_all : (key : TimedRow) (keys : List TimedRow) → list_any (same_row key) keys ≡ false
     → AllByRecursion (λ other. same_row key other ≡ false) keys
 apart_all key [] none = tt
 apart_all key (k ∷ keys) none =
-    let parts = neither (same_row key k) (list_any (same_row key) keys) none in
+    let parts = or_parts (same_row key k) (list_any (same_row key) keys) none in
     (parts.0, apart_all key keys parts.1)
 
 keys_apart : (by : List ℕ) (keys : List TimedRow) → keyed.Distinct same_row same_row-Decides (group_key by) keys

@@ -123,10 +123,6 @@ turned true false = refl
 turned false true = refl
 turned false false = refl
 
-none_left : (b c : Bool) → c ≡ false → (b && c) ≡ false
-none_left true c e = e
-none_left false c e = refl
-
 -- the same by equal parts
 pub moved : (input rest next : NodeTree) (ss qs ps rs : List BoundPredicate) → next ≡ rest → qs ≡ ss → rs ≡ ps
     → Remains input rest ss ps → Remains input next qs rs

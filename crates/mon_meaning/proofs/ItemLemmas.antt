@@ -30,10 +30,6 @@ pub cons_list : {A : Type 0} (o : Option A) (xs : List A) → cons_option o xs �
 cons_list None xs = refl
 cons_list (Some x) xs = refl
 
-pub none_long : {A : Type 0} (xs : List A) → length xs ≡ 0 → xs ≡ []
-none_long [] e = refl
-none_long (x ∷ xs) e = absurd (omega (arith, e))
-
 -- ---- keys
 
 key_by : (b : Bool) (column : Column) (cell : Value) (rest : List Named)

@@ -36,6 +36,7 @@ use Rattle.mon_value.specs.declared.values.Value.{Value}
 use Rattle.mon_value.specs.declared.values.Value.TheVariants as value
 use Rattle.mon_meaning.proofs.FilterLemmas.{all-permutation, filter_map-permutation, flat_map-agree, map-agree, map-map}
 use Rattle.mon_meaning.proofs.KeyOrders as orders
+use Rattle.mon_fold.proofs.GroupBounds.{unless_count}
 
 -- ---- groups
 
@@ -137,20 +138,12 @@ sums_alike xs ys same column fit time =
     let equal = sum_by-IsPermutation magnitude _ _ (column_alike column (rows_at time xs) (rows_at time ys) at) in
     rw equal (fit time)
 
-unless_alike : (what : AggregateKind) (P Q : Type 0) → (P → Q) → UnlessCount what P → UnlessCount what Q
-unless_alike kind.Sum P Q f p = f p
-unless_alike kind.Count P Q f p = tt
-unless_alike kind.Min P Q f p = f p
-unless_alike kind.Max P Q f p = f p
-unless_alike kind.Mean P Q f p = f p
-unless_alike kind.Merge P Q f p = f p
-
 all_sums : (xs ys : List TimedRow) → IsPermutation xs ys → (with : List Aggregate)
     → AllByRecursion (λ (aggregate : Aggregate). UnlessCount aggregate.what (SumsFit xs aggregate.column)) with
     → AllByRecursion (λ (aggregate : Aggregate). UnlessCount aggregate.what (SumsFit ys aggregate.column)) with
 all_sums xs ys same [] all = tt
 all_sums xs ys same (aggregate ∷ with) all = (
-  unless_alike aggregate.what (SumsFit xs aggregate.column) (SumsFit ys aggregate.column)
+  unless_count aggregate.what (SumsFit xs aggregate.column) (SumsFit ys aggregate.column)
       (sums_alike xs ys same aggregate.column) all.0,
   all_sums xs ys same with all.1,
 )

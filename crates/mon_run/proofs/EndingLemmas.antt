@@ -28,7 +28,7 @@ use Rattle.mon_run.specs.declared.stop.Stop.TheVariants as stop
 use Rattle.mon_run.specs.within.Lines.{AllRanLines, LinesHalt, LinesRan, ScriptEnds, TextEnds}
 use Rattle.mon_run.specs.within.Stops.{Closes, Done, Ends, Stops, script_stop}
 use Rattle.mon_run.proofs.EndLemmas.{refused_script}
-use Rattle.part_runs.proofs.GrownLemmas.{fronts_grown, fronts_none, grown_fronts, grown_none}
+use Rattle.part_runs.proofs.GrownLemmas.{fronts_grown, grown_fronts, grown_none}
 use Rattle.mon_run.proofs.PartLemmas.{behind_all}
 use Rattle.mon_run.proofs.StepLemmas.{did_by, did_none}
 use Rattle.run_theory.specs.Parts.{Part}
@@ -40,6 +40,7 @@ use Rattle.run_traces.specs.LineTexts.{line_text}
 use Rattle.run_traces.specs.RanLines.{RanLine, parts_of, ran_lines}
 use Rattle.run_traces.specs.declared.traces.LineTrace.{LineTrace}
 use Rattle.standing.specs.StandingStates.{standing_state}
+use Rattle.running_query.proofs.GoingLemmas.{same_fronts}
 
 -- ---- the laws of runs
 
@@ -157,10 +158,10 @@ module _ (config : Config) (lines : List ScriptLine) (ended : Histories) (before
         traces) (traces_are lines_ran.traces lines_ran.ends)
         (record {
           known = ended;
-          front = fronts_none ended;
+          front = same_fronts ended;
           whole = inr refl;
           held = sound;
-          holds = holds files ended lines_ran.traces (traces_are lines_ran.traces lines_ran.ends) (fronts_none ended)
+          holds = holds files ended lines_ran.traces (traces_are lines_ran.traces lines_ran.ends) (same_fronts ended)
               lines_ran.grown lines_ran.ran;
         });
   }

@@ -1,4 +1,5 @@
 -- The input of a number, piece by piece; and the number that a word spells.
+use Rattle.std.proofs.lemmas.Bool.{ltb-true}
 use Rattle.std.proofs.Common.{◌≡◌, ◌∙◌, ◌<◌, ◌^◌, ◌&&◌, ℕ, Bool, true, false, List, [], ◌∷◌, ◌++◌, length, map, nat_lt}
 use Rattle.std.proofs.Common.{cond, Some, None, Result, Ok, Err, refl, sym, ap, subst, append_assoc, append-nil, arith}
 use Rattle.std.proofs.lemmas.Bool.Decides.{nat_tests}
@@ -84,9 +85,6 @@ written_cut {number} {left} piece text rest stopped {before} {now} after written
 own : IsNumeralModel (λ ds. all_ascii_digits ds ≡ true) (digits_value 10)
 own = numerals_by_value (λ ds. all_ascii_digits ds ≡ true) tells_all_ascii_digits
 
-is_less : (a b : ℕ) → nat_lt a b ≡ true → a < b
-is_less a b e = grind (arith, nat_tests)
-
 less_is : (a b : ℕ) → a < b → nat_lt a b ≡ true
 less_is a b e = grind (arith, nat_tests)
 
@@ -106,7 +104,7 @@ failed text digits not =
   where
     by : (a b : Bool) → nat_lt 0 (length text) ≡ a → nat_lt (digits_value 10 text) (2 ^ 64) ≡ b → a && (true && b)
         ≡ false
-    by true true some small = absurd (not (is_less 0 (length text) some, is_less (digits_value 10 text) (2 ^ 64) small))
+    by true true some small = absurd (not (ltb-true 0 (length text) some, ltb-true (digits_value 10 text) (2 ^ 64) small))
     by true false some small = refl
     by false b some small = refl
 

@@ -23,7 +23,6 @@ use Rattle.mon_run.specs.within.Lines.{alone_in, block_in, block_traces, forms_o
 use Rattle.mon_run.specs.within.Stops.{Counts, Ran, Stops, WriteStops}
 use Rattle.mon_run.proofs.BlockLemmas.{IsBlock, IsLine}
 use Rattle.mon_run.proofs.EndLemmas.{causes_earlier}
-use Rattle.part_runs.proofs.GrownLemmas.{fronts_none}
 use Rattle.mon_run.proofs.LineLemmas.{lines_cut, lines_early, lines_went}
 use Rattle.mon_run.proofs.PartLemmas.{all_act, alone_left, alone_part, beside_ran, block_ends, block_left, block_part}
 use Rattle.mon_run.proofs.PartLemmas.{IsPart, ran_both, ran_forms}
@@ -37,6 +36,7 @@ use Rattle.run_traces.specs.LineTexts.{line_text}
 use Rattle.run_traces.specs.RanLines.{RanLine, content_for, ran_lines}
 use Rattle.run_traces.specs.declared.traces.LineTrace.{LineTrace}
 use Rattle.run_traces.specs.declared.traces.LineTrace.TheVariants as came
+use Rattle.running_query.proofs.GoingLemmas.{same_fronts}
 
 -- ---- a part that ran, or was cut in its texts
 
@@ -81,7 +81,7 @@ pub early_read : (reads : Plan → Plan) (known : Histories) (stopped : Stop) {b
     → StoppedEarly reads known known stopped before after
 early_read reads known stopped ends stops = record {
   ends = ends;
-  front = fronts_none known;
+  front = same_fronts known;
   whole = inr refl;
   stops = stops starved_plan;
 }
@@ -336,7 +336,7 @@ alone_halts {config} {line} {behind} {from} {known} stopped is halts = record {
       what = line.what;
       content = content_for (content_of files) line.what;
       trace = late.trace;
-    }) is.acts) behind stopped (fronts_none known) late.cut
+    }) is.acts) behind stopped (same_fronts known) late.cut
   ];
   causes = halts.causes;
 }
@@ -406,7 +406,7 @@ block_halts {config} {line} {behind} {from} {known} {before} {after} lines left 
     | inr late ↦ subst (λ (all : List ScriptLine). LinesStopped config files all stopped from known before after)
         (sym (block_whole line behind lines left is))
         (lines_cut (block_lines line is.ends.end lines) (block_count line is.ends.end late.traces lines late.count)
-        (block_is files line behind lines left late.traces is late.count) left stopped (fronts_none known) late.cut)
+        (block_is files line behind lines left late.traces is late.count) left stopped (same_fronts known) late.cut)
   ];
   causes = halts.causes;
 }

@@ -1,4 +1,5 @@
 -- A made input, a piece further.
+use Rattle.std.proofs.lemmas.Bool.{ltb-true}
 use Rattle.std.proofs.Common.{◌≡◌, ◌∙◌, ℕ, suc, ◌+◌, ◌-◌, ◌*◌, ◌<◌, ◌≤◌, nat_lt, Bool, true, false, cond, List, [], ◌∷◌}
 use Rattle.std.proofs.Common.{◌++◌, map, codes, refl, ap, arith, append_assoc}
 use Rattle.std.proofs.lemmas.Bool.Decides.{nat_tests}
@@ -8,9 +9,6 @@ use Rattle.mon_script.specs.Made.{points_pieces, rounds, section_line, tasks}
 use Rattle.mon_script.specs.MadePlaces.{IsPlace, pieces_left, place_behind}
 use Rattle.mon_script.specs.declared.made_input.Place.TheVariants as place
 use Rattle.mon_script.proofs.MadeLemmas.{round_more, rounds_are}
-
-lt_true : (a b : ℕ) → nat_lt a b ≡ true → a < b
-lt_true a b e = grind (arith, nat_tests)
 
 lt_false : (a b : ℕ) → nat_lt a b ≡ false → b ≤ a
 lt_false a b e = grind (arith, nat_tests)
@@ -58,7 +56,7 @@ round_next n file round below =
 
 behind_is : (n x file round : ℕ) → file < 4 → round < 100 → x ≡ number_before n file (round + 1) → (b : Bool)
     → nat_lt (round + 1) 100 ≡ b → IsPlace n x (cond b (place.Round file (round + 1)) (place.File (file + 1)))
-behind_is n x file round among below is true test = (among, lt_true (round + 1) 100 test, is)
+behind_is n x file round among below is true test = (among, ltb-true (round + 1) 100 test, is)
 behind_is n x file round among below is false test =
     let past : 100 ≤ round + 1 = lt_false (round + 1) 100 test in
     let next : 50000 * file + 500 * (round + 1) ≡ 50000 * (file + 1) + 500 * 0 = omega arith in

@@ -1,10 +1,11 @@
 -- What lines say by which queries stand, and at which those that are due are asked, is lawful.
-use Rattle.std.proofs.Common.{◌≡◌, ℕ, ◌+◌, ◌<◌, ℤ, ◌≤ℤ◌, ◌^◌, ◌-◌, ◌&&◌, ◌||◌, ◌==◌, pos, int_le, nat_le, Option, Some, None}
+use Rattle.std.proofs.lemmas.Bool.{and_parts}
+use Rattle.std.proofs.Common.{◌≡◌, ℕ, ◌+◌, ◌<◌, ℤ, ◌≤ℤ◌, ◌^◌, ◌-◌, ◌&&◌, pos, int_le, nat_le, Option, Some, None}
 use Rattle.std.proofs.Common.{option_and_then, Bool, true, false, cond, List, [], ◌∷◌, length, Result, Ok, Err, refl, subst, ap, ◌∙◌}
 use Rattle.std.proofs.Common.{arith}
-use Rattle.std.specs.List.{All, AllByRecursion, list_all}
+use Rattle.std.specs.List.{All, list_all}
 use Rattle.std.specs.Option.{ok_or}
-use Rattle.std.specs.Str.{IsUtf8, is_utf8}
+use Rattle.std.specs.Str.{is_utf8}
 use Rattle.std.proofs.lemmas.Bool.Decides.{nat_tests}
 use Rattle.std.proofs.lemmas.Int.{ints}
 use Rattle.std.proofs.lemmas.List.Elements.{All-cons, All-nil}
@@ -104,10 +105,6 @@ module _ (zones : List ZoneSpec) where
 
 -- ---- names
 
-split : (a b : Bool) → (a && b) ≡ true → (a ≡ true) × (b ≡ true)
-split true b is = (refl, is)
-split false b is = absurd cc
-
 start_small : (byte : ℕ) → is_name_start byte ≡ true → byte < 128
 start_small byte is = grind (arith, nat_tests, is)
 
@@ -117,7 +114,7 @@ byte_small byte is = grind (arith, nat_tests, is)
 all_small : (name : List ℕ) → list_all is_name_byte name ≡ true → All (λ b. b < 128) name
 all_small [] is = All-nil (λ b. b < 128)
 all_small (byte ∷ rest) is =
-    let both = split (is_name_byte byte) (list_all is_name_byte rest) is in
+    let both = and_parts (is_name_byte byte) (list_all is_name_byte rest) is in
     All-cons (λ b. b < 128) byte rest (byte_small byte both.0) (all_small rest both.1)
 
 -- a name is text
@@ -125,8 +122,8 @@ pub name_utf8 : (name : List ℕ) → is_name name ≡ true → is_utf8 name ≡
 unfolding is_name
 name_utf8 [] is = absurd cc
 name_utf8 (first ∷ rest) is =
-    let head = split (is_name_start first) (list_all is_name_byte rest && nat_le (length rest + 1) LONGEST_NAME) is in
-    let tail = split (list_all is_name_byte rest) (nat_le (length rest + 1) LONGEST_NAME) head.1 in
+    let head = and_parts (is_name_start first) (list_all is_name_byte rest && nat_le (length rest + 1) LONGEST_NAME) is in
+    let tail = and_parts (list_all is_name_byte rest) (nat_le (length rest + 1) LONGEST_NAME) head.1 in
     is_utf8-from_IsUtf8 (first ∷ rest) (IsUtf8-from_ascii (first ∷ rest) (IsAscii-from_all (first ∷ rest)
     (All-cons (λ b. b < 128) first rest (start_small first head.0) (all_small rest tail.0))))
 

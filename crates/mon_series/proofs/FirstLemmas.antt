@@ -1,4 +1,5 @@
 -- The first entry whose key passes a test: where a look-up finds it, and what a value put there changes.
+use Rattle.std.proofs.lemmas.Option.{same_Some}
 use Rattle.std.proofs.Common.{◌≡◌, ◌∙◌, Result, Ok, Err, OnErr, ◌<◌, ◌+◌, nat_lt, not, position, arith, ℕ, zero, suc}
 use Rattle.std.proofs.Common.{Bool, true, false, cond, Some, None, List, [], ◌∷◌, map, length, refl, sym, ap}
 use Rattle.std.proofs.Common.{slice_get}
@@ -7,9 +8,6 @@ use Rattle.std.specs.Map.{keys_of, lookup}
 use Rattle.std.proofs.lemmas.Bool.Decides.{nat_tests}
 use Rattle.std.proofs.lemmas.List.{length-map}
 use Rattle.indexmap.specs.Layout.{set_value_at}
-
-same_some : {V : Type 0} (a b : V) → Some a ≡ Some b → a ≡ b
-same_some a b e = cc
 
 position_by : (n m at : ℕ) (b : Bool) → nat_lt n m ≡ b → cond b (Some n) None ≡ Some at → (n ≡ at) × (at < m)
 position_by n m at true less is = let same : n ≡ at = cc in (same, grind (arith, nat_tests))
@@ -20,13 +18,13 @@ module _ {K V : Type 0} where
   pub set_same : (entries : List (K × V)) (n : ℕ) (value : V) → Some value ≡ slice_get (map (λ e. e.1) entries) n
       → set_value_at entries n value ≡ entries
   set_same [] n value e = refl
-  set_same (entry ∷ entries) zero value e = ap (λ v. (entry.0, v) ∷ entries) (same_some value entry.1 e)
+  set_same (entry ∷ entries) zero value e = ap (λ v. (entry.0, v) ∷ entries) (same_Some value entry.1 e)
   set_same (entry ∷ entries) (suc n) value e = ap (λ more. entry ∷ more) (set_same entries n value e)
 
   pub get_there : (entries : List (K × V)) (n : ℕ) (value : V) → Some value ≡ slice_get (map (λ e. e.1) entries) n
       → (key : K) × (slice_get entries n ≡ Some (key, value))
   get_there [] n value e = absurd cc
-  get_there (entry ∷ entries) zero value e = (entry.0, ap (λ v. Some (entry.0, v)) (sym (same_some value entry.1 e)))
+  get_there (entry ∷ entries) zero value e = (entry.0, ap (λ v. Some (entry.0, v)) (sym (same_Some value entry.1 e)))
   get_there (entry ∷ entries) (suc n) value e = get_there entries n value e
 
 module _ {K V : Type 0} (test : K → Bool) where

@@ -20,7 +20,6 @@ use Rattle.mon_value.specs.LeafHistories.{IsDownAt}
 use Rattle.mon_value.specs.declared.histories.RangeEntry.{RangeEntry}
 use Rattle.mon_value.specs.declared.positions.Leaf.{Leaf}
 use Rattle.mon_value.specs.declared.positions.Range.{Range}
-use Rattle.mon_store.proofs.OwnLemmas.{fronts_through}
 use Rattle.mon_store.proofs.WriteLemmas.{IsCarried, no_rooms}
 use Rattle.mon_store.specs.Passes.{IsPass}
 use Rattle.mon_store.specs.Writes.{WasFoundSo}
@@ -28,6 +27,7 @@ use Rattle.running_query.specs.Ends.{WasFoundDown}
 use Rattle.range_cell.specs.Calls.{HasBegun, HasMetRange}
 use Rattle.range_cell.specs.Rest.{others}
 use Rattle.range_cell.specs.Writing.{IsNotedSince}
+use Rattle.running_query.proofs.GoingLemmas.{fronts_through}
 
 -- from the range's lock to the last of its leaves
 pub record HasGoneOver (begun mid : Knowledge) : Type 0 where

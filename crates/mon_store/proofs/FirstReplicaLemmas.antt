@@ -7,9 +7,8 @@ use Rattle.std.specs.List.{flat_map, range_with_len}
 use Rattle.std.proofs.lemmas.Bool.{cases_lt, eq-eqb, or_right}
 use Rattle.std.proofs.lemmas.List.{get_or_past, take_all}
 use Rattle.std.proofs.lemmas.List.Concat.{flat_map-append}
-use Rattle.std.proofs.lemmas.List.Elements.{Contains-append_left, Contains-append_right, Contains-get_or}
-use Rattle.std.proofs.lemmas.Option.{slice_get_within}
-use Rattle.mon_topo.proofs.FirstLemmas.{no_acks}
+use Rattle.std.proofs.lemmas.List.Elements.{Contains-append_right}
+use Rattle.mon_topo.proofs.FirstLemmas.{no_acks, here_contains, opening_at, no_acks_yet}
 use Rattle.mon_topo.proofs.FirstOpenings.{open_up_to, replica_there}
 use Rattle.mon_topo.specs.FirstHistories.{first_range_history, opened_before, opened_here, opened_of, opened_up_to}
 use Rattle.mon_topo.specs.FirstHistories.{opening, openings_from, slot_numbered}
@@ -97,25 +96,6 @@ module _ (range : Range) (slot : Slot) where
 
 -- ---- they stand on their leaves
 
-here_contains : (leaf : Leaf) (range : Range) (slot : ℕ) (leaves : List Leaf) (k : ℕ) → slice_get leaves k ≡ Some leaf
-    → Contains (opened_here leaf range slot leaves) (opening range (slot + k))
-here_contains leaf range slot [] k is = let l = slice_get_within [] k leaf is in absurd (omega (arith, l))
-here_contains leaf range slot (other ∷ leaves) zero is =
-    let same : other ≡ leaf = cc in
-    let test : same_leaf leaf other ≡ true = eq-eqb leaf.0 other.0 (ap (λ (l : Leaf). l.0) (sym same)) in
-    let there : Contains (opening range slot ∷ []) (opening range slot)
-    = Contains-get_or (opening range slot ∷ []) 0 (opening range slot) (omega arith) in
-    let one : Contains (cond (same_leaf leaf other) (opening range slot ∷ []) []) (opening range slot)
-    = subst (λ (b : Bool). Contains (cond b (opening range slot ∷ []) []) (opening range slot)) (sym test) there in
-    subst (λ (n : ℕ). Contains (opened_here leaf range slot (other ∷ leaves)) (opening range n)) (omega arith)
-    (Contains-append_left (cond (same_leaf leaf other) (opening range slot ∷ []) [])
-    (opened_here leaf range (slot + 1) leaves) (opening range slot) one)
-here_contains leaf range slot (other ∷ leaves) (suc k) is =
-    subst (λ (n : ℕ). Contains (opened_here leaf range slot (other ∷ leaves)) (opening range n)) (omega arith)
-    (Contains-append_right (cond (same_leaf leaf other) (opening range slot ∷ []) [])
-    (opened_here leaf range (slot + 1) leaves) (opening range ((slot + 1) + k))
-    (here_contains leaf range (slot + 1) leaves k is))
-
 -- ---- which replicas serve
 
 abbrev replicas_from : ℕ → List Leaf → List SlotLeaf
@@ -146,35 +126,6 @@ in_slot (leaf ∷ leaves) k replica (zero, l, same) = record {
 in_slot (leaf ∷ leaves) k replica (suc n, l, same) =
     let rest = in_slot leaves (k + 1) replica (n, omega arith, same) in
     record { j = suc rest.j; there = rest.there; slot = ap slot_numbered (omega arith) ∙ rest.slot }
-
-no_acks_yet : (k slot : ℕ) (leaves : List Leaf) → acknowledged_rows (take k (openings_from slot leaves)) ≡ []
-no_acks_yet zero slot leaves = refl
-no_acks_yet (suc k) slot [] = refl
-no_acks_yet (suc k) slot (leaf ∷ leaves) = no_acks_yet k (slot + 1) leaves
-
--- an opening at a place of a range's history
-record IsOpeningAt (leaves : List Leaf) (slot k : ℕ) (e : RangeEntry) : Type 0 where
-  leaf : Leaf
-  there : slice_get leaves k ≡ Some leaf
-  is : e ≡ range_entry.Opened 0 (slot_numbered (slot + k)) leaf
-
-opening_at : (leaves : List Leaf) (slot k : ℕ) (e : RangeEntry) → slice_get (openings_from slot leaves) k ≡ Some e
-    → IsOpeningAt leaves slot k e
-opening_at [] slot k e is = let l = slice_get_within [] k e is in absurd (omega (arith, l))
-opening_at (leaf ∷ leaves) slot zero e is =
-    let same : range_entry.Opened 0 (slot_numbered slot) leaf ≡ e = cc in
-    record {
-      leaf = leaf;
-      there = refl;
-      is = sym same ∙ ap (λ n. range_entry.Opened 0 (slot_numbered n) leaf) (omega arith);
-    }
-opening_at (leaf ∷ leaves) slot (suc k) e is =
-    let more = opening_at leaves (slot + 1) k e is in
-    record {
-      leaf = more.leaf;
-      there = more.there;
-      is = more.is ∙ ap (λ n. range_entry.Opened 0 (slot_numbered n) more.leaf) (omega arith);
-    }
 
 -- ---- the range
 

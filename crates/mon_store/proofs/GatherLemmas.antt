@@ -1,12 +1,11 @@
 -- What a caller has while it gathers the rows of one slot after another.
 use Rattle.std.proofs.Common.{◌≡◌, ℕ, ◌+◌, ◌-◌, ◌^◌, ◌≤◌, ◌<◌, List, [], ◌∷◌, ◌++◌, length, take, drop, min, refl, sym}
-use Rattle.std.proofs.Common.{ap, subst, ◌∙◌, arith, Option, Some, None}
-use Rattle.std.specs.Prelude.{option_map, slice_get, slice_index_or, get_or, zero, suc}
+use Rattle.std.proofs.Common.{ap, subst, ◌∙◌, arith, Some}
+use Rattle.std.specs.Prelude.{slice_get, slice_index_or, get_or, zero, suc}
 use Rattle.std.specs.List.{AllByRecursion, flat_map}
 use Rattle.std.proofs.lemmas.List.{append_assoc, drop_more, length-append}
 use Rattle.std.proofs.lemmas.List.Elements.{Contains-get_or}
 use Rattle.history_book.proofs.ListLemmas.{prefix_length, prefix_refl}
-use Rattle.history_book.specs.declared.views.Kept.{Kept}
 use Rattle.know.specs.Knowledge.{Knowledge, stopped_count}
 use Rattle.mon_topo.proofs.FrontLemmas.{begins_from, take_on}
 use Rattle.mon_topo.proofs.RangeHistoryLemmas.{all_at}
@@ -20,13 +19,14 @@ use Rattle.mon_value.specs.declared.positions.Range.{Range}
 use Rattle.mon_value.specs.declared.positions.Slot.{Slot}
 use Rattle.mon_value.specs.declared.rows.Row.{Row}
 use Rattle.leaf_cell.specs.Visits.{HasGathered}
-use Rattle.owners.specs.Calls.{HasCalled, HasLooked, kept_with_all}
+use Rattle.owners.specs.Calls.{HasCalled, HasLooked}
 use Rattle.query_core.specs.Traces.{cut_of, resolved_rows, source_of}
 use Rattle.query_core.specs.declared.answers.Resolved.{Resolved}
 use Rattle.query_core.specs.declared.answers.Trace.{Trace}
-use Rattle.mon_store.proofs.OwnLemmas.{fronts_through}
 use Rattle.mon_store.specs.Gathers.{HasSeenTrace}
 use Rattle.mon_store.specs.Passes.{OwnsTheSame}
+use Rattle.range_cell.proofs.LookingLemmas.{none_kept}
+use Rattle.running_query.proofs.GoingLemmas.{fronts_through}
 
 pub owns_itself : (know : Knowledge) → OwnsTheSame know know
 owns_itself know = record {
@@ -50,15 +50,11 @@ owns_on a b c h k = record {
   holds = k.holds ∙ h.holds;
 }
 
-same_kept : (leaf : Leaf) (own : Option Kept) → option_map (kept_with_all leaf []) own ≡ own
-same_kept leaf None = refl
-same_kept leaf (Some kept) = refl
-
 called_same : (leaf : Leaf) (history : List Entry) (before after : Knowledge) → HasCalled leaf history [] before after
     → after.purse.rooms ≡ before.purse.rooms → OwnsTheSame before after
 called_same leaf history before after called rooms = record {
   fronts = called.fronts;
-  own = called.own ∙ same_kept leaf before.purse.own;
+  own = called.own ∙ none_kept leaf before.purse.own;
   met = called.met;
   stock = called.stock;
   lost = called.lost;

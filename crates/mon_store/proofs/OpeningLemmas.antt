@@ -28,10 +28,11 @@ use Rattle.mon_value.specs.declared.positions.Range.{Range}
 use Rattle.range_cell.proofs.NewRangeLemmas.{range_with_entries, ranges_beside_entries}
 use Rattle.range_cell.specs.NewRanges.{HasBeenLent, HasOpenedFirst, NewRangeView, kept_with_entries, with_entries}
 use Rattle.range_cell.specs.Rest.{others}
-use Rattle.mon_store.proofs.SameLemmas.{fronts_itself, fronts_through, joined_same, leaf_else, leaf_here, same_entries}
+use Rattle.mon_store.proofs.SameLemmas.{joined_same, leaf_else, leaf_here, same_entries}
 use Rattle.mon_store.proofs.SameLemmas.{same_entry, same_through, same_back}
 use Rattle.mon_store.specs.Openings.{AreSame, HasOpenedAt, HoldsOnly, IsBareAt, IsNewLeafAt, IsOpenedUpTo}
 use Rattle.mon_store.specs.Openings.{IsOpening, opened_range}
+use Rattle.running_query.proofs.GoingLemmas.{fronts_through, same_fronts}
 
 -- ---- what was seen stays the same
 
@@ -190,7 +191,7 @@ module _ (zones : List ZoneSpec) (range slot : ℕ) (leaves : List NewLeafView) 
               (record {
                 leaf_is = took.took.same_leaf ∙ leaf_is ∙ number;
                 fronts = subst (λ (s : Histories). AreFronts s after.seen) (sym took.took.both)
-                    (fronts_itself after.seen);
+                    (same_fronts after.seen);
                 whole = ap (λ (s : Histories). leaf_history s (leaf_numbered n)) took.took.both;
               })
           | inr apart ↦

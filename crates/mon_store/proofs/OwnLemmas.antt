@@ -5,7 +5,7 @@ use Rattle.std.specs.Prelude.{Contains}
 use mathlib.Core.List.{IsPrefix}
 use Rattle.std.proofs.lemmas.List.{append_cancel_left, drop-append-le, drop_all, map-append}
 use Rattle.std.proofs.lemmas.List.Elements.{filter-append}
-use Rattle.history_book.proofs.ListLemmas.{prefix_filter, prefix_length, prefix_trans, prefix_whole}
+use Rattle.history_book.proofs.ListLemmas.{prefix_filter, prefix_length, prefix_whole}
 use Rattle.history_book.specs.Histories.{AreFronts, entries, is_under}
 use Rattle.history_book.specs.Seats.{IsPurseBorneOut, kept_in}
 use Rattle.history_book.specs.declared.views.BookEntry.{BookEntry}
@@ -35,12 +35,6 @@ entries_front a b front (of.Leaf leaf) =
     prefix_map (λ e. one.Leaf e) (leaf_history a leaf) (leaf_history b leaf) (front.0 leaf)
 entries_front a b front (of.Range range) =
     prefix_map (λ e. one.Range e) (range_history a range) (range_history b range) (front.1 range)
-
-pub fronts_through : (a b c : Histories) → AreFronts a b → AreFronts b c → AreFronts a c
-fronts_through a b c p q = (
-  λ leaf. prefix_trans (leaf_history a leaf) (leaf_history b leaf) (leaf_history c leaf) (p.0 leaf) (q.0 leaf),
-  λ range. prefix_trans (range_history a range) (range_history b range) (range_history c range) (p.1 range) (q.1 range),
-)
 
 pub within_front : (a b : Histories) → AreFronts a b → AreWithin a b
 within_front a b front = record {

@@ -1,5 +1,5 @@
 -- How a recovery at its range's cell ends is how a recovery of the store ends.
-use Rattle.std.proofs.Common.{◌≡◌, ℕ, ◌+◌, ◌<◌, ◌≤◌, true, List, [], ◌∷◌, ◌++◌, length, map, filter, Option, Some, None}
+use Rattle.std.proofs.Common.{◌≡◌, ℕ, ◌+◌, ◌<◌, ◌≤◌, true, List, [], ◌∷◌, ◌++◌, length, map, filter, Some, None}
 use Rattle.std.proofs.Common.{nat_eq, refl, sym, ap, subst, ◌∙◌, arith, append-nil, append_assoc}
 use Rattle.std.specs.Prelude.{Result, Ok, Err, Contains, IfErr, IfOk, OnErr, option_map}
 use mathlib.Core.List.{IsPrefix}
@@ -7,7 +7,6 @@ use Rattle.std.proofs.lemmas.Bool.Decides.{nat_tests}
 use Rattle.std.proofs.lemmas.List.{map-append}
 use Rattle.std.proofs.lemmas.List.Elements.{Contains-push}
 use Rattle.history_book.proofs.ListLemmas.{prefix_contains, prefix_refl}
-use Rattle.history_book.specs.Books.{BookIdentity}
 use Rattle.history_book.specs.Histories.{entries, is_under}
 use Rattle.history_book.specs.Seats.{IsPurseBorneOut, kept_with, length_note, times_range, times_room}
 use Rattle.history_book.specs.declared.views.BookEntry.{BookEntry}
@@ -16,7 +15,6 @@ use Rattle.history_book.specs.declared.views.History.{History}
 use Rattle.history_book.specs.declared.views.History.TheVariants as of
 use Rattle.history_book.specs.declared.views.Kept.{Kept}
 use Rattle.know.specs.Knowledge.{Knowledge, stopped_count}
-use Rattle.know.specs.Tables.{AreTablesOf}
 use Rattle.mon_config.specs.declared.config.Config.{Config}
 use Rattle.mon_topo.proofs.FrontLemmas.{begins_push, begins_same, begins_through}
 use Rattle.mon_topo.specs.HeldHistories.{BeginsWith}
@@ -38,7 +36,7 @@ use Rattle.mon_store.proofs.AddedLemmas.{entries_with}
 use Rattle.mon_store.proofs.CarriedLemmas.{HasGoneOver, HasReturned, asked_carried, asked_found, front_begins}
 use Rattle.mon_store.proofs.CarriedLemmas.{over_carried, over_down, over_found}
 use Rattle.mon_store.proofs.GrownLemmas.{HasComeBehind, many_seen}
-use Rattle.mon_store.proofs.OwnLemmas.{fronts_through, prefix_from}
+use Rattle.mon_store.proofs.OwnLemmas.{prefix_from}
 use Rattle.mon_store.proofs.RefusedLemmas.{given_back}
 use Rattle.mon_store.proofs.WriteLemmas.{IsCarried, added_new, added_own, added_still, all_counted, has_own, own_is}
 use Rattle.mon_store.proofs.WriteLemmas.{same_pass, unwritten, written_pass}
@@ -50,13 +48,14 @@ use Rattle.running_query.specs.Ends.{WasFoundDown}
 use Rattle.range_cell.proofs.HoldingLemmas.{looked_so}
 use Rattle.range_cell.proofs.LookingLemmas.{down_now, looks_on}
 use Rattle.range_cell.specs.Calls.{HasBegun, HasGivenBack, HasMetRange}
-use Rattle.range_cell.specs.Recoveries.{AtItsLeaf, AtLock, Behind, HasCarried, HasEndedSo, HasFoundNoMemory}
+use Rattle.range_cell.specs.Recoveries.{AtItsLeaf, AtLock, Behind, HasCarried, HasFoundNoMemory}
 use Rattle.range_cell.specs.Recoveries.{HasFoundTargetDown, HasNotRecovered, HasOpened, HasRecovered, HasReturned as HasComeBack}
 use Rattle.range_cell.specs.Recoveries.{IsFoundDown, IsLooking, OnTheWay, RanShort, after_copying}
 use Rattle.range_cell.specs.declared.answers.RecoverFault.{RecoverFault}
 use Rattle.range_cell.specs.declared.answers.RecoverFault.TheVariants as fault
 use Rattle.write_core.specs.Openings.{denial_of}
 use Rattle.write_core.specs.declared.copies.Denial.TheVariants.{ServesFully, ServesThere, SlotsSpent}
+use Rattle.running_query.proofs.GoingLemmas.{fronts_through}
 
 -- ---- the count of rows alone is another
 

@@ -1,6 +1,7 @@
 -- How a write that its range's cell refuses is refused by the store.
-use Rattle.std.proofs.Common.{◌≡◌, ℕ, Bool, true, false, List, [], ◌∷◌, ◌++◌, length, map, refl, sym, ap, subst}
-use Rattle.std.proofs.Common.{◌∙◌, Option, Some, None, ◌+◌, ◌||◌}
+use Rattle.std.proofs.lemmas.Bool.{or_parts}
+use Rattle.std.proofs.Common.{◌≡◌, ℕ, true, false, List, [], ◌∷◌, ◌++◌, length, map, refl, sym, ap, subst}
+use Rattle.std.proofs.Common.{◌∙◌, Option, Some, None, ◌+◌}
 use Rattle.std.specs.Prelude.{Contains, option_map, ℤ}
 use Rattle.std.specs.List.{flat_map}
 use Rattle.history_book.specs.Seats.{length_note}
@@ -119,11 +120,6 @@ missed_one mark fate.Ready d n = absurd cc
 missed_one mark fate.Took d n = absurd cc
 missed_one mark (fate.Missed cut) d n = (cut, refl)
 
-both_false : (a b : Bool) → (a || b) ≡ false → (a ≡ false) × (b ≡ false)
-both_false false false e = (refl, refl)
-both_false false true e = absurd cc
-both_false true b e = absurd cc
-
 put_none : (pass : ℕ) (range : Range) (row : Row) (mark : Mark) (f : Fate) (kept : Kept) → has_taken f ≡ false
     → with_put_of pass range row mark f kept ≡ kept
 put_none pass range row mark fate.Waiting kept n = refl
@@ -135,7 +131,7 @@ puts_none : (pass : ℕ) (range : Range) (row : Row) (marks : List Mark) (kept :
     → with_puts pass range row marks kept ≡ kept
 puts_none pass range row [] kept n = refl
 puts_none pass range row (mark ∷ marks) kept n =
-    let parts = both_false (has_taken mark.fate) (some_took marks) n in
+    let parts = or_parts (has_taken mark.fate) (some_took marks) n in
     ap (with_puts pass range row marks) (put_none pass range row mark mark.fate kept parts.0)
     ∙ puts_none pass range row marks kept parts.1
 
@@ -159,7 +155,7 @@ found_leaves : (marks : List Mark) → AreAll is_decided marks → some_took mar
     ≡ map (λ (replica : SlotLeaf). replica.leaf) (map replica_of marks)
 found_leaves [] d n = refl
 found_leaves (mark ∷ marks) d n =
-    let parts = both_false (has_taken mark.fate) (some_took marks) n in
+    let parts = or_parts (has_taken mark.fate) (some_took marks) n in
     map_both (λ (found : FoundDown). found.leaf) (found_in_mark mark) (flat_map found_in_mark marks)
     ∙ (λ i. found_leaf_at mark mark.fate d.0 parts.0 i ++ found_leaves marks d.1 parts.1 i)
 

@@ -4,7 +4,7 @@ use Rattle.std.proofs.Common.{◌∙◌}
 use Rattle.std.proofs.Common.{inl, inr}
 use Rattle.std.proofs.lemmas.Bool.{cases_eq}
 use mathlib.Core.List.{IsPrefix}
-use Rattle.history_book.proofs.ListLemmas.{added_else, added_here, longer_cases, prefix_refl, prefix_trans}
+use Rattle.history_book.proofs.ListLemmas.{added_else, added_here, longer_cases}
 use Rattle.history_book.proofs.ListLemmas.{prefix_whole}
 use Rattle.history_book.specs.declared.views.BookEntry.TheVariants as one
 use Rattle.history_book.specs.declared.views.History.TheVariants as of
@@ -35,16 +35,6 @@ pub same_back : (a b : Histories) → AreSame a b → AreSame b a
 same_back a b p = record { leaves = λ leaf. sym (p.leaves leaf); ranges = λ range. sym (p.ranges range) }
 
 -- ---- fronts
-
-pub fronts_itself : (a : Histories) → AreFronts a a
-fronts_itself a = ((λ leaf. prefix_refl (leaf_history a leaf)), (λ range. prefix_refl (range_history a range)))
-
-pub fronts_through : (a b c : Histories) → AreFronts a b → AreFronts b c → AreFronts a c
-fronts_through a b c p q = (
-  (λ leaf. prefix_trans (leaf_history a leaf) (leaf_history b leaf) (leaf_history c leaf) (p.0 leaf) (q.0 leaf)),
-  (λ range. prefix_trans (range_history a range) (range_history b range) (range_history c range) (p.1 range)
-      (q.1 range)),
-)
 
 longer_behind : {X : Type 0} (xs ys : List X) → IsPrefix xs ys → longer xs ys ≡ ys
 longer_behind xs ys p = longer_cases xs ys (λ w. w ≡ ys) (λ l. refl) (λ l. prefix_whole xs ys p l)

@@ -27,8 +27,8 @@ use Rattle.mon_value.specs.declared.positions.Leaf.{Leaf}
 use Rattle.mon_value.specs.declared.positions.Range.{Range}
 use Rattle.range_cell.specs.Rest.{others}
 use Rattle.raise_table.specs.declared.views.Hints.{Hints}
-use Rattle.mon_store.proofs.SameLemmas.{fronts_itself}
 use Rattle.mon_store.specs.Openings.{IsNewLeafAt, IsOpening, first_leaf}
+use Rattle.running_query.proofs.GoingLemmas.{same_fronts}
 
 -- ---- leaves by number
 
@@ -92,7 +92,7 @@ module _ (leaves ranges : ℕ) where
               subst (IsNewLeafAt (empty_histories leaves ranges) n) is
               (record {
                 leaf_is = ap leaf_numbered number;
-                fronts = fronts_itself (empty_histories leaves ranges);
+                fronts = same_fronts (empty_histories leaves ranges);
                 whole = refl;
               });
         };

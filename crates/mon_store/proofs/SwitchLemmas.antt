@@ -1,5 +1,5 @@
 -- How a switch at its leaf's cell ends is how a switch of the store ends.
-use Rattle.std.proofs.Common.{◌≡◌, ℕ, true, List, [], ◌∷◌, ◌++◌, map, filter, Option, Some, None}
+use Rattle.std.proofs.Common.{◌≡◌, ℕ, true, List, [], ◌∷◌, ◌++◌, map, filter, Some}
 use Rattle.std.proofs.Common.{refl, sym, ap, subst, ◌∙◌, arith, append-nil}
 use Rattle.std.specs.Prelude.{Result, Ok, Err, IfErr, IfOk, OnErr, option_map}
 use mathlib.Core.List.{IsPrefix}
@@ -34,14 +34,11 @@ use Rattle.mon_store.proofs.WriteLemmas.{same_pass, unwritten, written_pass}
 use Rattle.mon_store.specs.Passes.{IsPass}
 use Rattle.mon_store.specs.Switches.{IsNotSwitched, IsSwitched}
 use Rattle.mon_store.specs.Writes.{IsUnwritten, only_in, own_entries}
+use Rattle.range_cell.proofs.LookingLemmas.{none_kept}
 
 under_switch : (to : Control) (n : ℕ) → is_under n (one.Leaf (switch_entry to n)) ≡ true
 under_switch going.Down n = grind (arith, nat_tests)
 under_switch going.Up n = grind (arith, nat_tests)
-
-none_kept : (leaf : Leaf) (own : Option Kept) → option_map (kept_with_all leaf []) own ≡ own
-none_kept leaf None = refl
-none_kept leaf (Some kept) = refl
 
 module _ (setting : Setting) (leaf : Leaf) (to : Control) (before after : Knowledge) (is : IsPass setting before)
     (borne : IsPurseBorneOut after.seen after.purse) where

@@ -1,4 +1,5 @@
 -- Rows that are kept under their keys.
+use Rattle.std.proofs.lemmas.Bool.{false_from_ne_true}
 use Rattle.std.proofs.Common.{◌≡◌, ◌&&◌, Bool, true, false, cond, List, [], ◌∷◌, ◌++◌, map, Some, Vec, Bor, refl, sym}
 use Rattle.std.proofs.Common.{ap, ◌∙◌, append-nil}
 use Rattle.std.specs.Cmp.Lexicographic.{pointwise}
@@ -34,13 +35,9 @@ eq-same_join_key = λ i a b. both a b i
         a.cells.items b.cells.items) (λ i x y. eq-same_value x y i)
         ∙ ap (λ rest. int_eq a.time b.time && rest) (pointwise-now a.cells.items b.cells.items)
 
-is_false : (b : Bool) → (b ≡ true → ⊥) → b ≡ false
-is_false true h = absurd (h refl)
-is_false false h = refl
-
 same_row-back : (a b : TimedRow) (c : Bool) → same_row a b ≡ c → same_row b a ≡ c
 same_row-back a b true e = (same_row-Decides b a).1 (sym ((same_row-Decides a b).0 e))
-same_row-back a b false e = is_false (same_row b a) (λ h. let back : same_row a b ≡ true = (same_row-Decides a b).1
+same_row-back a b false e = false_from_ne_true (same_row b a) (λ h. let back : same_row a b ≡ true = (same_row-Decides a b).1
     (sym ((same_row-Decides b a).0 h)) in cc)
 
 -- ---- a row more

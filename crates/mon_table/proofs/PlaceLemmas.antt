@@ -1,4 +1,5 @@
 -- The places of the columns of two tables, and what stands there.
+use Rattle.std.proofs.lemmas.Bool.{false_from_ne_true}
 use Rattle.std.proofs.Common.{◌≡◌, ◌∙◌, ℕ, zero, suc, ◌+◌, ◌||◌, Bool, true, false, not, cond, List, [], ◌∷◌, ◌++◌}
 use Rattle.std.proofs.Common.{length, map, drop, replicate, Some, refl, ap, sym, arith, add-one}
 use Rattle.std.proofs.Common.{append_assoc, length-append}
@@ -12,14 +13,10 @@ use Rattle.mon_table.specs.Places.{left_places_of, marked, own_places, right_pla
 
 -- ---- texts are compared from either side
 
-is_false : (b : Bool) → (b ≡ true → ⊥) → b ≡ false
-is_false true h = absurd (h refl)
-is_false false h = refl
-
 pub same_text-back : (s t : List ℕ) (b : Bool) → same_text s t ≡ b → same_text t s ≡ b
 same_text-back s t true e = (same_text-Decides t s).1 (sym ((same_text-Decides s t).0 e))
 same_text-back s t false e =
-    is_false (same_text t s) (λ h. let back : same_text s t ≡ true = (same_text-Decides s t).1
+    false_from_ne_true (same_text t s) (λ h. let back : same_text s t ≡ true = (same_text-Decides s t).1
     (sym ((same_text-Decides t s).0 h)) in cc)
 
 -- ---- what stands at a place

@@ -175,7 +175,7 @@ pub no_acks : (slot : ℕ) (leaves : List Leaf) → acknowledged_rows (openings_
 no_acks slot [] = refl
 no_acks slot (leaf ∷ leaves) = no_acks (slot + 1) leaves
 
-no_acks_yet : (k slot : ℕ) (leaves : List Leaf) → acknowledged_rows (take k (openings_from slot leaves)) ≡ []
+pub no_acks_yet : (k slot : ℕ) (leaves : List Leaf) → acknowledged_rows (take k (openings_from slot leaves)) ≡ []
 no_acks_yet zero slot leaves = refl
 no_acks_yet (suc k) slot [] = refl
 no_acks_yet (suc k) slot (leaf ∷ leaves) = no_acks_yet k (slot + 1) leaves
@@ -230,12 +230,12 @@ module _ (held : SchemaLists) (zones : List ZoneSpec) (points : ℕ) (range : Ra
 -- ---- leaves bear ranges out
 
 -- what an opening at a place says
-record IsOpeningAt (leaves : List Leaf) (slot k : ℕ) (e : RangeEntry) : Type 0 where
-  leaf : Leaf
-  there : slice_get leaves k ≡ Some leaf
-  is : e ≡ range_entry.Opened 0 (slot_numbered (slot + k)) leaf
+pub record IsOpeningAt (leaves : List Leaf) (slot k : ℕ) (e : RangeEntry) : Type 0 where
+  pub leaf : Leaf
+  pub there : slice_get leaves k ≡ Some leaf
+  pub is : e ≡ range_entry.Opened 0 (slot_numbered (slot + k)) leaf
 
-opening_at : (leaves : List Leaf) (slot k : ℕ) (e : RangeEntry) → slice_get (openings_from slot leaves) k ≡ Some e
+pub opening_at : (leaves : List Leaf) (slot k : ℕ) (e : RangeEntry) → slice_get (openings_from slot leaves) k ≡ Some e
     → IsOpeningAt leaves slot k e
 opening_at [] slot k e is = let l = slice_get_within [] k e is in absurd (omega (arith, l))
 opening_at (leaf ∷ leaves) slot zero e is =
@@ -253,7 +253,7 @@ opening_at (leaf ∷ leaves) slot (suc k) e is =
       is = more.is ∙ ap (λ n. range_entry.Opened 0 (slot_numbered n) more.leaf) (omega arith);
     }
 
-here_contains : (leaf : Leaf) (range : Range) (slot : ℕ) (leaves : List Leaf) (k : ℕ) → slice_get leaves k ≡ Some leaf
+pub here_contains : (leaf : Leaf) (range : Range) (slot : ℕ) (leaves : List Leaf) (k : ℕ) → slice_get leaves k ≡ Some leaf
     → Contains (opened_here leaf range slot leaves) (opening range (slot + k))
 here_contains leaf range slot [] k is = let l = slice_get_within [] k leaf is in absurd (omega (arith, l))
 here_contains leaf range slot (other ∷ leaves) zero is =

@@ -1,5 +1,6 @@
 -- Leading fields, place by place.
-use Rattle.std.proofs.Common.{◌≡◌, ◌<◌, ◌≤◌, ◌&&◌, Bool, true, false, List, [], ◌∷◌, length, refl, ap, arith}
+use Rattle.std.proofs.lemmas.Bool.{and_right}
+use Rattle.std.proofs.Common.{◌≡◌, ◌<◌, ◌≤◌, ◌&&◌, Bool, false, List, [], ◌∷◌, length, refl, ap, arith}
 use Rattle.std.specs.List.{list_all, zip}
 use Rattle.mon_value.specs.declared.schemas.Field.{Field}
 use Rattle.mon_value.specs.declared.values.FieldValue.{FieldValue}
@@ -13,10 +14,6 @@ are_leading-zip (f ∷ fields) [] le = refl
 are_leading-zip (f ∷ fields) (v ∷ values) le =
     ap (λ (b : Bool). is_of_type f.of v && b) (are_leading-zip fields values (omega arith))
 
-false_and : (a b : Bool) → b ≡ false → (a && b) ≡ false
-false_and true b e = e
-false_and false b e = refl
-
 -- no more values than fields are leading
 pub are_leading-long : (fields : List Field) (values : List FieldValue) → length fields < length values
     → are_leading fields values ≡ false
@@ -24,4 +21,4 @@ are_leading-long [] [] lt = absurd (omega arith)
 are_leading-long [] (v ∷ values) lt = refl
 are_leading-long (f ∷ fields) [] lt = absurd (omega arith)
 are_leading-long (f ∷ fields) (v ∷ values) lt =
-    false_and (is_of_type f.of v) (are_leading fields values) (are_leading-long fields values (omega arith))
+    and_right (is_of_type f.of v) (are_leading fields values) (are_leading-long fields values (omega arith))

@@ -1,5 +1,6 @@
 -- What a range's history says after one entry more; and the replicas of a legal one: they are numbered as they were
 -- opened, and so told apart.
+use Rattle.std.proofs.lemmas.Option.{same_Some}
 use Rattle.std.specs.List.{AllByRecursion as All}
 use Rattle.std.proofs.Common.{◌≡◌, ◌≢◌, ℕ, zero, suc, ◌<◌, Bool, true, false, not, cond, Some, List, [], ◌∷◌, ◌++◌}
 use Rattle.std.proofs.Common.{length, get_or, refl, sym, ap, subst, ◌∙◌, append_assoc, append-nil, arith, ◌⊎◌, inl}
@@ -172,9 +173,6 @@ slot_below history h replica there =
     (get_there (opened_slots history) there.0 replica there.1 there.2) in
     omega arith
 
-some_same : {X : Type 0} (x y : X) → Some x ≡ Some y → x ≡ y
-some_same x y e = cc
-
 -- two replicas of one slot are one
 pub one_replica : (history : List RangeEntry) → AreNumbered history → (a b : SlotLeaf)
     → Contains (opened_slots history) a
@@ -183,7 +181,7 @@ one_replica history h a b in_a in_b e =
     let at_a = get_there (opened_slots history) in_a.0 a in_a.1 in_a.2 in
     let at_b = get_there (opened_slots history) in_b.0 b in_b.1 in_b.2 in
     let place : in_a.0 ≡ in_b.0 = sym (h.numbered in_a.0 a at_a) ∙ e ∙ h.numbered in_b.0 b at_b in
-    some_same a b (sym at_a ∙ ap (slice_get (opened_slots history)) place ∙ at_b)
+    same_Some a b (sym at_a ∙ ap (slice_get (opened_slots history)) place ∙ at_b)
 
 pub serving_after-opened : (replicas : List SlotLeaf) (history : List RangeEntry) (pass : ℕ) (replica : SlotLeaf)
     → serving_after replicas (history ++ range_entry.Opened pass replica.slot replica.leaf ∷ []) ≡ serving_after

@@ -1,6 +1,7 @@
 -- The names of the zones so far tell what a zone repeats of them.
-use Rattle.std.proofs.Common.{◌≡◌, ◌∙◌, ℕ, ◌+◌, ◌<◌, Bool, true, false, List, [], ◌∷◌, ◌++◌, Option, Some, None}
-use Rattle.std.proofs.Common.{append_assoc, cond, get_or, length, length-append, not, refl, ap, sym, take, arith}
+use Rattle.std.proofs.lemmas.Bool.{not-false, not-true}
+use Rattle.std.proofs.Common.{◌≡◌, ◌∙◌, ℕ, ◌+◌, ◌<◌, true, false, List, [], ◌∷◌, ◌++◌, Option, Some, None}
+use Rattle.std.proofs.Common.{append_assoc, cond, get_or, length, length-append, not, ap, sym, take, arith}
 use Rattle.std.specs.List.{list_any}
 use Rattle.std.specs.Map.{keys_of}
 use Rattle.std.specs.Option.{option_or}
@@ -91,14 +92,6 @@ names_more zones i zone names new there at is more =
 
 -- ---- texts that go into a map one after another
 
-turned : (b : Bool) → not b ≡ false → b ≡ true
-turned true e = refl
-turned false e = absurd (cc)
-
-unturned : (b : Bool) → not b ≡ true → b ≡ false
-unturned true e = absurd (cc)
-unturned false e = refl
-
 -- a text is among the names so far where it stood earlier
 known : (old so_far own : List (List ℕ × ℕ)) (texts : List (List ℕ)) (j : ℕ) (text : List ℕ)
     → so_far ≡ old ++ own → keys_of own ≡ take j texts
@@ -112,7 +105,7 @@ pub repeated : (place_of : ℕ → Place) (old so_far own : List (List ℕ × �
     → repeated_at place_of (keys_of old) texts j text ≡ Some (place_of j)
 repeated place_of old so_far own texts j text is keys again =
     ap (λ b. place_unless (not b) (place_of j))
-    (sym (known old so_far own texts j text is keys) ∙ turned (list_any (same_text text) (keys_of so_far)) again)
+    (sym (known old so_far own texts j text is keys) ∙ not-false (list_any (same_text text) (keys_of so_far)) again)
 
 pub unrepeated : (place_of : ℕ → Place) (old so_far own : List (List ℕ × ℕ)) (texts : List (List ℕ)) (j : ℕ)
     (text : List ℕ)
@@ -120,13 +113,13 @@ pub unrepeated : (place_of : ℕ → Place) (old so_far own : List (List ℕ × 
     → repeated_at place_of (keys_of old) texts j text ≡ None
 unrepeated place_of old so_far own texts j text is keys new =
     ap (λ b. place_unless (not b) (place_of j))
-    (sym (known old so_far own texts j text is keys) ∙ unturned (list_any (same_text text) (keys_of so_far)) new)
+    (sym (known old so_far own texts j text is keys) ∙ not-true (list_any (same_text text) (keys_of so_far)) new)
 
 pub with_new_name : (so_far new : List (List ℕ × ℕ)) (text : List ℕ) (n : ℕ)
     → not (list_any (same_text text) (keys_of so_far)) ≡ true → new ≡ with_name so_far text n
     → new ≡ so_far ++ (text, n) ∷ []
 with_new_name so_far new text n fresh is =
-    is ∙ ap (λ b. cond b so_far (so_far ++ (text, n) ∷ [])) (unturned (list_any (same_text text) (keys_of so_far))
+    is ∙ ap (λ b. cond b so_far (so_far ++ (text, n) ∷ [])) (not-true (list_any (same_text text) (keys_of so_far))
     fresh)
 
 -- one location more

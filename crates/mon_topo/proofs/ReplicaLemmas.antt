@@ -1,4 +1,5 @@
 -- The leaves that a range names are one to three of its zone, each once.
+use Rattle.std.proofs.lemmas.Bool.{or_parts}
 use Rattle.std.proofs.Common.{◌≡◌, ◌∙◌, ℕ, zero, suc, ◌+◌, ◌<◌, ◌≤◌, Bool, true, false, ◌||◌, ◌&&◌, List, [], ◌∷◌}
 use Rattle.std.proofs.Common.{Option, Some, None, cond, get_or, leb, length, length-append, nat_eq, not, refl, ap}
 use Rattle.std.proofs.Common.{slice_get, subst, sym, take, arith}
@@ -72,15 +73,11 @@ holds_of P name (text ∷ texts) all e =
 
 -- ---- a leaf of a zone is found in it, where its name didn't stand before
 
-neither_false : (a b : Bool) → (a || b) ≡ false → (a ≡ false) × (b ≡ false)
-neither_false true b e = absurd (cc)
-neither_false false b e = (refl, e)
-
 nowhere : (test : List ℕ → Bool) (n : ℕ) (texts : List (List ℕ)) → list_any test texts ≡ false → position_from test n
     texts ≡ None
 nowhere test n [] e = refl
 nowhere test n (text ∷ texts) e =
-    let both = neither_false (test text) (list_any test texts) e in
+    let both = or_parts (test text) (list_any test texts) e in
     ap (λ b. cond b (Some n) (position_from test (n + 1) texts)) both.0 ∙ nowhere test (n + 1) texts both.1
 
 record IsLeafOf (zones : List ZoneSpec) (n i : ℕ) (name : List ℕ) : Type 0 where
@@ -105,7 +102,7 @@ leaf_of (zone ∷ zones) n zero name there new known =
     }
 leaf_of (zone ∷ zones) n (suc i) name there new known =
     let before = leaves_in (take i zones) in
-    let apart = neither_false (list_any (same_text name) zone.leaves) (list_any (same_text name) before)
+    let apart = or_parts (list_any (same_text name) zone.leaves) (list_any (same_text name) before)
     (sym (list_any-append (same_text name) zone.leaves before) ∙ new) in
     let later = leaf_of zones (n + length zone.leaves) i name (omega arith) apart.1 known in
     let behind : Option ℕ = position_from (same_text name) (n + length zone.leaves) (leaves_in zones) in
@@ -187,7 +184,7 @@ apart_from : (zones : List ZoneSpec) (range : Range) (name : List ℕ) (p : IsNa
     → AllByRecursion (λ leaf. same_leaf (leaf_numbered p.place) leaf ≡ false) (leaves_named zones names)
 apart_from zones range name p [] all e = tt
 apart_from zones range name p (other ∷ names) all e =
-    let both = neither_false (same_text name other) (list_any (same_text name) names) e in
+    let both = or_parts (same_text name other) (list_any (same_text name) names) e in
     let q = all.0 in
     subst
     (λ (o : Option ℕ). AllByRecursion (λ leaf. same_leaf (leaf_numbered p.place) leaf ≡ false)
@@ -221,7 +218,7 @@ leaves_of zones range (name ∷ names) all =
       long = ap (λ n. suc n) rest.long;
       zoned = (p.zoned, rest.zoned);
       distinct = λ e.
-          let both = neither_false (list_any (same_text name) names) (texts_repeat names) e in
+          let both = or_parts (list_any (same_text name) names) (texts_repeat names) e in
           one_more (leaf_numbered p.place) (leaves_named zones names) (apart_from zones range name p names all.1
           both.0) (rest.distinct both.1);
     })

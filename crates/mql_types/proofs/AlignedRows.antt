@@ -61,9 +61,9 @@ use Rattle.mql_types.proofs.GroupedRows.{sum_by-map}
 -- ---- series of a source
 
 -- a series with its points, as a metric has them
-record SeriesFits (target : TargetSchema) (metric : MetricSchema) (series : SeriesKey × List Point) : Type 0 where
-  key : IsSeriesOf target metric series.0
-  points : AllByRecursion (PointFits metric.value) series.1
+pub record SeriesFits (target : TargetSchema) (metric : MetricSchema) (series : SeriesKey × List Point) : Type 0 where
+  pub key : IsSeriesOf target metric series.0
+  pub points : AllByRecursion (PointFits metric.value) series.1
 
 row_point : (target : TargetSchema) (metric : MetricSchema) (row : Row) → IsRowOf target metric row
     → PointFits metric.value row.point
@@ -84,7 +84,7 @@ points_fit target metric rows fit key =
     (row_point target metric)
     (all-filter (IsRowOf target metric) (λ (row : Row). same_series key row.key) rows fit)
 
-series_fit : (target : TargetSchema) (metric : MetricSchema) (rows : List Row)
+pub series_fit : (target : TargetSchema) (metric : MetricSchema) (rows : List Row)
     → AllByRecursion (IsRowOf target metric) rows
     → AllByRecursion (SeriesFits target metric) (points_by_series rows)
 series_fit target metric rows fit =

@@ -1,11 +1,11 @@
 -- The columns of aggregates, and what stands in them.
-use Rattle.std.proofs.Common.{◌≡◌, ◌∙◌, ◌≤◌, ◌<◌, ℕ, ℤ, ◌+◌, ◌^◌, Bool, true, false, not, cond, nat_lt, Option, Some}
+use Rattle.std.proofs.Common.{◌≡◌, ◌∙◌, ◌≤◌, ◌<◌, ℕ, ℤ, ◌+◌, ◌^◌, Bool, true, false, cond, nat_lt, Option, Some}
 use Rattle.std.proofs.Common.{None, List, [], ◌∷◌, length, subst, refl, ap, sym, arith}
 use Rattle.std.specs.Prelude.{option_and_then, option_map, slice_get}
 use Rattle.std.specs.List.{AllByRecursion, cons_option, sum_by}
 use Rattle.std.specs.Option.{option_map_or}
 use Rattle.std.specs.Ordering.{int_eq}
-use Rattle.std.proofs.lemmas.Bool.{lt-ltb}
+use Rattle.std.proofs.lemmas.Bool.{lt-ltb, not-false}
 use Rattle.std.proofs.lemmas.Bool.Decides.{Decides-int_eq}
 use Rattle.std.proofs.lemmas.List.Sums.{sum_by-cons}
 use Rattle.std.proofs.lemmas.Option.{slice_get_within}
@@ -399,10 +399,6 @@ named_made columns lawful n how name c e takes other =
       takes = type_takes (fold_kind how c.of) c (slice_get columns place) e (kind_takes how c.of takes);
     }
 
-pub not_false : (b : Bool) → not b ≡ false → b ≡ true
-not_false true e = refl
-not_false false e = absurd cc
-
 no_count : (how : FoldWord) (name : Name) → CountsRows how (Some name) → how ≡ fold.Count → ⊥
 no_count how name counts e =
     let P : FoldWord → Type 0 = λ h. CountsRows h (Some name) in
@@ -416,7 +412,7 @@ found_made : (columns : List Column) → AreLawful columns → (n : List ℕ) (h
     (option_and_then (aggregate_at columns how) (place_found name.text columns))
 found_made columns lawful n how name counts None e none = absurd cc
 found_made columns lawful n how name counts (Some c) e none =
-    named_made columns lawful n how name.text c e (not_false (fold_takes how c.of) (none_where _ _ _ none))
+    named_made columns lawful n how name.text c e (not-false (fold_takes how c.of) (none_where _ _ _ none))
     (no_count how name counts)
 
 -- an aggregate without a fault

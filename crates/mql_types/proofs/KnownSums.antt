@@ -1,5 +1,6 @@
 -- Sums without a fault have a width, and come to a number unless a percentile meets a distribution without values.
-use Rattle.std.proofs.Common.{◌≡◌, ◌∙◌, ℕ, ℤ, zero, suc, ◌+ℤ◌, ◌-ℤ◌, ◌==◌, ◌||◌, Bool, true, false, not, cond, Option}
+use Rattle.std.proofs.lemmas.Bool.{or_parts}
+use Rattle.std.proofs.Common.{◌≡◌, ◌∙◌, ℕ, ℤ, zero, suc, ◌+ℤ◌, ◌-ℤ◌, ◌==◌, Bool, true, false, not, cond, Option}
 use Rattle.std.proofs.Common.{Some, None, List, [], ◌∷◌, subst, refl, ap, sym}
 use Rattle.std.specs.Prelude.{option_and_then, option_map, slice_get, sum}
 use Rattle.std.specs.Option.{option_map_or}
@@ -127,10 +128,6 @@ number_of_both with a b left right = record {
       ∙ ap (λ (o : Option Value). put_together with (Some (value.Int left.number)) o) right.is;
 }
 
-pub or_false : (a b : Bool) → (a || b) ≡ false → (a ≡ false) × (b ≡ false)
-or_false true b e = absurd cc
-or_false false b e = (refl, e)
-
 some_percentile : (b : Bool) (z : ℤ) → b ≡ false → KnownNumber (option_map value.Int (cond b None (Some z)))
 some_percentile true z e = absurd cc
 some_percentile false z e = record { number = z; is = refl }
@@ -176,13 +173,13 @@ number_known columns cells fit (tree.Number at z) none some = record { number = 
 number_known columns cells fit (tree.Plus left right) none some =
     let first = no_faults (operand_faults columns left) _ none in
     let second = no_faults (operand_faults columns right) _ first.1 in
-    let both = or_false (meets_no_values left columns cells) (meets_no_values right columns cells) some in
+    let both = or_parts (meets_no_values left columns cells) (meets_no_values right columns cells) some in
     number_of_both ◌+ℤ◌ (sum_value left columns cells) (sum_value right columns cells)
     (number_known columns cells fit left first.0 both.0) (number_known columns cells fit right second.0 both.1)
 number_known columns cells fit (tree.Minus left right) none some =
     let first = no_faults (operand_faults columns left) _ none in
     let second = no_faults (operand_faults columns right) _ first.1 in
-    let both = or_false (meets_no_values left columns cells) (meets_no_values right columns cells) some in
+    let both = or_parts (meets_no_values left columns cells) (meets_no_values right columns cells) some in
     number_of_both ◌-ℤ◌ (sum_value left columns cells) (sum_value right columns cells)
     (number_known columns cells fit left first.0 both.0) (number_known columns cells fit right second.0 both.1)
 number_known columns cells fit (tree.Percentile at name p) none some =

@@ -1,4 +1,5 @@
 -- A query without a fault: its tree's nodes have the columns of their rules.
+use Rattle.std.proofs.lemmas.Bool.{not-false}
 use Rattle.std.proofs.Common.{◌≡◌, ◌∙◌, ℕ, ℤ, Bool, true, false, not, cond, Option, Some, None, Ok, List, [], ◌∷◌}
 use Rattle.std.proofs.Common.{◌++◌, map, subst, refl, ap, sym}
 use Rattle.std.specs.Prelude.{is_none}
@@ -45,7 +46,6 @@ use Rattle.mql_types.specs.Typing.{pipe_faults, pipe_part, source_faults, source
 use Rattle.mql_types.specs.Widths.{wide_faults, width_faults, width_of}
 use Rattle.mql_types.proofs.AlignedValues.{Takes}
 use Rattle.mql_types.proofs.FetchedTrees.{ArePoints, columns_fetched_are}
-use Rattle.mql_types.proofs.FoldedColumns.{not_false}
 use Rattle.mql_types.proofs.JoinedRows.{IsNarrow, all-front, all-map}
 use Rattle.mql_types.proofs.MadeCells.{nothing_is, same_item}
 use Rattle.mql_types.proofs.SumBounds.{no_faults, none_where, not_wide}
@@ -275,7 +275,7 @@ branch_ruled held how.Union at left right own other none =
     let parts = no_faults (fault_where (not (same_columns (columns_of left) (columns_of right))) at BranchColumns) _
     none in (
       record {
-        same = not_false (same_columns (columns_of left) (columns_of right)) (none_where _ _ _ parts.0);
+        same = not-false (same_columns (columns_of left) (columns_of right)) (none_where _ _ _ parts.0);
         narrow = narrow_columns at (union_columns held (columns_of left) (columns_of right)) parts.1;
         is = refl;
       },

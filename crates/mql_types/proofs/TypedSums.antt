@@ -1,4 +1,5 @@
 -- Sums without a fault are typed as computing them asks.
+use Rattle.std.proofs.lemmas.Bool.{not-false}
 use Rattle.std.proofs.Common.{◌≡◌, ◌∙◌, ◌≤◌, ℕ, ◌+◌, not, cond, nat_le, Option, Some, None, List, [], ◌∷◌, max, subst}
 use Rattle.std.proofs.Common.{refl, ap, sym, arith}
 use Rattle.std.specs.Prelude.{IsSome, IsSomeAnd, is_none, option_and_then}
@@ -20,7 +21,6 @@ use Rattle.mql_types.specs.Items.{item_sum_faults, operand_faults, optional_widt
 use Rattle.mql_types.specs.Items.{percentile_faults_of, sum_width, width_of_type, width_together}
 use Rattle.mql_types.specs.Soundness.{HasLiterals}
 use Rattle.mql_types.specs.Widths.{added_width, point_width, width_of}
-use Rattle.mql_types.proofs.FoldedColumns.{not_false}
 use Rattle.mql_types.proofs.KnownSums.{width_known}
 use Rattle.mql_types.proofs.SumBounds.{AreLawful, IsLawful, both_by, no_faults, none_where, not_wide, sum_within}
 use Rattle.mql_types.proofs.ValueRows.{no_cells}
@@ -46,7 +46,7 @@ percentile_of_type type.Int bits at e = absurd cc
 percentile_of_type type.Bool bits at e = absurd cc
 percentile_of_type type.Text bits at e = absurd cc
 percentile_of_type (type.Dist bounds) bits at e =
-    ap (λ b. cond b (Some NUMBER_BITS) None) (not_false (nat_le bits 119) (none_where (not (nat_le bits 119)) at _ e))
+    ap (λ b. cond b (Some NUMBER_BITS) None) (not-false (nat_le bits 119) (none_where (not (nat_le bits 119)) at _ e))
 
 percentile_column : (o : Option Column) (at : ℕ) → percentile_faults o at ≡ []
     → option_and_then (λ (c : Column). percentile_width c.of c.cell_bits) o ≡ Some NUMBER_BITS

@@ -74,7 +74,7 @@ left_fits held (l ∷ ls) (r ∷ rs) [] same fit = absurd fit
 left_fits held (l ∷ ls) (r ∷ rs) (x ∷ xs) same fit =
     (fit.0, left_fits held ls rs xs (both (same_column l r) (same_columns ls rs) same).1 fit.1)
 
-right_fits : (held : SchemaLists) (lefts rights : List Column) (xs : List Value) → same_columns lefts rights ≡ true
+pub right_fits : (held : SchemaLists) (lefts rights : List Column) (xs : List Value) → same_columns lefts rights ≡ true
     → FitColumns rights xs → FitColumns (union_columns held lefts rights) xs
 right_fits held [] [] [] same fit = tt
 right_fits held [] [] (x ∷ xs) same fit = absurd fit

@@ -1,4 +1,5 @@
 -- The rows of `value`: types, and widths.
+use Rattle.std.proofs.lemmas.Bool.{or_parts}
 use Rattle.std.proofs.Common.{◌≡◌, ◌∙◌, ◌≤◌, ℕ, ℤ, ◌+◌, ◌^◌, Bool, true, false, cond, Option, Some, None, List, []}
 use Rattle.std.proofs.Common.{◌∷◌, ◌++◌, length, subst, refl, ap, sym, arith}
 use Rattle.std.specs.Prelude.{option_map, slice_get, is_none}
@@ -28,7 +29,7 @@ use Rattle.mql_types.specs.Meaning.{key_cells, value_row}
 use Rattle.mql_types.specs.Soundness.{FitTable, HasLiterals, TotalsFit}
 use Rattle.mql_types.proofs.JoinedRows.{FitColumns-append, FitWidths-append, all-both, all-map, column_of_all}
 use Rattle.mql_types.proofs.KeptRows.{all-append, all-filter}
-use Rattle.mql_types.proofs.KnownSums.{KnownNumber, cell_of, number_known, or_false, width_known}
+use Rattle.mql_types.proofs.KnownSums.{KnownNumber, cell_of, number_known, width_known}
 use Rattle.mql_types.proofs.MadeCells.{IsThere, MadeCell, all-filter_map, cell_there, from_item, get_back, get_front}
 use Rattle.mql_types.proofs.MadeCells.{get_made, is_there, kept_at, kept_shaped, kept_within, length_fit, made_shaped}
 use Rattle.mql_types.proofs.MadeCells.{made_sums, made_within, nothing_is, same_item, Side, side_of, front, back}
@@ -180,7 +181,7 @@ item_cells : (columns : List Column) (cells : List Value) → FitColumns columns
     items
 item_cells columns cells fit within [] made some = tt
 item_cells columns cells fit within (item ∷ items) made some =
-    let parts = or_false (misses columns cells item) (list_any (misses columns cells) items) some in (
+    let parts = or_parts (misses columns cells item) (list_any (misses columns cells) items) some in (
       own_cell columns (item_column columns item) cells (sum_value item.sum columns cells) made.0.column made.0.is
           (made.0.cell cells fit within parts.0),
       item_cells columns cells fit within items made.1 parts.1,

@@ -18,7 +18,6 @@ use Rattle.line_runs.specs.LineWrites.{LineWrote, ran_line}
 use Rattle.line_runs.specs.declared.lines.LineRan.{LineRan}
 use Rattle.mon_config.specs.declared.config.Config.{Config}
 use Rattle.mon_store.specs.Passes.{IsPass}
-use Rattle.mon_store.proofs.OwnLemmas.{fronts_through}
 use Rattle.mon_topo.specs.HeldHistories.{AreHeld}
 use Rattle.mon_topo.specs.Settings.{Setting}
 use Rattle.mon_value.specs.declared.histories.Histories.{Histories}
@@ -36,7 +35,8 @@ use Rattle.part_runs.specs.Courses.{BlockRan, EachHasRun, HasRun, HaveMet, Way, 
 use Rattle.part_runs.specs.PartsDone.{CanSplit, PartDid, ran_beside}
 use Rattle.part_runs.proofs.ListLemmas.{all_mapped, first_of, on_apart}
 use Rattle.part_runs.proofs.NumberLemmas.{every_number, kept_times, times_in}
-use Rattle.part_runs.proofs.PassLemmas.{OwnKept, fronts_itself, have_grown, own_kept, own_of, seen_kept, under_kept}
+use Rattle.part_runs.proofs.PassLemmas.{OwnKept, have_grown, own_kept, own_of, seen_kept, under_kept}
+use Rattle.running_query.proofs.GoingLemmas.{fronts_through, same_fronts}
 
 -- ---- what lines came to
 
@@ -88,7 +88,7 @@ met_keeps (way ∷ ways) before after met =
 pub met_fronts : (ways : List Way) (before after : Knowledge) → HaveMet ways before after
     → AreFronts before.seen after.seen
 met_fronts [] before after met =
-    subst (λ (know : Knowledge). AreFronts before.seen know.seen) (sym met) (fronts_itself before.seen)
+    subst (λ (know : Knowledge). AreFronts before.seen know.seen) (sym met) (same_fronts before.seen)
 met_fronts (way ∷ ways) before after met =
     fronts_through before.seen (meeting way.know before).seen after.seen met.0
     (met_fronts ways (meeting way.know before) after met.2)

@@ -1,5 +1,5 @@
 -- Histories that are seen later.
-use Rattle.std.proofs.Common.{◌≡◌, ◌∙◌, [], length, refl, sym, append-nil}
+use Rattle.std.proofs.Common.{◌≡◌, ◌∙◌, length, refl, sym}
 use Rattle.history_book.specs.Histories.{AreFronts}
 use Rattle.mon_topo.proofs.FrontLemmas.{begins_from, begins_itself, begins_through, begins_to, behind}
 use Rattle.mon_value.specs.Histories.{leaf_history, range_history}
@@ -29,12 +29,6 @@ grown_then {first} {mid} {last} one other = record {
 }
 
 -- ---- fronts
-
-pub fronts_none : (known : Histories) → AreFronts known known
-fronts_none known = (
-  λ leaf. ([], append-nil (leaf_history known leaf)),
-  λ range. ([], append-nil (range_history known range)),
-)
 
 pub fronts_grown : (seen more : Histories) → HaveGrown seen more → AreFronts seen more
 fronts_grown seen more grown = (

@@ -1,17 +1,11 @@
 -- Lists: what holds of all that they contain, tests that some item passes, and numbers one after another.
-use Rattle.std.proofs.Common.{◌≡◌, ℕ, zero, suc, ◌+◌, ◌<◌, nat_eq, Bool, true, false, ◌||◌, List, [], ◌∷◌}
-use Rattle.std.proofs.Common.{length, map, get_or, refl, sym, ap, ◌∙◌, subst, arith}
+use Rattle.std.proofs.lemmas.Bool.{or_left, or_right, or_from}
+use Rattle.std.proofs.Common.{◌≡◌, ℕ, zero, suc, ◌+◌, ◌<◌, nat_eq, Bool, true, false, List, [], ◌∷◌}
+use Rattle.std.proofs.Common.{length, map, get_or, refl, sym, subst, arith}
 use Rattle.std.specs.List.{AllByRecursion, Contains, list_any}
 use Rattle.std.proofs.lemmas.Bool.Decides.{nat_tests}
 use Rattle.history_book.specs.Histories.{numbers_on}
 use Rattle.run_theory.specs.Marks.{AreApart}
-
-or_left : (a b : Bool) → a ≡ true → (a || b) ≡ true
-or_left a b is = ap (λ c. c || b) is
-
-or_right : (a b : Bool) → b ≡ true → (a || b) ≡ true
-or_right true b is = refl
-or_right false b is = is
 
 module _ {X : Type 0} where
   pub first_of : (x : X) (xs : List X) → Contains (x ∷ xs) x
@@ -43,16 +37,10 @@ module _ {X : Type 0} where
   some_passes test f xs x has is =
       some_at test f xs has.0 x has.1 (subst (λ y. test (f y) ≡ true) (sym has.2) is)
 
-pub same_numbers : (n m : ℕ) → n ≡ m → nat_eq n m ≡ true
-same_numbers n m e = grind (arith, nat_tests)
-
-neither : (a b : Bool) → a ≡ false → b ≡ false → (a || b) ≡ false
-neither a b x y = ap (λ c. c || b) x ∙ y
-
 below_all : (n m count : ℕ) → n < m → list_any (nat_eq n) (numbers_on m count) ≡ false
 below_all n m zero less = refl
 below_all n m (suc count) less =
-    neither (nat_eq n m) (list_any (nat_eq n) (numbers_on (m + 1) count)) (other n m less)
+    or_from (nat_eq n m) (list_any (nat_eq n) (numbers_on (m + 1) count)) (other n m less)
     (below_all n (m + 1) count (omega arith))
   where
     other : (n m : ℕ) → n < m → nat_eq n m ≡ false

@@ -1,4 +1,5 @@
 -- What a caller that has seen just its own entries has seen under each number that it keeps.
+use Rattle.std.proofs.lemmas.Bool.{eq-eqb}
 use Rattle.std.proofs.Common.{◌≡◌, ℕ, nat_eq, true, map, filter, Some, None, refl, sym, ap}
 use Rattle.std.proofs.Common.{◌∙◌, subst}
 use Rattle.std.specs.Prelude.{Option, option_map}
@@ -7,22 +8,17 @@ use Rattle.history_book.specs.Histories.{AreFronts, book_entry_pass, entries}
 use Rattle.history_book.specs.Seats.{HasEveryNumber, IsPurseBorneOut, kept_in}
 use Rattle.history_book.specs.declared.views.History.{History}
 use Rattle.history_book.specs.declared.views.Kept.{Kept}
-use Rattle.history_book.proofs.ListLemmas.{prefix_refl}
 use Rattle.know.specs.Knowledge.{Knowledge}
 use Rattle.mon_store.specs.Passes.{HasSeenItsOwn}
 use Rattle.mon_store.specs.Writes.{own_entries}
 use Rattle.mon_store.proofs.OwnLemmas.{within_front}
 use Rattle.mon_topo.specs.HeldHistories.{AreHeld}
 use Rattle.mon_topo.specs.Settings.{Setting}
-use Rattle.mon_value.specs.Histories.{leaf_history, range_history}
 use Rattle.mon_value.specs.declared.histories.Histories.{Histories}
 use Rattle.run_traces.specs.LineClaims.{HaveGrown}
-use Rattle.part_runs.proofs.ListLemmas.{all_from, same_numbers, some_passes}
+use Rattle.part_runs.proofs.ListLemmas.{all_from, some_passes}
 
 -- ---- histories that are seen later
-
-pub fronts_itself : (a : Histories) → AreFronts a a
-fronts_itself a = ((λ leaf. prefix_refl (leaf_history a leaf)), (λ range. prefix_refl (range_history a range)))
 
 pub have_grown : (setting : Setting) (seen more : Histories) → AreFronts seen more
     → AreHeld setting.held setting.zones setting.points seen → AreHeld setting.held setting.zones setting.points more
@@ -73,4 +69,4 @@ under_kept know borne_out every history =
     (λ e has.
     let is = borne_out.every every history e has in
     some_passes (nat_eq (book_entry_pass e)) (λ (kept : Kept). kept.number) (kept_in know.purse) is.kept is.has
-    (same_numbers (book_entry_pass e) is.kept.number (sym is.under)))
+    (eq-eqb (book_entry_pass e) is.kept.number (sym is.under)))

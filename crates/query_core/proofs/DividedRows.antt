@@ -33,6 +33,7 @@ use Rattle.mql_types.proofs.JoinedRows.{all-map}
 use Rattle.mql_types.proofs.KeptRows.{all-append, all-filter}
 use Rattle.query_core.specs.declared.answers.Resolved.{Resolved}
 use Rattle.mon_topo.proofs.PlacedRangeLemmas.{is_placed}
+use Rattle.query_core.proofs.LeafLemmas.{same_leaves}
 
 -- ---- ranges, each of which stands once
 
@@ -164,11 +165,6 @@ module _ (held : SchemaLists) (zones : List ZoneSpec) (own : Resolved → List R
     pub at : range_for held zones row.key.target ≡ Some range
     pub first : leaf_for resolved range ≡ Some leaf
     pub zoned : IsInZoneOf zones range leaf
-
-  same_leaves : (a b : Leaf) → same_leaf a b ≡ true → a ≡ b
-  same_leaves a b same =
-      let number : a.0 ≡ b.0 = let test : nat_eq a.0 b.0 ≡ true = same in grind (arith, nat_tests) in
-      ap (λ (n : ℕ). (let leaf : Leaf = record { 0 = n } in leaf)) number
 
   lie_at : (leaf : Leaf) (one : Resolved) → leaf_for resolved one.range ≡ Some one.leaf → IsInZoneOf zones one.range
       one.leaf

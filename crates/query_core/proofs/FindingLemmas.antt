@@ -1,12 +1,11 @@
 -- Leaves that a session found down, and ranges all of whose replicas are on such leaves.
 use Rattle.std.proofs.Common.{◌≡◌, ◌∙◌, ◌||◌, ℕ, Bool, true, false, not, List, [], ◌∷◌, ◌++◌, cond, filter, length}
-use Rattle.std.proofs.Common.{nat_eq, take, inl, inr, refl, sym, ap, subst, arith, Some, None, slice_get, true≢false}
+use Rattle.std.proofs.Common.{take, inl, inr, refl, sym, ap, subst, arith, Some, None, slice_get, true≢false}
 use Rattle.std.specs.List.{AllByRecursion, list_any}
 use Rattle.std.proofs.lemmas.Bool.{or_cases, or_left, or_right}
-use Rattle.std.proofs.lemmas.Bool.Decides.{nat_tests}
 use Rattle.std.proofs.lemmas.List.{map-append}
 use Rattle.mon_topo.proofs.FrontLemmas.{begins_length, take_on}
-use Rattle.mon_topo.proofs.HeldLemmas.{down_on, leaf_same}
+use Rattle.mon_topo.proofs.HeldLemmas.{down_on}
 use Rattle.mon_topo.proofs.RangeHistoryLemmas.{all_append}
 use Rattle.mon_value.specs.Histories.{leaf_history, range_history}
 use Rattle.mon_value.specs.declared.histories.Histories.{Histories}
@@ -30,6 +29,7 @@ use Rattle.query_core.specs.Sessions.{IsFoundSo, IsResolvedSo}
 use Rattle.mon_topo.specs.Views.{View}
 use Rattle.query_core.specs.Traces.{found_leaves}
 use Rattle.mon_topo.specs.Serving.{is_avoided}
+use Rattle.query_core.proofs.LeafLemmas.{same_leaves}
 
 -- ---- what stays as histories grow
 
@@ -85,16 +85,12 @@ none_left avoided (replica ∷ replicas) none =
 
 -- ---- those of one zone
 
-pub same_number : (a b : Leaf) → same_leaf a b ≡ true → a ≡ b
-same_number a b same =
-    leaf_same a b (let test : nat_eq a.0 b.0 ≡ true = same in grind (arith, nat_tests))
-
 module _ (area : Area) (leaf : Leaf) (here : has_leaf area leaf ≡ true) where
   abbrev among : List FoundDown → Bool
   among founds = list_any (same_leaf leaf) (found_leaves founds)
 
   other_zone : (found : FoundDown) → same_leaf leaf found.leaf ≡ true → has_leaf area found.leaf ≡ false → ⊥
-  other_zone found same out = true≢false (sym here ∙ ap (has_leaf area) (same_number leaf found.leaf same) ∙ out)
+  other_zone found same out = true≢false (sym here ∙ ap (has_leaf area) (same_leaves leaf found.leaf same) ∙ out)
 
   named_by : (found : FoundDown) (founds : List FoundDown) (b : Bool) → has_leaf area found.leaf ≡ b
       → (same_leaf leaf found.leaf || among founds) ≡ true

@@ -1,11 +1,13 @@
 mod AckedRows
 mod AnswerParts
 mod AreaLemmas
+pub mod AskLemmas
 mod ChosenLeaves
 mod DividedRows
 mod FindingLemmas
 mod FoundsTold
 mod HintFacts
+pub mod LeafLemmas
 mod MixLemmas
 mod MixedParts
 mod NamedLeaves

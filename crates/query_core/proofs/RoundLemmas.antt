@@ -3,7 +3,7 @@ use Rattle.std.proofs.Common.{◌≡◌, ℕ, zero, suc, ◌+◌, ◌-◌, ◌<�
 use Rattle.std.proofs.Common.{append_assoc, cond, if◌then◌else◌, filter, get_or, length, map, set, refl, sym, ap, ◌∙◌}
 use Rattle.std.proofs.Common.{arith, ◌&&◌, true≢false}
 use Rattle.std.specs.Prelude.{nat_le, nat_lt}
-use Rattle.std.proofs.lemmas.Bool.{ne_eqb}
+use Rattle.std.proofs.lemmas.Bool.{ne_eqb, and_parts}
 use Rattle.std.proofs.lemmas.Bool.Decides.{nat_tests}
 use Rattle.std.proofs.lemmas.List.{map-append}
 use Rattle.std.proofs.lemmas.List.Elements.{filter-append}
@@ -127,11 +127,6 @@ has_at area leaf i there e =
     let to : nat_lt leaf.0 (area.first_leaf.0 + area.leaves) ≡ true = grind (arith, nat_tests) in
     ap (λ b. b && nat_lt leaf.0 (area.first_leaf.0 + area.leaves)) from ∙ to
 
-both : (a b : Bool) → (a && b) ≡ true → (a ≡ true) × (b ≡ true)
-both true true e = (refl, refl)
-both true false e = absurd (cc)
-both false b e = absurd (cc)
-
 -- a leaf of a zone has a place there
 record HasPlace (area : Area) (leaf : Leaf) : Type 0 where
   pub from : area.first_leaf.0 ≤ leaf.0
@@ -139,7 +134,7 @@ record HasPlace (area : Area) (leaf : Leaf) : Type 0 where
 
 has_place : (area : Area) (leaf : Leaf) → has_leaf area leaf ≡ true → HasPlace area leaf
 has_place area leaf has =
-    let parts = both (nat_le area.first_leaf.0 leaf.0) (nat_lt leaf.0 (area.first_leaf.0 + area.leaves)) has in
+    let parts = and_parts (nat_le area.first_leaf.0 leaf.0) (nat_lt leaf.0 (area.first_leaf.0 + area.leaves)) has in
     let from : area.first_leaf.0 ≤ leaf.0 = grind (arith, nat_tests) in
     let to : leaf.0 < area.first_leaf.0 + area.leaves = grind (arith, nat_tests) in
     record { from = from; within = omega arith }

@@ -1,4 +1,5 @@
 -- What is known of ranges that resolve, and of zones that stand as they had been seen.
+use Rattle.std.proofs.lemmas.Option.{same_Some}
 use Rattle.std.proofs.Common.{◌≡◌, ◌∙◌, ℕ, zero, suc, ◌+◌, ◌-◌, ◌<◌, ◌≤◌, Bool, true, false, not, cond, List, [], ◌∷◌}
 use Rattle.std.proofs.Common.{◌++◌, length, map, take, drop, filter, get_or, slice_get, Some, Contains, ◌⊎◌, inl, inr}
 use Rattle.std.proofs.Common.{refl, sym, ap, subst, arith}
@@ -141,9 +142,6 @@ module _ (held : SchemaLists) (zones : List ZoneSpec) where
 
 -- ---- the first replica
 
-some_is : {X : Type 0} (x y : X) → Some x ≡ Some y → x ≡ y
-some_is x y e = cc
-
 abbrev free : List Leaf → List SlotLeaf → List SlotLeaf
 free avoided replicas = filter (λ replica. not (is_avoided avoided replica)) replicas
 
@@ -151,7 +149,7 @@ free_by : (avoided : List Leaf) (replica one : SlotLeaf) (replicas : List SlotLe
     → (slice_get (free avoided replicas) 0 ≡ Some one → Contains replicas one)
     → slice_get (cond b (replica ∷ free avoided replicas) (free avoided replicas)) 0 ≡ Some one
     → Contains (replica ∷ replicas) one
-free_by avoided replica one replicas true rest e = (zero, omega arith, some_is replica one e)
+free_by avoided replica one replicas true rest e = (zero, omega arith, same_Some replica one e)
 free_by avoided replica one replicas false rest e = Contains-append_right (replica ∷ []) replicas one (rest e)
 
 first_there : (avoided : List Leaf) (one : SlotLeaf) (replicas : List SlotLeaf)

@@ -26,7 +26,7 @@ use Rattle.mon_value.specs.declared.histories.Histories.{Histories}
 use Rattle.mon_topo.specs.HeldHistories.{AreAtHome, AreHeld, IsAtHome}
 use Rattle.mon_topo.specs.RangeHistories.{IsInZoneOf}
 use Rattle.mon_topo.specs.Settings.{Setting}
-use Rattle.mon_value.specs.Positions.{leaf_numbered, same_leaf}
+use Rattle.mon_value.specs.Positions.{same_leaf}
 use Rattle.mon_topo.specs.declared.zones.ZoneSpec.{ZoneSpec}
 use Rattle.mon_meaning.proofs.FilterLemmas.{filter_twice}
 use Rattle.mon_meaning.specs.Central.{IsMeant, IsOver}
@@ -55,6 +55,7 @@ use Rattle.mon_meaning.proofs.MeaningOrderLemmas.{load_in_order, meaning_in_orde
 use Rattle.query_core.proofs.SegmentFacts.{RangesFrom}
 use Rattle.mon_meaning.proofs.SeriesOrderLemmas.{series_in_order}
 use Rattle.query_core.proofs.WantedRows.{filter_alike, filter_empty, load_of_wanted, meaning_of_wanted, wanted}
+use Rattle.query_core.proofs.LeafLemmas.{same_leaves}
 
 -- ---- ranges in their order stand once
 
@@ -118,11 +119,6 @@ module _ (held : SchemaLists) (zones : List ZoneSpec) (range : Range) (slot : Sl
 module _ (exit : Histories) (of : Trace) where
   abbrev pub own_rows : Resolved → List Row
   own_rows one = trace.resolved_rows exit of one
-
-  same_leaves : (a b : Leaf) → same_leaf a b ≡ true → a ≡ b
-  same_leaves a b same =
-      let number : a.0 ≡ b.0 = let test : nat_eq a.0 b.0 ≡ true = same in grind (arith, nat_tests) in
-      ap leaf_numbered number
 
   slots_by : (leaf : Leaf) (one : Resolved) (rest : List Resolved) (b : Bool) → (b ≡ true → one.leaf ≡ leaf)
       → flat_map own_rows rest ≡ slot_rows (looked_at exit of leaf) (map slot_of rest)

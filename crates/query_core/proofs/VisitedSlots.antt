@@ -31,10 +31,10 @@ use Rattle.query_core.specs.Rounds.{slot_of, slots_on}
 use Rattle.query_core.specs.Settings.{QuerySetting}
 use Rattle.query_core.specs.Traces.{IsBetween}
 use Rattle.query_core.proofs.DividedRows.{AreOthers, IsOther, all_flat, itself}
-use Rattle.query_core.proofs.FindingLemmas.{same_number}
 use Rattle.query_core.proofs.Spans.{IsLookedAt, StandsAt, StandsIn, look_at, stands_on, up_to}
 use Rattle.query_core.proofs.TraceRows.{replica_at_home, typed_for}
 use Rattle.query_core.proofs.TraceVisits.{fronts_begin}
+use Rattle.query_core.proofs.LeafLemmas.{same_leaves}
 
 -- ---- ranges that differ share no target
 
@@ -137,7 +137,7 @@ module _ (at_entry before after : Histories) (grown : AreWithin before after) (l
   all_opened [] stand = tt
   all_opened (one ∷ resolved) stand =
       opened_if one (filter (λ (one : Resolved). same_leaf one.leaf leaf) resolved) (same_leaf one.leaf leaf)
-      (λ same. opened_here one (same_number one.leaf leaf same) stand.0) (all_opened resolved stand.1)
+      (λ same. opened_here one (same_leaves one.leaf leaf same) stand.0) (all_opened resolved stand.1)
 
 -- the leaf's history up to a cut
 pub front_home : (store : Setting) (seen : Histories) → AreHeld store.held store.zones store.points seen → (leaf : Leaf)

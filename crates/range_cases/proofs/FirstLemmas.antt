@@ -4,7 +4,7 @@ use Rattle.std.proofs.Common.{ap, subst, ◌∙◌, arith, slice_get, Some, ◌|
 use Rattle.std.specs.Prelude.{Contains}
 use Rattle.std.specs.List.{AllByRecursion, IsDistinct}
 use Rattle.std.proofs.lemmas.Bool.Decides.{nat_tests}
-use Rattle.std.proofs.lemmas.Option.{slice_get_within}
+use Rattle.std.proofs.lemmas.Option.{slice_get_within, same_Some}
 use Rattle.mon_topo.specs.FirstHistories.{first_range_history, opening}
 use Rattle.mon_topo.specs.HeldHistories.{IsBorneOut, IsHeldBy}
 use Rattle.mon_topo.specs.RangeHistories.{acknowledged_rows, serving}
@@ -97,26 +97,23 @@ module _ (seen : Histories) (history : List RangeEntry) where
   abbrev Borne : ℕ → RangeEntry → Type 0
   Borne k e = IsBorneOut seen (range_numbered 0) history k e
 
-  first_of : {X : Type 0} (x y : X) → Some x ≡ Some y → x ≡ y
-  first_of x y e = cc
-
   one_borne : (a : RangeEntry) → Borne 0 a → (k : ℕ) (e : RangeEntry) → slice_get (a ∷ []) k ≡ Some e → Borne k e
-  one_borne a ha zero e is = subst (Borne 0) (first_of a e is) ha
+  one_borne a ha zero e is = subst (Borne 0) (same_Some a e is) ha
   one_borne a ha (suc k) e is =
       let low = slice_get_within (a ∷ []) (suc k) e is in absurd (omega (arith, low))
 
   two_borne : (a b : RangeEntry) → Borne 0 a → Borne 1 b → (k : ℕ) (e : RangeEntry)
       → slice_get (a ∷ b ∷ []) k ≡ Some e → Borne k e
-  two_borne a b ha hb zero e is = subst (Borne 0) (first_of a e is) ha
-  two_borne a b ha hb (suc zero) e is = subst (Borne 1) (first_of b e is) hb
+  two_borne a b ha hb zero e is = subst (Borne 0) (same_Some a e is) ha
+  two_borne a b ha hb (suc zero) e is = subst (Borne 1) (same_Some b e is) hb
   two_borne a b ha hb (suc (suc k)) e is =
       let low = slice_get_within (a ∷ b ∷ []) (suc (suc k)) e is in absurd (omega (arith, low))
 
   three_borne : (a b c : RangeEntry) → Borne 0 a → Borne 1 b → Borne 2 c → (k : ℕ) (e : RangeEntry)
       → slice_get (a ∷ b ∷ c ∷ []) k ≡ Some e → Borne k e
-  three_borne a b c ha hb hc zero e is = subst (Borne 0) (first_of a e is) ha
-  three_borne a b c ha hb hc (suc zero) e is = subst (Borne 1) (first_of b e is) hb
-  three_borne a b c ha hb hc (suc (suc zero)) e is = subst (Borne 2) (first_of c e is) hc
+  three_borne a b c ha hb hc zero e is = subst (Borne 0) (same_Some a e is) ha
+  three_borne a b c ha hb hc (suc zero) e is = subst (Borne 1) (same_Some b e is) hb
+  three_borne a b c ha hb hc (suc (suc zero)) e is = subst (Borne 2) (same_Some c e is) hc
   three_borne a b c ha hb hc (suc (suc (suc k))) e is =
       let low = slice_get_within (a ∷ b ∷ c ∷ []) (suc (suc (suc k))) e is in absurd (omega (arith, low))
 

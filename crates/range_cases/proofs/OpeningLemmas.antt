@@ -1,4 +1,5 @@
 -- What each call makes of a place that is being built.
+use Rattle.std.proofs.lemmas.Option.{same_Some}
 use Rattle.std.proofs.Common.{◌≡◌, ℕ, zero, suc, ◌+◌, ◌<◌, List, [], ◌∷◌, ◌++◌, drop, length, set, refl, sym, ap, subst}
 use Rattle.std.proofs.Common.{◌∙◌, arith, slice_get, Option, Some, None, map, append-nil}
 use Rattle.std.specs.Prelude.{IfOk, OnOk, Result, Ok, Err, option_map}
@@ -45,9 +46,6 @@ head_is x y xs ys e = cc
 
 tail_is : {X : Type 0} (x y : X) (xs ys : List X) → x ∷ xs ≡ y ∷ ys → xs ≡ ys
 tail_is x y xs ys e = cc
-
-some_is : {X : Type 0} (x y : X) → Some x ≡ Some y → x ≡ y
-some_is x y e = cc
 
 -- ---- who has seen nothing
 
@@ -256,7 +254,7 @@ module _ (slot : ℕ) (low : slot < 3) (leaf : Leaf) (at : leaf.0 ≡ leaf_in_sl
   module _ (new : List NewLeafView) (after : Knowledge)
       (took : HasOpenedAt leaf (opening (range_numbered 0) slot) leaves new before after) where
     was_is : took.was ≡ unopened (leaf_in_slot slot)
-    was_is = some_is took.was (unopened (leaf_in_slot slot))
+    was_is = same_Some took.was (unopened (leaf_in_slot slot))
         (sym took.there ∙ (λ i. slice_get (is.leaves_are i) (at i)) ∙ next_there slot low)
 
     seen_then : after.seen ≡ seen_after (slot + 1)

@@ -9,7 +9,7 @@ use Rattle.history_book.specs.declared.views.History.TheVariants as of
 use Rattle.history_book.specs.Histories.{with_book_entry}
 use Rattle.history_book.specs.Seats.{Owner}
 use Rattle.know.specs.Sound.{IsSound}
-use Rattle.mon_topo.proofs.FirstLemmas.{no_acks}
+use Rattle.mon_topo.proofs.FirstLemmas.{no_acks, no_acks_yet}
 use Rattle.mon_topo.proofs.HeldLemmas.{range_entry_held}
 use Rattle.mon_topo.specs.FirstHistories.{openings_from, slot_numbered}
 use Rattle.mon_topo.specs.HeldHistories.{AreHeld, BeginsWith, IsBorneOut, IsHeldBy, IsOpened}
@@ -52,11 +52,6 @@ opening_there (first ∷ leaves) slot zero leaf is =
 opening_there (first ∷ leaves) slot (suc k) leaf is =
     let at : (slot + 1) + k ≡ slot + suc k = omega arith in
     opening_there leaves (slot + 1) k leaf is ∙ ap (λ n. Some (range_entry.Opened 0 (slot_numbered n) leaf)) at
-
-no_acks_yet : (k slot : ℕ) (leaves : List Leaf) → acknowledged_rows (take k (openings_from slot leaves)) ≡ []
-no_acks_yet zero slot leaves = refl
-no_acks_yet (suc k) slot [] = refl
-no_acks_yet (suc k) slot (leaf ∷ leaves) = no_acks_yet k (slot + 1) leaves
 
 pub next_opening : (leaves : List Leaf) (slot k : ℕ) (leaf : Leaf) → slice_get leaves k ≡ Some leaf
     → openings_from slot (take k leaves) ++ range_entry.Opened 0 (slot_numbered (slot + k)) leaf ∷ []

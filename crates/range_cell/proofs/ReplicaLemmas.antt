@@ -1,10 +1,10 @@
 -- A replica may be opened on a leaf, and then told to its range.
-use Rattle.std.proofs.Common.{◌≡◌, ◌≢◌, ℕ, suc, ◌+◌, ◌<◌, ◌≤◌, Bool, true, false, cond, ◌||◌, ◌&&◌, nat_eq, nat_lt, List, []}
+use Rattle.std.proofs.Common.{◌≡◌, ◌≢◌, ℕ, ◌+◌, ◌<◌, ◌≤◌, Bool, true, false, cond, ◌||◌, ◌&&◌, nat_eq, nat_lt, List, []}
 use Rattle.std.proofs.Common.{◌∷◌, ◌++◌, length, filter, slice_get, refl, sym, ap, subst, ◌∙◌, arith, inl, inr, ◌⊎◌}
 use Rattle.std.proofs.Common.{Some, None, append-nil, length-append}
 use Rattle.std.specs.Prelude.{Contains, Option, option_map}
-use Rattle.std.specs.List.{list_any, AllByRecursion}
-use Rattle.std.proofs.lemmas.Bool.{cases_eq}
+use Rattle.std.specs.List.{list_any}
+use Rattle.std.proofs.lemmas.Bool.{cases_eq, ltb-true}
 use Rattle.std.proofs.lemmas.Bool.Decides.{nat_tests}
 use Rattle.std.proofs.lemmas.List.{take_at}
 use Rattle.std.proofs.lemmas.List.Concat.{flat_map-append}
@@ -87,9 +87,6 @@ by_first None serve opened free =
     (refl, both.0, both.1)
 by_first (Some replica) serve opened free = absurd cc
 
-below : (a b : ℕ) → nat_lt a b ≡ true → a < b
-below a b h = grind (arith, nat_tests)
-
 -- who is not denied finds none on the leaf, fewer than three that serve and a slot that is left
 pub record IsFree (history : List RangeEntry) (leaf : Leaf) : Type 0 where
   pub off : list_any (is_on leaf) (serving history) ≡ false
@@ -102,8 +99,8 @@ is_free history leaf free =
     (length (opened_slots history)) free in
     record {
       off = none_passes (is_on leaf) (serving history) parts.0;
-      few = below (length (serving history)) MOST_REPLICAS parts.1;
-      left = below (length (opened_slots history)) MOST_SLOTS parts.2;
+      few = ltb-true (length (serving history)) MOST_REPLICAS parts.1;
+      left = ltb-true (length (opened_slots history)) MOST_SLOTS parts.2;
     }
 
 pub spent_is : (history : List RangeEntry) (leaf : Leaf) (count : ℕ) → denial_of history leaf ≡ Some (SlotsSpent count)

@@ -1,22 +1,13 @@
 -- What stands where the lines ran is theirs.
 use Rattle.std.proofs.Common.{◌≡◌, ℕ, zero, suc, ◌<◌, ◌≤◌, nat_eq, Bool, true, false, ◌||◌, List, [], ◌∷◌}
 use Rattle.std.proofs.Common.{◌++◌, slice_get, Some, refl, ap, subst, arith, inl, inr}
-use Rattle.std.proofs.lemmas.Bool.{cases_lt}
+use Rattle.std.proofs.lemmas.Bool.{cases_lt, or_left, or_right, eqb-true}
 use mathlib.Core.Logic.{◌⊎◌}
 use Rattle.std.specs.List.{AllByRecursion, list_any}
 use Rattle.std.proofs.lemmas.Bool.{false≢true}
-use Rattle.std.proofs.lemmas.Bool.Decides.{nat_tests}
 use Rattle.run_theory.specs.InPlace.{AreTheirs}
 use Rattle.run_theory.specs.Marks.{EachRan, PartRan, PartsRan, between}
 use Rattle.run_theory.specs.Parts.{Part, all_lines, lines_of}
-
-or_left : (a b : Bool) → a ≡ true → (a || b) ≡ true
-or_left true b is = refl
-or_left false b is = absurd (false≢true is)
-
-or_right : (a b : Bool) → b ≡ true → (a || b) ≡ true
-or_right true b is = refl
-or_right false b is = is
 
 or_more : (a b c : Bool) → (a || b) ≡ true → (b ≡ true → c ≡ true) → (a || c) ≡ true
 or_more true b c is more = refl
@@ -26,9 +17,6 @@ one_or_others : (same one others : Bool) (rest : Bool) → (same || rest) ≡ tr
     → (rest ≡ true → others ≡ true) → (one || others) ≡ true
 one_or_others true one others rest is here there = or_left one others (here refl)
 one_or_others false one others rest is here there = or_right one others (there is)
-
-pub same_from : (n m : ℕ) → nat_eq n m ≡ true → n ≡ m
-same_from n m is = grind (arith, nat_tests)
 
 module _ {X : Type 0} where
   any_left : (test : X → Bool) (xs ys : List X) → list_any test xs ≡ true → list_any test (xs ++ ys) ≡ true
@@ -67,7 +55,7 @@ module _ {W H E R : Type 0} (content : W → H → List E) (under : E → ℕ)
   of_one from to (number ∷ numbers) (line ∷ lines) h k e each has there low high =
       one_or_others (nat_eq (under e) number) (is_of line h k e) (list_any (λ line. is_of line h k e) lines)
       (list_any (nat_eq (under e)) numbers) has
-      (λ is. theirs from to number line h k e each.0 there low high (same_from (under e) number is))
+      (λ is. theirs from to number line h k e each.0 there low high (eqb-true (under e) number is))
       (λ rest. of_one from to numbers lines h k e each.1 rest there low high)
 
   of_part : (from to : H → ℕ) (part : Part R) (h : H) (k : ℕ) (e : E)

@@ -1,23 +1,11 @@
 -- No two lines share an entry.
-use Rattle.std.proofs.Common.{◌≡◌, ℕ, ◌<◌, ◌≤◌, nat_eq, Bool, true, false, ◌||◌, List, [], ◌∷◌}
-use Rattle.std.proofs.Common.{slice_get, Some, refl, sym, ◌∙◌, arith}
+use Rattle.std.proofs.Common.{◌≡◌, ℕ, ◌<◌, ◌≤◌, nat_eq, Bool, true, false, List, [], ◌∷◌}
+use Rattle.std.proofs.Common.{slice_get, Some, sym, ◌∙◌, arith}
 use Rattle.std.specs.List.{AllByRecursion, list_any}
-use Rattle.std.proofs.lemmas.Bool.{false≢true}
-use Rattle.std.proofs.lemmas.Bool.Decides.{nat_tests}
+use Rattle.std.proofs.lemmas.Bool.{false≢true, or_parts, false_from_ne_true, eq-eqb}
 use Rattle.run_theory.specs.Marks.{AreApart, EachRan, Ran, RanBehind}
 use Rattle.run_theory.specs.Shares.{AreAlone}
 use Rattle.run_theory.proofs.InPlace.{any_by, any_from}
-
-either_way : (b r : Bool) → (b || r) ≡ false → (b ≡ false) × (r ≡ false)
-either_way true r e = absurd (false≢true (sym e))
-either_way false r e = (refl, e)
-
-same_by : (n m : ℕ) → n ≡ m → nat_eq n m ≡ true
-same_by n m e = grind (arith, nat_tests)
-
-none_by : (b : Bool) → (b ≡ true → ⊥) → b ≡ false
-none_by true never = absurd (never refl)
-none_by false never = refl
 
 module _ {W H E R : Type 0} (content : W → H → List E) (under : E → ℕ)
     (Makes : ℕ → R → (H → List E) → Type 0) (Finds : W → (H → ℕ) → (H → ℕ) → ℕ → R → Type 0)
@@ -33,7 +21,7 @@ module _ {W H E R : Type 0} (content : W → H → List E) (under : E → ℕ)
       → is_of line h k e ≡ true → list_any (λ other. is_of other h k e) later ≡ false
   not_later from to number line later h k e ran behind there mine =
       let p = placed from to number line h k e ran there mine in
-      none_by (list_any (λ other. is_of other h k e) later)
+      false_from_ne_true (list_any (λ other. is_of other h k e) later)
       (λ found. any_from (RanBehind content under Makes Finds whole to) ⊥ (λ other. is_of other h k e) later behind
       (λ other its is. let q = placed its.from its.to its.number other h k e its.ran there is in
       let b = its.below h in omega arith) found)
@@ -47,10 +35,10 @@ module _ {W H E R : Type 0} (content : W → H → List E) (under : E → ℕ)
   not_beside from to [] (line ∷ lines) number h k e each apart there mine found = absurd each
   not_beside from to (n ∷ numbers) [] number h k e each apart there mine found = absurd each
   not_beside from to (n ∷ numbers) (line ∷ lines) number h k e each apart there mine found =
-      let two = either_way (nat_eq number n) (list_any (nat_eq number) numbers) apart in
+      let two = or_parts (nat_eq number n) (list_any (nat_eq number) numbers) apart in
       any_by (is_of line h k e) (list_any (λ other. is_of other h k e) lines)
       (λ is. let q = (placed from to n line h k e each.0 there is).2 in
-      let same : nat_eq number n ≡ true = same_by number n (sym mine ∙ q) in
+      let same : nat_eq number n ≡ true = eq-eqb number n (sym mine ∙ q) in
       absurd (false≢true (sym two.0 ∙ same)))
       (not_beside from to numbers lines number h k e each.1 two.1 there mine) found
 
@@ -61,7 +49,7 @@ module _ {W H E R : Type 0} (content : W → H → List E) (under : E → ℕ)
   part_alone from to [] (line ∷ lines) each apart = absurd each
   part_alone from to (n ∷ numbers) [] each apart = absurd each
   part_alone from to (n ∷ numbers) (line ∷ lines) each apart = (
-    (λ h k e there mine. none_by (list_any (λ other. is_of other h k e) lines)
+    (λ h k e there mine. false_from_ne_true (list_any (λ other. is_of other h k e) lines)
         (not_beside from to numbers lines n h k e each.1 apart.0 there
         (placed from to n line h k e each.0 there mine).2)),
     part_alone from to numbers lines each.1 apart.1,

@@ -1,15 +1,15 @@
 -- In a run each entry that is a line's stands where the line ran, if no line that ran before or behind it made one.
 use Rattle.std.proofs.Common.{◌≡◌, ℕ, zero, suc, ◌+◌, ◌-◌, ◌<◌, ◌≤◌, nat_eq, Bool, true, false, ◌||◌, List, [], ◌∷◌}
-use Rattle.std.proofs.Common.{◌++◌, length, filter, cond, slice_get, Some, refl, sym, ap, ◌∙◌, subst, arith, inl, inr}
-use Rattle.std.specs.List.{AllByRecursion, list_any}
-use Rattle.std.proofs.lemmas.Bool.{cases_lt, false≢true}
+use Rattle.std.proofs.Common.{◌++◌, length, filter, cond, slice_get, Some, refl, ap, ◌∙◌, subst, arith, inl, inr}
+use Rattle.std.specs.List.{list_any}
+use Rattle.std.proofs.lemmas.Bool.{cases_lt, false≢true, eqb-true}
 use Rattle.std.proofs.lemmas.Bool.Decides.{nat_tests}
 use mathlib.Core.Logic.{◌⊎◌}
 use Rattle.run_theory.specs.InPlace.{AreDistinct, AreNotFirst, AreUnder, ArePlaced, FoundThere}
-use Rattle.run_theory.specs.Marks.{AreBelow, EachRan, IsWithin, PartRan, PartsRan, Ran, between}
+use Rattle.run_theory.specs.Marks.{AreBelow, EachRan, PartRan, PartsRan, Ran, between}
 use Rattle.run_theory.specs.Parts.{Part, lines_of}
 use Rattle.run_theory.proofs.Marks.{parts_below, parts_push}
-use Rattle.run_theory.proofs.Owned.{all_between, same_from}
+use Rattle.run_theory.proofs.Owned.{all_between}
 
 -- ---- lists
 
@@ -127,7 +127,7 @@ module _ {W H E R : Type 0} (content : W → H → List E) (under : E → ℕ)
   owner_in from to (number ∷ numbers) [] h k e each has there low high = absurd each
   owner_in from to (number ∷ numbers) (line ∷ lines) h k e each has there low high =
       either_by (nat_eq (under e) number) (list_any (nat_eq (under e)) numbers) has
-      (λ is. owned_by from to number line h k e each.0 there low high (same_from (under e) number is))
+      (λ is. owned_by from to number line h k e each.0 there low high (eqb-true (under e) number is))
       (λ rest. owner_in from to numbers lines h k e each.1 rest there low high)
 
   owner_of_part : (from to : H → ℕ) (part : Part R) (h : H) (k : ℕ) (e : E)

@@ -3,7 +3,7 @@ use Rattle.std.proofs.Common.{◌≡◌, ℕ, ◌≤◌, nat_eq, Bool, true, fal
 use Rattle.std.proofs.Common.{◌++◌, filter}
 use Rattle.std.proofs.Common.{take, refl, sym, ap, ◌∙◌, subst, arith, cond, ◌||◌}
 use Rattle.std.specs.List.{AllByRecursion, flat_map, list_any}
-use Rattle.std.proofs.lemmas.Bool.{false≢true}
+use Rattle.std.proofs.lemmas.Bool.{false≢true, or_parts}
 use Rattle.std.proofs.lemmas.Bool.Decides.{nat_tests}
 use Rattle.std.proofs.lemmas.List.{append-nil, drop_all, length-take}
 use Rattle.std.proofs.lemmas.List.Concat.{flat_map-append}
@@ -21,10 +21,6 @@ module _ {X : Type 0} where
   pub filter_none : (p : X → Bool) (xs : List X) → AllByRecursion (λ x. p x ≡ false) xs → filter p xs ≡ []
   filter_none p [] all = refl
   filter_none p (x ∷ xs) all = ap (λ b. cond b (x ∷ filter p xs) (filter p xs)) all.0 ∙ filter_none p xs all.1
-
-either_way : (b r : Bool) → (b || r) ≡ false → (b ≡ false) × (r ≡ false)
-either_way true r e = absurd (false≢true (sym e))
-either_way false r e = (refl, e)
 
 not_by : (n m : ℕ) (numbers : List ℕ) (b : Bool) → nat_eq m n ≡ b → list_any (nat_eq m) numbers ≡ true
     → list_any (nat_eq n) numbers ≡ false → nat_eq m n ≡ false
@@ -56,7 +52,7 @@ module _ {W H E R X : Type 0} (content : W → H → List E) (under : E → ℕ)
   none_tell whole from to [] (line ∷ lines) n h each none = absurd each
   none_tell whole from to (number ∷ numbers) [] n h each none = absurd each
   none_tell whole from to (number ∷ numbers) (line ∷ lines) n h each none =
-      let two = either_way (nat_eq n number) (list_any (nat_eq n) numbers) none in
+      let two = or_parts (nat_eq n number) (list_any (nat_eq n) numbers) none in
       ap (λ w. w ++ flat_map (λ line. tells n line h) lines)
       (other number n line each.0.made h each.0.makes two.0)
       ∙ none_tell whole from to numbers lines n h each.1 two.1

@@ -1,8 +1,8 @@
 -- Whose the entries of a run are: those that are told to be a line's were made by it alone.
-use Rattle.std.proofs.Common.{◌≡◌, ℕ, zero, suc, ◌<◌, ◌≤◌, nat_eq, ◌&&◌, Bool, true, false, List, [], ◌∷◌, ◌++◌, length}
+use Rattle.std.proofs.Common.{◌≡◌, ℕ, zero, suc, ◌<◌, ◌≤◌, nat_eq, Bool, true, false, List, [], ◌∷◌, ◌++◌, length}
 use Rattle.std.proofs.Common.{map, filter, slice_get, Some, refl, sym, ap, ◌∙◌, subst, arith, ◌+◌, if◌then◌else◌}
 use Rattle.std.specs.List.{AllByRecursion, flat_map, list_any, range_with_len, slice_index_or}
-use Rattle.std.proofs.lemmas.Bool.{false≢true}
+use Rattle.std.proofs.lemmas.Bool.{false≢true, and_from}
 use Rattle.std.proofs.lemmas.List.{map-append}
 use mathlib.Core.List.{IsPrefix}
 use Rattle.history_book.specs.Histories.{AreFronts, book_entry_pass, entries}
@@ -41,10 +41,6 @@ use Rattle.run_traces.proofs.ListFacts.{all_at, any_at, both_all, no_item}
 use Rattle.run_traces.proofs.Switched.{IsTheirs, lone_between, not_recovering, not_switching, recovered_there}
 use Rattle.run_traces.proofs.Switched.{switch_pass, switched_entry, switched_leaf, switched_there}
 use Rattle.run_traces.proofs.RowFacts.{fed_pass, fed_row, lies_as, row_joined, row_key, rows_before}
-
-both_hold : (a b : Bool) → a ≡ true → b ≡ true → (a && b) ≡ true
-both_hold true b first second = second
-both_hold false b first second = absurd (false≢true first)
 
 -- what a line that neither feeds nor switches nor recovers made is nothing
 none_made : (made : History → List BookEntry) (h : History) (j : ℕ) (e : BookEntry)
@@ -117,7 +113,7 @@ module _ (config : Config) (ended : Histories)
       (switch_pass found.switch.down number))
       there low high (same_to (book_entry_pass e) number mine) in
       let counted : stands.place + 1 ≡ cut = found.last in
-      both_hold (switches (switch_of line.what) h e) (nat_eq (k + 1) cut) own (same_to (k + 1) cut (omega arith))
+      and_from (switches (switch_of line.what) h e) (nat_eq (k + 1) cut) own (same_to (k + 1) cut (omega arith))
 
   made_by : (from to : History → ℕ) (number : ℕ) (line : RanLine) (trace : LineTrace) (made : History → List BookEntry)
       (h : History) (k j : ℕ) (e : BookEntry) → HasMade config number line.what trace made

@@ -1,10 +1,9 @@
 -- The rows that a feed accepted, among those that were acknowledged where it ran.
-use Rattle.std.proofs.Common.{◌≡◌, ℕ, zero, suc, ◌≤◌, nat_eq, ◌&&◌, Bool, true, false, List, [], ◌∷◌, ◌++◌}
+use Rattle.std.proofs.Common.{◌≡◌, ℕ, zero, suc, ◌≤◌, nat_eq, true, false, List, [], ◌∷◌, ◌++◌}
 use Rattle.std.proofs.Common.{map, filter, take, refl, sym, ap, ◌∙◌, subst, arith}
 use Rattle.std.specs.List.{AllByRecursion, flat_map, list_any}
 use Rattle.std.specs.Ordering.{int_eq}
-use Rattle.std.proofs.lemmas.Bool.{and_from, and_parts, false≢true}
-use Rattle.std.proofs.lemmas.Bool.Decides.{nat_tests}
+use Rattle.std.proofs.lemmas.Bool.{and_from, and_parts, false≢true, eqb-true}
 use Rattle.std.proofs.lemmas.Int.{ints}
 use Rattle.history_book.specs.Histories.{book_entry_pass, entries}
 use Rattle.history_book.specs.declared.views.BookEntry.{BookEntry}
@@ -99,17 +98,14 @@ module _ (pass : ℕ) (accepted : List Row) (C : Type 0) where
       use_it row (and_parts (nat_eq by pass) (list_any (is_row row) accepted) is).1
       (λ other rows fed. (and_parts (nat_eq by other) (list_any (is_row row) rows) fed).1)
 
-same_from : (n m : ℕ) → nat_eq n m ≡ true → n ≡ m
-same_from n m is = grind (arith, nat_tests)
-
 -- and its number
 pub fed_pass : (pass : ℕ) (accepted : List Row) (e : BookEntry) → is_fed pass accepted e ≡ true
     → book_entry_pass e ≡ pass
 fed_pass pass accepted (one.Leaf (entry.Opened by range slot held)) is = absurd (false≢true is)
 fed_pass pass accepted (one.Leaf (entry.Put by range slot row)) is =
-    same_from by pass (and_parts (nat_eq by pass) (list_any (is_row row) accepted) is).0
+    eqb-true by pass (and_parts (nat_eq by pass) (list_any (is_row row) accepted) is).0
 fed_pass pass accepted (one.Leaf (entry.Down by)) is = absurd (false≢true is)
 fed_pass pass accepted (one.Leaf (entry.Up by)) is = absurd (false≢true is)
 fed_pass pass accepted (one.Range (range_entry.Opened by slot leaf)) is = absurd (false≢true is)
 fed_pass pass accepted (one.Range (range_entry.Acked by row ack)) is =
-    same_from by pass (and_parts (nat_eq by pass) (list_any (is_row row) accepted) is).0
+    eqb-true by pass (and_parts (nat_eq by pass) (list_any (is_row row) accepted) is).0

@@ -1,8 +1,8 @@
 -- Leaves that were switched, and replicas that were opened: a history has one entry for each.
-use Rattle.std.proofs.Common.{◌≡◌, ℕ, zero, suc, ◌+◌, ◌<◌, ◌≤◌, nat_eq, ◌&&◌, ◌||◌, Bool, true, false, cond, List, []}
+use Rattle.std.proofs.Common.{◌≡◌, ℕ, zero, suc, ◌+◌, ◌<◌, ◌≤◌, nat_eq, ◌&&◌, Bool, true, false, cond, List, []}
 use Rattle.std.proofs.Common.{◌∷◌, ◌++◌, length, map, filter, slice_get, Some, None, refl, sym, ap, ◌∙◌, subst, arith}
 use Rattle.std.specs.List.{slice_index_or}
-use Rattle.std.proofs.lemmas.Bool.{and_parts, false≢true}
+use Rattle.std.proofs.lemmas.Bool.{and_parts, false≢true, or_left, or_right}
 use Rattle.std.proofs.lemmas.Bool.Decides.{nat_tests}
 use Rattle.std.proofs.lemmas.List.{length-append}
 use Rattle.std.proofs.lemmas.List.Concat.{flat_map-append}
@@ -15,12 +15,12 @@ use Rattle.history_book.specs.declared.views.History.TheVariants as of
 use Rattle.mon_config.specs.declared.config.Config.{Config}
 use Rattle.mon_topo.specs.HeldHistories.{AreHeld}
 use Rattle.mon_topo.specs.RangeHistories as range_spec
-use Rattle.mon_topo.specs.RangeHistories.{IsLegal, opened_slot, opened_slots}
+use Rattle.mon_topo.specs.RangeHistories.{opened_slot, opened_slots}
 use Rattle.mon_value.proofs.LeafHistoryLemmas.{is_opened-append}
 use Rattle.mon_value.specs.Histories.{leaf_history, range_history}
 use Rattle.mon_value.specs.LeafHistories as leaf_spec
-use Rattle.mon_value.specs.LeafHistories.{IsWellFormed, is_opened, same_replica}
-use Rattle.mon_value.specs.Positions.{leaf_numbered, range_numbered, same_leaf, same_range, same_slot}
+use Rattle.mon_value.specs.LeafHistories.{is_opened, same_replica}
+use Rattle.mon_value.specs.Positions.{range_numbered, same_leaf, same_range, same_slot}
 use Rattle.mon_value.specs.declared.histories.Entry.{Entry}
 use Rattle.mon_value.specs.declared.histories.Entry.TheVariants as entry
 use Rattle.mon_value.specs.declared.histories.Histories.{Histories}
@@ -38,14 +38,12 @@ use Rattle.run_traces.specs.LineSwitches.{IsRecoveredBetween, IsSwitchedBetween,
 use Rattle.run_traces.specs.LineSwitches.{opens, recovers, recovery_of, switch_entry, switch_of}
 use Rattle.run_traces.specs.LineSwitches.{switches}
 use Rattle.run_traces.proofs.ListFacts.{no_item}
+use Rattle.query_core.proofs.LeafLemmas.{same_leaves}
 
 -- ---- tests
 
 pub same_number : (n m : ℕ) → nat_eq n m ≡ true → n ≡ m
 same_number n m is = grind (arith, nat_tests)
-
-leaves_same : (a b : Leaf) → same_leaf a b ≡ true → a ≡ b
-leaves_same a b is = let number : a.0 ≡ b.0 = same_number a.0 b.0 is in ap leaf_numbered number
 
 ranges_same : (a b : Range) → same_range a b ≡ true → a ≡ b
 ranges_same a b is = let number : a.0 ≡ b.0 = same_number a.0 b.0 is in ap range_numbered number
@@ -57,7 +55,7 @@ slots_same : (a b : Slot) → nat_eq a.0 b.0 ≡ true → a ≡ b
 slots_same a b is = let number : a.0 ≡ b.0 = same_number a.0 b.0 is in ap slot_numbered number
 
 history_same : (leaf : Leaf) (h : History) → same_history (of.Leaf leaf) h ≡ true → of.Leaf leaf ≡ h
-history_same leaf (of.Leaf other) is = ap (λ (l : Leaf). of.Leaf l) (leaves_same leaf other is)
+history_same leaf (of.Leaf other) is = ap (λ (l : Leaf). of.Leaf l) (same_leaves leaf other is)
 history_same leaf (of.Range range) is = absurd (false≢true is)
 
 -- ---- lists
@@ -169,23 +167,15 @@ module _ (e : RangeEntry) where
 same_itself : (range : Range) (slot : Slot) → same_replica range slot range slot ≡ true
 same_itself range slot = ap (λ b. b && nat_eq slot.0 slot.0) (same_to range.0 range.0 refl) ∙ same_to slot.0 slot.0 refl
 
-or_itself : (a b : Bool) → a ≡ true → (a || b) ≡ true
-or_itself true b is = refl
-or_itself false b is = absurd (false≢true is)
-
-or_last : (a b : Bool) → b ≡ true → (a || b) ≡ true
-or_last true b is = refl
-or_last false b is = is
-
 module _ (range : Range) (slot : Slot) where
   abbrev opening : ℕ → List Row → Entry
   opening pass rows = entry.Opened pass range slot rows
 
   opened_here : (front : List Entry) (pass : ℕ) (rows : List Row)
       → is_opened range slot (front ++ opening pass rows ∷ []) ≡ true
-  opened_here [] pass rows = or_itself (same_replica range slot range slot) false (same_itself range slot)
+  opened_here [] pass rows = or_left (same_replica range slot range slot) false (same_itself range slot)
   opened_here (entry.Opened by other place held ∷ front) pass rows =
-      or_last (same_replica range slot other place) _ (opened_here front pass rows)
+      or_right (same_replica range slot other place) _ (opened_here front pass rows)
   opened_here (entry.Put by other place row ∷ front) pass rows = opened_here front pass rows
   opened_here (entry.Down by ∷ front) pass rows = opened_here front pass rows
   opened_here (entry.Up by ∷ front) pass rows = opened_here front pass rows
@@ -388,7 +378,7 @@ module _ (config : Config) (ended : Histories) (from to : History → ℕ) (numb
         (entry.Opened by found.recovery.range s rows)) (sym slot_is)
         (subst (λ (r : Range). slice_get (leaf_history ended leaf) k ≡ Some (entry.Opened by r place rows))
         (sym range_is) stood) in
-        let theirs = leaf_theirs leaf k by rows (leaves_same found.recovery.leaf leaf two.0) mine in
+        let theirs = leaf_theirs leaf k by rows (same_leaves found.recovery.leaf leaf two.0) mine in
         record { low = theirs.low; high = theirs.high; under = theirs.under }
     opened_there (of.Leaf leaf) k (one.Leaf (entry.Put by other place row)) there is =
         absurd (false≢true (and_parts (same_leaf found.recovery.leaf leaf) false is).1)

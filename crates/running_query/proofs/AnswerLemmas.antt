@@ -42,10 +42,11 @@ use Rattle.mql_types.specs.Nodes.{typed_tree}
 use Rattle.owners.specs.Calls.{HasLooked}
 use Rattle.plan_split.proofs.PlanBuckets.{next_below}
 use Rattle.plan_split.specs.Meeting.{is_plan_met}
+use Rattle.query_core.proofs.AskLemmas.{root_below, slots_same, zone_below}
 use Rattle.query_core.proofs.SeenLemmas.{seen_told}
 use Rattle.query_core.proofs.ToldAnswers.{can_read}
 use Rattle.query_core.specs.AskedPlaces.{IsThere}
-use Rattle.query_core.specs.Machine.{Query, new_query, slots_at, slots_of, slots_visited}
+use Rattle.query_core.specs.Machine.{Query, new_query, slots_at, slots_of}
 use Rattle.query_core.specs.Mixtures.{typed_of}
 use Rattle.query_core.specs.Program.{ask_of}
 use Rattle.query_core.specs.SeenSights.{seen_of}
@@ -60,7 +61,6 @@ use Rattle.query_core.specs.declared.asks.Ask.TheVariants as ask
 use Rattle.query_core.specs.declared.asks.Seen.{Seen}
 use Rattle.query_core.specs.declared.asks.Told.{Told}
 use Rattle.query_core.specs.declared.asks.Told.TheVariants as told
-use Rattle.query_core.specs.declared.stages.Stage.{Stage}
 use Rattle.query_core.specs.declared.stages.Stage.TheVariants as at
 use Rattle.raise_table.specs.Seats.{note}
 use Rattle.raise_table.specs.declared.views.Note.{Note}
@@ -77,44 +77,6 @@ use Rattle.running_query.specs.Telling.{FindsSo, IsWordTold, LooksSo, slot_told,
 
 at_whole : {X : Type 0} (xs : List X) (n : ℕ) → n ≡ length xs → take n xs ≡ xs
 at_whole xs n e = ap (λ (k : ℕ). take k xs) e ∙ take-length xs
-
--- ---- the slots of a leaf that is asked of are those of the visit
-
-slots_same : (asked : QuerySetting) (stage : Stage) (leaf : Leaf) → ask_of asked stage ≡ ask.Visit leaf
-    → slots_of stage leaf ≡ slots_visited stage
-slots_same asked (at.Rooting loading) leaf e = absurd cc
-slots_same asked (at.Entering course round loading) leaf e = absurd cc
-slots_same asked (at.Resolving course round range) leaf e = absurd cc
-slots_same asked (at.Reloading course round loading) leaf e = absurd cc
-slots_same asked (at.Visiting course round visits other) leaf e =
-    let same : leaf ≡ other = cc in ap (slots_of (at.Visiting course round visits other)) same
-slots_same asked (at.Ended end) leaf e = absurd cc
-
--- ---- the buckets that are asked of
-
-module _ (asked : QuerySetting) (count : ℕ) (below : (i : ℕ) → get_or asked.plan.buckets i 0 < count) where
-  root_below : (stage : Stage) (bucket : ℕ) → ask_of asked stage ≡ ask.LoadRoot bucket → bucket < count
-  root_below (at.Rooting loading) bucket e =
-      let same : get_or asked.plan.buckets (length loading.words) 0 ≡ bucket = cc in
-      subst (λ (n : ℕ). n < count) same (below (length loading.words))
-  root_below (at.Entering course round loading) bucket e = absurd cc
-  root_below (at.Resolving course round range) bucket e = absurd cc
-  root_below (at.Reloading course round loading) bucket e = absurd cc
-  root_below (at.Visiting course round visits leaf) bucket e = absurd cc
-  root_below (at.Ended end) bucket e = absurd cc
-
-  zone_below : (stage : Stage) (zone : Zone) (bucket : ℕ) → ask_of asked stage ≡ ask.LoadZone zone bucket → bucket
-      < count
-  zone_below (at.Rooting loading) zone bucket e = absurd cc
-  zone_below (at.Entering course round loading) zone bucket e =
-      let same : get_or asked.plan.buckets (length loading.words) 0 ≡ bucket = cc in
-      subst (λ (n : ℕ). n < count) same (below (length loading.words))
-  zone_below (at.Resolving course round range) zone bucket e = absurd cc
-  zone_below (at.Reloading course round loading) zone bucket e =
-      let same : get_or asked.plan.buckets (length loading.words) 0 ≡ bucket = cc in
-      subst (λ (n : ℕ). n < count) same (below (length loading.words))
-  zone_below (at.Visiting course round visits leaf) zone bucket e = absurd cc
-  zone_below (at.Ended end) zone bucket e = absurd cc
 
 -- ---- a query on its way
 

@@ -1,10 +1,9 @@
 -- How a query begins, and how it ends.
-use Rattle.std.proofs.Common.{◌≡◌, ◌∙◌, ◌≤ℤ◌, inl, inr, ℕ, ℤ, true, pos, nat_eq, List, [], ◌∷◌, ◌++◌, refl, sym, ap}
+use Rattle.std.proofs.Common.{◌≡◌, ◌∙◌, ◌≤ℤ◌, inl, inr, ℕ, ℤ, true, pos, List, [], ◌∷◌, ◌++◌, refl, sym, ap}
 use Rattle.std.proofs.Common.{subst, arith, Ok, Err, None, append_assoc, length}
 use Rattle.std.specs.Prelude.{Result}
 use Rattle.std.specs.List.{AllByRecursion as All, Contains, sum}
 use Rattle.std.proofs.lemmas.Bool.{or_cases}
-use Rattle.std.proofs.lemmas.Bool.Decides.{nat_tests}
 use Rattle.std.proofs.lemmas.List.{append-nil}
 use Rattle.history_book.specs.Seats.{length_note}
 use Rattle.history_book.specs.declared.views.LengthNote.{LengthNote}
@@ -16,7 +15,7 @@ use Rattle.mon_topo.specs.Serving.{first_serving, is_avoided}
 use Rattle.mon_topo.specs.Settings.{Setting}
 use Rattle.mon_topo.specs.Views.{IsSound, View}
 use Rattle.mon_value.specs.Histories.{range_history}
-use Rattle.mon_value.specs.Positions.{leaf_numbered, same_leaf}
+use Rattle.mon_value.specs.Positions.{same_leaf}
 use Rattle.mon_value.specs.declared.histories.Histories.{Histories}
 use Rattle.mon_value.specs.declared.positions.FoundDown.{FoundDown}
 use Rattle.mon_value.specs.declared.positions.Leaf.{Leaf}
@@ -48,6 +47,7 @@ use Rattle.running_query.specs.Ends.{EndsRightly, IsFoundDown, IsLeftWithout}
 use Rattle.running_query.specs.Ends.{WasFoundDown, WereFoundDown}
 use Rattle.running_query.specs.Looks.{view_of}
 use Rattle.running_query.specs.Notes.{IsHanded, lengths_told, range_number}
+use Rattle.query_core.proofs.LeafLemmas.{same_leaves}
 
 module _ (store : Setting) (raise : RaiseIdentity) (setting : QuerySetting) (moment : ℤ) (entry : Knowledge)
     (here : IsAskedHere store raise setting moment entry) where
@@ -93,11 +93,6 @@ module _ (store : Setting) (setting : QuerySetting) (moment : ℤ) where
         → IsSound store view → Ends view events (Ok answer) → answer.trace.down ≡ []
         → sum answer.trace.sent ≡ sent_told store setting moment events
 
-same_number : (a b : Leaf) → same_leaf a b ≡ true → a ≡ b
-same_number a b same =
-    let test : nat_eq a.0 b.0 ≡ true = same in
-    let e : a.0 ≡ b.0 = grind (arith, nat_tests) in ap leaf_numbered e
-
 abbrev FirstNone : Range → List Leaf → Histories → Type 0
 FirstNone range avoided seen = first_serving avoided (range_history seen range) ≡ None
 
@@ -108,7 +103,7 @@ found_among : (Is : FoundDown → Type 0) (founds : List FoundDown) → All Is f
 found_among Is [] all replica avoided = absurd cc
 found_among Is (found ∷ founds) all replica avoided =
     elim (or_cases (same_leaf replica.leaf found.leaf) (is_avoided (found_leaves founds) replica) avoided) [
-      | inl first ↦ (found, all.0, same_number replica.leaf found.leaf first)
+      | inl first ↦ (found, all.0, same_leaves replica.leaf found.leaf first)
       | inr more ↦ found_among Is founds all.1 replica more
     ]
 

@@ -1,7 +1,7 @@
 -- What each look keeps, and that it is kept by looks one after another.
 use Rattle.std.proofs.Common.{◌≡◌, ◌∙◌, ◌+◌, ◌-◌, ◌^◌, ◌⊎◌, inl, inr, ℕ, List, [], ◌∷◌, ◌++◌, refl, sym, ap, subst}
 use Rattle.std.proofs.Common.{append_assoc, arith}
-use Rattle.std.specs.Prelude.{Option, Some, None, length, option_map}
+use Rattle.std.specs.Prelude.{length}
 use Rattle.std.specs.List.{sum_by}
 use Rattle.std.proofs.lemmas.Bool.{cases_lt}
 use Rattle.std.proofs.lemmas.List.{append-nil}
@@ -9,7 +9,6 @@ use Rattle.history_book.specs.Histories.{AreFronts}
 use Rattle.history_book.specs.Numbers.{times_among}
 use Rattle.history_book.specs.declared.numbers.Numbers.{Numbers}
 use Rattle.history_book.specs.Seats.{length_note, times_lost}
-use Rattle.history_book.specs.declared.views.Kept.{Kept}
 use Rattle.history_book.specs.declared.views.Purse.{Purse}
 use Rattle.know.specs.Knowledge as knowledge
 use Rattle.know.specs.Knowledge.{Knowledge, stopped_count}
@@ -22,7 +21,7 @@ use Rattle.mon_value.specs.declared.histories.Entry.{Entry}
 use Rattle.mon_value.specs.declared.histories.Histories.{Histories}
 use Rattle.mon_value.specs.declared.positions.Leaf.{Leaf}
 use Rattle.mon_value.specs.declared.positions.Range.{Range}
-use Rattle.owners.specs.Calls.{HasCalled, kept_with_all}
+use Rattle.owners.specs.Calls.{HasCalled}
 use Rattle.query_core.specs.SeenSights.{seen_of}
 use Rattle.query_core.specs.declared.asks.Seen.{Seen}
 use Rattle.query_core.specs.declared.asks.Told.TheVariants as told
@@ -31,10 +30,11 @@ use Rattle.range_cell.specs.Calls.{HasMetRange}
 use Rattle.running_query.specs.Looks.{GoesOn}
 use Rattle.running_query.specs.Notes.{HandsOut, IsHanded}
 use Rattle.running_query.specs.Telling.{IsWordTold}
+use Rattle.range_cell.proofs.LookingLemmas.{none_kept}
 
 -- ---- going on twice
 
-fronts_through : (a b c : Histories) → AreFronts a b → AreFronts b c → AreFronts a c
+pub fronts_through : (a b c : Histories) → AreFronts a b → AreFronts b c → AreFronts a c
 fronts_through a b c one two = (
   λ leaf. (
     (one.0 leaf).0 ++ (two.0 leaf).0,
@@ -72,7 +72,7 @@ goes_through store a b c one two = record {
 abbrev times_lost_in : ℕ → List Numbers → ℕ
 times_lost_in n lost = sum_by (times_among n) lost
 
-same_fronts : (seen : Histories) → AreFronts seen seen
+pub same_fronts : (seen : Histories) → AreFronts seen seen
 same_fronts seen = (λ leaf. ([], append-nil (leaf_history seen leaf)), λ range. ([], append-nil (range_history seen range)))
 
 -- nothing has changed
@@ -150,18 +150,13 @@ met_goes store leaves range before after met sound = record {
   sound = sound;
 }
 
--- a leaf was
-kept_same : (leaf : Leaf) (own : Option Kept) → option_map (kept_with_all leaf []) own ≡ own
-kept_same leaf None = refl
-kept_same leaf (Some kept) = refl
-
 pub called_goes : (store : Setting) (leaf : Leaf) (history : List Entry) (before after : Knowledge)
     → HasCalled leaf history [] before after → after.purse.rooms ≡ before.purse.rooms
     → IsSound store after.hints after.seen → GoesOn store before after
 called_goes store leaf history before after called rooms sound = record {
   fronts = called.fronts;
   knows = called.knows;
-  own = called.own ∙ kept_same leaf before.purse.own;
+  own = called.own ∙ none_kept leaf before.purse.own;
   met = called.met;
   stock = called.stock;
   lost = λ n. ap (times_lost_in n) called.lost;

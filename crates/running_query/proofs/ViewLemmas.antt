@@ -1,8 +1,8 @@
 -- What a caller knows, as a query sees it: known bits, and histories that go on.
-use Rattle.std.proofs.Common.{◌≡◌, ◌-◌, ◌&&◌, ℕ, Bool, true, false, Some, nat_eq, refl, sym, ap, subst, arith}
+use Rattle.std.proofs.Common.{◌≡◌, ◌-◌, ◌&&◌, ℕ, true, Some, nat_eq, refl, sym, subst}
 use Rattle.std.specs.Prelude.{slice_get}
 use Rattle.std.specs.Int.{bit_at}
-use Rattle.std.proofs.lemmas.Bool.{and_parts, eq-eqb}
+use Rattle.std.proofs.lemmas.Bool.{and_parts, eq-eqb, and_from, eqb-true}
 use Rattle.std.proofs.lemmas.List.Folds.{Any-from_list_any, list_any-from_Any}
 use Rattle.std.proofs.lemmas.Option.{get_or_from_slice_get}
 use Rattle.history_book.specs.Histories.{AreFronts}
@@ -27,23 +27,9 @@ use Rattle.raise_table.specs.Seats.{HasKnown, Knows, KnowsAsMuch}
 use Rattle.raise_table.specs.declared.views.Hints.{Hints}
 use Rattle.raise_table.specs.declared.views.Note.{Note}
 use Rattle.running_query.specs.Looks.{GoesOn, view_of}
+use Rattle.leaf_cell.proofs.RaisingLemmas.{one_number}
 
 -- ---- known bits, as tests and as facts
-
-both_from : (a b : Bool) → a ≡ true → b ≡ true → (a && b) ≡ true
-both_from true true e f = refl
-both_from true false e f = absurd cc
-both_from false b e f = absurd cc
-
-is_same : (x y : ℕ) → nat_eq x y ≡ true → x ≡ y
-is_same x y e = grind arith
-
-place_is : (a b : Place) → place_number a ≡ place_number b → a ≡ b
-place_is at.Root at.Root e = refl
-place_is at.Root (at.Zone zone) e = absurd (omega (arith, e))
-place_is (at.Zone zone) at.Root e = absurd (omega (arith, e))
-place_is (at.Zone zone) (at.Zone other) e =
-    let same : zone.0 ≡ other.0 = omega (arith, e) in ap (λ (n : ℕ). at.Zone (zone_numbered n)) same
 
 knows_of : (hints : Hints) (place : Place) (bucket bit : ℕ) → is_known hints place bucket bit ≡ true
     → Knows hints place bucket bit
@@ -55,9 +41,9 @@ knows_of hints place bucket bit e =
     let rest = and_parts (nat_eq note.bucket bucket) (nat_eq (bit_at note.bits bit) 1) first.1 in (
       note,
       (one.0, one.2, one.3),
-      place_is note.place place (is_same (place_number note.place) (place_number place) first.0),
-      is_same note.bucket bucket rest.0,
-      is_same (bit_at note.bits bit) 1 rest.1,
+      one_number note.place place (eqb-true (place_number note.place) (place_number place) first.0),
+      eqb-true note.bucket bucket rest.0,
+      eqb-true (bit_at note.bits bit) 1 rest.1,
     )
 
 known_of : (hints : Hints) (place : Place) (bucket bit : ℕ) → Knows hints place bucket bit
@@ -69,9 +55,9 @@ known_of hints place bucket bit k =
       note,
       k.1.1,
       k.1.2,
-      both_from (same_place note.place place) (nat_eq note.bucket bucket && nat_eq (bit_at note.bits bit) 1)
+      and_from (same_place note.place place) (nat_eq note.bucket bucket && nat_eq (bit_at note.bits bit) 1)
           (subst (λ (p : Place). same_place note.place p ≡ true) k.2 (eq-eqb (place_number note.place) (place_number note.place) refl))
-          (both_from (nat_eq note.bucket bucket) (nat_eq (bit_at note.bits bit) 1) (eq-eqb note.bucket bucket k.3)
+          (and_from (nat_eq note.bucket bucket) (nat_eq (bit_at note.bits bit) 1) (eq-eqb note.bucket bucket k.3)
           (eq-eqb (bit_at note.bits bit) 1 k.4)),
     )
 

@@ -4,7 +4,7 @@ use Rattle.std.proofs.Common.{None, List, [], ◌∷◌, ◌++◌, length, repli
 use Rattle.std.proofs.Common.{inl, inr, nat_eq}
 use Rattle.std.specs.Prelude.{Contains, pos}
 use Rattle.std.specs.List.{flat_map, range_with_len, AllByRecursion as All}
-use Rattle.std.proofs.lemmas.Bool.{cases_eq, cases_lt, eq-eqb, ne_eqb}
+use Rattle.std.proofs.lemmas.Bool.{cases_eq, cases_lt, eq-eqb, ne_eqb, or_parts}
 use Rattle.std.proofs.lemmas.List.{get_or_past, length-replicate}
 use Rattle.mon_config.specs.declared.config.Config.{Config}
 use Rattle.mon_hints.specs.Listings.{is_among}
@@ -77,15 +77,11 @@ no_own_rows range slot (e ∷ history) h =
 
 -- ---- what is opened
 
-both_false : (a b : Bool) → (a || b) ≡ false → (a ≡ false) × (b ≡ false)
-both_false true b e = absurd cc
-both_false false b e = (refl, e)
-
 none_each : (range : Range) (slot : Slot) (history : List Entry) → is_opened range slot history ≡ false
     → All (λ (e : Entry). is_opened range slot (e ∷ []) ≡ false) history
 none_each range slot [] is = tt
 none_each range slot (e ∷ history) is =
-    let both = both_false (is_opened range slot (e ∷ [])) (is_opened range slot history)
+    let both = or_parts (is_opened range slot (e ∷ [])) (is_opened range slot history)
     (sym (opened_more range slot (e ∷ []) history) ∙ is) in (both.0, none_each range slot history both.1)
 
 same_itself : (range : Range) (k : ℕ) → is_opened range (slot_numbered k) (opening range k ∷ []) ≡ true

@@ -11,7 +11,8 @@ use Rattle.mon_schema.specs.SchemaLists.{SchemaLists}
 use Rattle.mon_value.specs.declared.histories.Entry.{Entry}
 use Rattle.mon_value.specs.declared.positions.Leaf.{Leaf}
 use Rattle.mon_value.specs.declared.positions.RangeSlot.{RangeSlot}
-use Rattle.query_core.specs.Machine.{Query, slots_at, slots_of, slots_visited}
+use Rattle.query_core.proofs.AskLemmas.{slots_same}
+use Rattle.query_core.specs.Machine.{Query, slots_at, slots_of}
 use Rattle.query_core.specs.Mixtures.{typed_of}
 use Rattle.query_core.specs.Program.{ask_of}
 use Rattle.mon_meaning.specs.ReadableSlots.{CanBeRead}
@@ -19,7 +20,6 @@ use Rattle.query_core.specs.Settings.{QuerySetting}
 use Rattle.query_core.specs.declared.asks.Ask.{Ask}
 use Rattle.query_core.specs.declared.asks.Ask.TheVariants as ask
 use Rattle.query_core.specs.declared.asks.Told.{Told}
-use Rattle.query_core.specs.declared.stages.Stage.{Stage}
 use Rattle.query_core.specs.declared.stages.Stage.TheVariants as at
 use Rattle.core_theory.proofs.MeetingLemmas.{leaf_met}
 use Rattle.weave_core.proofs.QuerySeats.{same_world, shared_leaf, visited_same}
@@ -42,17 +42,6 @@ use Rattle.write_core.proofs.KeepsLemmas.{changed_same}
 use Rattle.mon_topo.specs.Views.{View, joined_view, of_leaf}
 use Rattle.write_core.specs.World.{World}
 use Rattle.weave_core.proofs.AskingLemmas.{answered, asked_of, asks_then, from, not_mine, some_holder, there_at, waits}
-
--- the slots of a leaf that is asked of are those of the visit
-slots_same : (asked : QuerySetting) (stage : Stage) (leaf : Leaf) → ask_of asked stage ≡ ask.Visit leaf
-    → slots_of stage leaf ≡ slots_visited stage
-slots_same asked (at.Rooting loading) leaf e = absurd cc
-slots_same asked (at.Entering course round loading) leaf e = absurd cc
-slots_same asked (at.Resolving course round range) leaf e = absurd cc
-slots_same asked (at.Reloading course round loading) leaf e = absurd cc
-slots_same asked (at.Visiting course round visits other) leaf e =
-    let same : leaf ≡ other = cc in ap (slots_of (at.Visiting course round visits other)) same
-slots_same asked (at.Ended end) leaf e = absurd cc
 
 module _ (config : Config) (core : Core (store_of config)) (k : ℕ) (store : Store) (querying : Querying) (sight : Sight)
     (asking : IsAsking config core k store querying sight) where

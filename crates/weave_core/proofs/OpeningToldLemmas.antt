@@ -1,4 +1,6 @@
 -- Of a history that a range can have, what a recovery is told by the lock is what the core lets it be told.
+use Rattle.std.proofs.lemmas.Bool.{ltb-true}
+use Rattle.std.proofs.lemmas.Option.{same_Some}
 use Rattle.std.proofs.Common.{◌≡◌, ◌∙◌, ℕ, ◌+◌, ◌<◌, ◌≤◌, nat_lt, zero, suc, Bool, true, false, cond, ◌||◌, Option}
 use Rattle.std.proofs.Common.{Some, None, List, [], ◌∷◌, ◌++◌, take, length, length-append, refl, sym, ap, subst, arith}
 use Rattle.std.proofs.Common.{append_assoc}
@@ -42,9 +44,6 @@ record IsFirstOn (leaf : Leaf) (replicas : List SlotLeaf) (replica : SlotLeaf) :
   pub there : Contains replicas replica
   pub on : is_on leaf replica ≡ true
 
-same_some : {X : Type 0} (x y : X) → Some x ≡ Some y → x ≡ y
-same_some x y e = cc
-
 first_on : (leaf : Leaf) (replicas : List SlotLeaf) (replica : SlotLeaf)
     → slice_get (filter (is_on leaf) replicas) 0 ≡ Some replica → IsFirstOn leaf replicas replica
 first_on leaf [] replica e = absurd cc
@@ -61,7 +60,7 @@ first_on leaf (one ∷ replicas) replica e = by (λ k. first_on leaf replicas re
         → slice_get (cond b (one ∷ filter (is_on leaf) replicas) (filter (is_on leaf) replicas)) 0 ≡ Some replica
         → IsFirstOn leaf (one ∷ replicas) replica
     by rest true is e =
-        let same : one ≡ replica = same_some one replica e in
+        let same : one ≡ replica = same_Some one replica e in
         record {
           there = (zero, omega arith, same);
           on = ap (λ (x : SlotLeaf). is_on leaf x) (sym same) ∙ is;
@@ -135,8 +134,8 @@ module _ (held : SchemaLists) (zones : List ZoneSpec) (points : ℕ) (range : Ra
       placed : (b : Bool) → nat_lt replica.slot.0 (length (first_replicas zones range.0)) ≡ b
           → length (serving (before ++ range_entry.Opened pass replica.slot replica.leaf ∷ [])) ≤ MOST_REPLICAS
       placed true is =
-          let below : replica.slot.0 < length (first_replicas zones range.0) = grind (arith, nat_tests) in
-          omega (arith, below, firsts, may.0, h.known, grown)
+          let ltb-true : replica.slot.0 < length (first_replicas zones range.0) = grind (arith, nat_tests) in
+          omega (arith, ltb-true, firsts, may.0, h.known, grown)
       placed false is =
           let beyond : length (first_replicas zones range.0) ≤ replica.slot.0 = grind (arith, nat_tests) in
           let few = (may.2.1 beyond).few in
@@ -180,9 +179,6 @@ module _ (held : SchemaLists) (zones : List ZoneSpec) (points : ℕ) (range : Ra
 
 -- ---- what the lock tells
 
-below : (a b : ℕ) → nat_lt a b ≡ true → a < b
-below a b e = grind (arith, nat_tests)
-
 beyond : (a b : ℕ) → nat_lt a b ≡ false → b ≤ a
 beyond a b e = grind (arith, nat_tests)
 
@@ -196,7 +192,7 @@ module _ (setting : Setting) (history : List RangeEntry) (who : Recovery)
         → IsToldOfRange setting history who
         (told_by_denial history (cond b None (Some (SlotsSpent MOST_SLOTS))))
     by_slots true is some =
-        (refl, may_open setting history who zoned begins off some (below (length (opened_slots history)) MOST_SLOTS is))
+        (refl, may_open setting history who zoned begins off some (ltb-true (length (opened_slots history)) MOST_SLOTS is))
     by_slots false is some =
         let least = beyond (length (opened_slots history)) MOST_SLOTS is in
         (off, some, omega (arith, least, few.opened), refl)
@@ -207,7 +203,7 @@ module _ (setting : Setting) (history : List RangeEntry) (who : Recovery)
         (Some ServesFully)))
     by_serving true is =
         by_slots (nat_lt (length (opened_slots history)) MOST_SLOTS) refl
-        (below (length (serving history)) MOST_REPLICAS is)
+        (ltb-true (length (serving history)) MOST_REPLICAS is)
     by_serving false is =
         let least = beyond (length (serving history)) MOST_REPLICAS is in
         (off, omega (arith, least, few.serve))

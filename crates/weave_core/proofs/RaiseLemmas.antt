@@ -1,4 +1,5 @@
 -- Buckets that are to be raised are below the number of buckets.
+use Rattle.std.proofs.lemmas.Bool.{or_right}
 use Rattle.std.proofs.Common.{◌≡◌, ◌∙◌, ℕ, ◌<◌, ◌||◌, ◌==◌, Bool, true, false, List, [], ◌∷◌, refl, sym, subst, arith}
 use Rattle.std.proofs.lemmas.Bool.Decides.{nat_tests}
 use Rattle.leaf_store.proofs.BucketLemmas.{AllBelow, unraised_below}
@@ -8,10 +9,6 @@ use Rattle.mon_hints.specs.Listings.{is_among}
 use Rattle.mon_value.specs.declared.rows.SeriesKey.{SeriesKey}
 use Rattle.weave_core.specs.Agreements.{IsServed}
 use Rattle.weave_core.specs.declared.leaves.LeafSeat.{LeafSeat}
-
-later_among : (a b : Bool) → b ≡ true → (a || b) ≡ true
-later_among true b e = refl
-later_among false b e = e
 
 first_by : (x : ℕ) (rest b : Bool) → (x == x) ≡ b → (b || rest) ≡ true
 first_by x rest true same = refl
@@ -23,7 +20,7 @@ first_among x xs = first_by x (is_among x xs) (x == x) refl
 pub all_among : (count : ℕ) (xs : List ℕ) → ((x : ℕ) → is_among x xs ≡ true → x < count) → AllBelow count xs
 all_among count [] h = tt
 all_among count (x ∷ xs) h =
-    (h x (first_among x xs), all_among count xs (λ y e. h y (later_among (y == x) (is_among y xs) e)))
+    (h x (first_among x xs), all_among count xs (λ y e. h y (or_right (y == x) (is_among y xs) e)))
 
 pub all_below : (config : Config) (seat : LeafSeat) (key : SeriesKey) (buckets : List ℕ) → IsServed config
     → seat.state.buckets ≡ config.buckets → AreToRaise seat.state key buckets → AllBelow config.buckets buckets

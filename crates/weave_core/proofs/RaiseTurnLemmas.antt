@@ -2,7 +2,7 @@
 use Rattle.std.proofs.Common.{◌≡◌, ℕ, ◌<◌, ◌≤◌, ◌&&◌, ◌||◌, Bool, true, false, nat_eq, Some, List, [], ◌∷◌}
 use Rattle.std.proofs.Common.{length, refl, suc, sym, ap, subst, ◌∙◌, inl, inr, arith}
 use Rattle.std.proofs.lemmas.List.{length-set}
-use Rattle.std.proofs.lemmas.Bool.{cases_eq, eq-eqb, ne_eqb}
+use Rattle.std.proofs.lemmas.Bool.{cases_eq, eq-eqb, ne_eqb, eqb-true}
 use Rattle.mon_config.specs.declared.config.Config.{Config}
 use Rattle.mon_hints.specs.Places.{same_place}
 use Rattle.mon_hints.specs.Covers.{with_bit}
@@ -71,9 +71,6 @@ both_false : (a b : Bool) → ((a ≡ true) → (b ≡ true) → ⊥) → (a && 
 both_false true true h = absurd (h refl refl)
 both_false true false h = refl
 both_false false b h = refl
-
-eq_of : (a b : ℕ) → nat_eq a b ≡ true → a ≡ b
-eq_of a b e = grind arith
 
 -- ---- words with a bit more
 
@@ -164,10 +161,10 @@ module _ (config : Config) (world next : World) (words : HintTable) (are : AreWo
             (nat_eq (suc (zone_of_leaf (store_of config) other).0) (suc (zone_of_leaf (store_of config) leaf).0))
             (nat_eq (place_of_leaf (store_of config) other) (place_of_leaf (store_of config) leaf))
             (λ zones places. apart (one_leaf config other leaf here there
-            (let e = eq_of (suc (zone_of_leaf (store_of config) other).0) (suc (zone_of_leaf (store_of config) leaf).0)
+            (let e = eqb-true (suc (zone_of_leaf (store_of config) other).0) (suc (zone_of_leaf (store_of config) leaf).0)
             zones in
             omega (arith, e))
-            (eq_of (place_of_leaf (store_of config) other) (place_of_leaf (store_of config) leaf) places)))
+            (eqb-true (place_of_leaf (store_of config) other) (place_of_leaf (store_of config) leaf) places)))
             ∙ sym (ne_eqb other.0 leaf.0 apart)
       ]
 

@@ -1,5 +1,5 @@
 -- The buckets of rows that no series of a leaf has, as a set that grows series by series.
-use Rattle.std.proofs.Common.{◌≡◌, ◌∙◌, ℕ, ◌+◌, ◌<◌, ◌≤◌, ◌==◌, nat_lt, Bool, true, false, not, ◌&&◌, ◌||◌, List, [], ◌∷◌}
+use Rattle.std.proofs.Common.{◌≡◌, ◌∙◌, ℕ, ◌+◌, ◌≤◌, ◌==◌, nat_lt, Bool, true, false, not, ◌&&◌, ◌||◌, List, [], ◌∷◌}
 use Rattle.std.proofs.Common.{◌++◌, refl, sym, ap, arith, IfOk, Result, Ok, Err}
 use Rattle.std.proofs.lemmas.Bool.Decides.{nat_tests}
 use Rattle.std.proofs.lemmas.List.Folds.{list_any-append}
@@ -12,28 +12,11 @@ use Rattle.mon_schema.specs.SchemaLists.{SchemaLists}
 use Rattle.mon_value.specs.declared.histories.Entry.{Entry}
 use Rattle.mon_value.specs.declared.rows.Row.{Row}
 use Rattle.weave_core.specs.RecoveryEvents.{AreAllToRaise, Lists}
+use Rattle.leaf_store.proofs.BucketLemmas.{one_more}
 
 -- those that are wanted below a number were added
 abbrev pub AddsWanted : (ℕ → Bool) → (ℕ → Bool) → (ℕ → Bool) → ℕ → Type 0
 AddsWanted old new wanted from = (bucket : ℕ) → new bucket ≡ (old bucket || (nat_lt bucket from && wanted bucket))
-
-one_more : (bucket next from : ℕ) (old among : Bool) (t1 t2 t3 : Bool) → nat_lt bucket from ≡ t1 → (bucket == next)
-    ≡ t2 → nat_lt bucket (next + 1) ≡ t3 →
-    from ≤ next → (bucket ≡ next → among ≡ true) → (from ≤ bucket → bucket < next → among ≡ false)
-    → (t2 || (old || (t1 && among))) ≡ (old || (t3 && among))
-one_more bucket next from old among true true t3 low same high reached here between = absurd (grind (arith, nat_tests))
-one_more bucket next from old among true false true low same high reached here between = refl
-one_more bucket next from old among true false false low same high reached here between =
-    absurd (grind (arith, nat_tests))
-one_more bucket next from true among false true true low same high reached here between = refl
-one_more bucket next from false among false true true low same high reached here between =
-    sym (here (grind (arith, nat_tests)))
-one_more bucket next from old among false true false low same high reached here between =
-    absurd (grind (arith, nat_tests))
-one_more bucket next from old among false false true low same high reached here between =
-    let none : among ≡ false = between (grind (arith, nat_tests)) (grind (arith, nat_tests)) in
-    ap (λ b. old || b) (sym none)
-one_more bucket next from old among false false false low same high reached here between = refl
 
 pub wanted_next : (old set new wanted : ℕ → Bool) (from next : ℕ) → AddsWanted old set wanted from
     → IsNext wanted from next → new ≡ with_bucket set next → AddsWanted old new wanted (next + 1)

@@ -1,5 +1,5 @@
 -- What a query is told of a word is what the core tells it.
-use Rattle.std.proofs.Common.{◌≡◌, ◌∙◌, ◌<◌, ◌-◌, ℕ, length, get_or, sym, ap, subst, arith}
+use Rattle.std.proofs.Common.{◌≡◌, ◌∙◌, ◌<◌, ◌-◌, ℕ, get_or, sym, ap, arith}
 use Rattle.std.specs.Prelude.{slice_get, Some}
 use Rattle.std.proofs.lemmas.Option.{get_or_from_slice_get, slice_get_within}
 use Rattle.mon_config.specs.declared.config.Config.{Config}
@@ -11,11 +11,11 @@ use Rattle.mon_topo.specs.Zones.{first_leaf, leaf_zones}
 use Rattle.mon_topo.specs.declared.zones.ZoneSpec.{ZoneSpec}
 use Rattle.mon_value.specs.declared.positions.Leaf.{Leaf}
 use Rattle.mon_value.specs.declared.positions.Zone.{Zone}
+use Rattle.query_core.proofs.AskLemmas.{root_below, zone_below}
 use Rattle.query_core.specs.Program.{ask_of}
 use Rattle.query_core.specs.Settings.{QuerySetting}
 use Rattle.query_core.specs.declared.asks.Ask.{Ask}
 use Rattle.query_core.specs.declared.asks.Ask.TheVariants as ask
-use Rattle.query_core.specs.declared.stages.Stage.{Stage}
 use Rattle.query_core.specs.declared.stages.Stage.TheVariants as at
 use Rattle.weave_core.proofs.PlaceLemmas.{root_there, zone_word_there}
 use Rattle.plan_split.proofs.PlanBuckets.{next_below}
@@ -30,33 +30,6 @@ use Rattle.weave_core.specs.declared.store.Store.{Store}
 use Rattle.mon_hints.specs.declared.places.Place.TheVariants as word
 use Rattle.write_core.specs.World.{World}
 use Rattle.weave_core.proofs.AskingLemmas.{answered, seen_here, there_at}
-
--- ---- the buckets that are asked of
-
-module _ (asked : QuerySetting) (count : ℕ) (some : 0 < count)
-    (below : (i : ℕ) → get_or asked.plan.buckets i 0 < count) where
-  root_below : (stage : Stage) (bucket : ℕ) → ask_of asked stage ≡ ask.LoadRoot bucket → bucket < count
-  root_below (at.Rooting loading) bucket e =
-      let same : get_or asked.plan.buckets (length loading.words) 0 ≡ bucket = cc in
-      subst (λ (n : ℕ). n < count) same (below (length loading.words))
-  root_below (at.Entering course round loading) bucket e = absurd cc
-  root_below (at.Resolving course round range) bucket e = absurd cc
-  root_below (at.Reloading course round loading) bucket e = absurd cc
-  root_below (at.Visiting course round visits leaf) bucket e = absurd cc
-  root_below (at.Ended end) bucket e = absurd cc
-
-  zone_below : (stage : Stage) (zone : Zone) (bucket : ℕ) → ask_of asked stage ≡ ask.LoadZone zone bucket → bucket
-      < count
-  zone_below (at.Rooting loading) zone bucket e = absurd cc
-  zone_below (at.Entering course round loading) zone bucket e =
-      let same : get_or asked.plan.buckets (length loading.words) 0 ≡ bucket = cc in
-      subst (λ (n : ℕ). n < count) same (below (length loading.words))
-  zone_below (at.Resolving course round range) zone bucket e = absurd cc
-  zone_below (at.Reloading course round loading) zone bucket e =
-      let same : get_or asked.plan.buckets (length loading.words) 0 ≡ bucket = cc in
-      subst (λ (n : ℕ). n < count) same (below (length loading.words))
-  zone_below (at.Visiting course round visits leaf) zone bucket e = absurd cc
-  zone_below (at.Ended end) zone bucket e = absurd cc
 
 module _ (config : Config) (core : Core (store_of config)) (k : ℕ) (store : Store) (querying : Querying) (sight : Sight)
     (asking : IsAsking config core k store querying sight) where
@@ -76,7 +49,7 @@ module _ (config : Config) (core : Core (store_of config)) (k : ℕ) (store : St
   module _ (bucket : ℕ) (e : asks ≡ ask.LoadRoot bucket) where
     root_bucket : bucket < config.buckets
     root_bucket =
-        root_below asked config.buckets asking.shared.served.limited.some next_bucket querying.machine.stage bucket e
+        root_below asked config.buckets next_bucket querying.machine.stage bucket e
 
     pub root_word_there : HasWord store.words word.Root bucket
     root_word_there = root_there config world store.words asking.shared.words bucket root_bucket
@@ -96,7 +69,7 @@ module _ (config : Config) (core : Core (store_of config)) (k : ℕ) (store : St
   module _ (zone : Zone) (bucket : ℕ) (e : asks ≡ ask.LoadZone zone bucket) where
     zone_bucket : bucket < config.buckets
     zone_bucket =
-        zone_below asked config.buckets asking.shared.served.limited.some next_bucket querying.machine.stage zone
+        zone_below asked config.buckets next_bucket querying.machine.stage zone
         bucket e
 
     pub zone_there : HasWord store.words (word.Zone zone) bucket

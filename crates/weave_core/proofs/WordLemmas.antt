@@ -1,9 +1,9 @@
 -- Setting a bit in a table of words.
-use Rattle.std.proofs.Common.{◌≡◌, ℕ, ◌+◌, ◌*◌, ◌<◌, ◌≤◌, ◌==◌, ◌||◌, ◌&&◌, Bool, true, false, nat_eq, get_or, set}
-use Rattle.std.proofs.Common.{refl, sym, ap, ◌∙◌, inl, inr, arith}
+use Rattle.std.proofs.Common.{◌≡◌, ℕ, ◌+◌, ◌*◌, ◌<◌, ◌≤◌, ◌==◌, ◌||◌, ◌&&◌, true, false, nat_eq, get_or, set}
+use Rattle.std.proofs.Common.{sym, ap, ◌∙◌, inl, inr, arith}
 use Rattle.std.specs.Prelude.{bit_or}
 use Rattle.std.specs.Int.{w64}
-use Rattle.std.proofs.lemmas.Bool.{cases_eq, cases_lt, eq-eqb, ne_eqb}
+use Rattle.std.proofs.lemmas.Bool.{cases_eq, cases_lt, eq-eqb, ne_eqb, false_from_ne_true, and_parts, eqb-true}
 use Rattle.std.proofs.lemmas.List.{get_or-set_same, get_or-set_other}
 use Rattle.std.proofs.Math.Nat.{add-mul, mul-le-mul_right}
 use Rattle.std.proofs.lemmas.Nat.Bits.{bit_at_set_same, bit_at_set_other}
@@ -48,26 +48,14 @@ module _ (hints : HintTable) (place : Place) (child bucket : ℕ) (small : child
       ≡ with_raised hints place child bucket other b
       c
 
-  not_this : (t : Bool) → (t ≡ true → ⊥) → t ≡ false
-  not_this true h = absurd (h refl)
-  not_this false h = refl
-
-  both_true : (s t : Bool) → (s && t) ≡ true → (s ≡ true) × (t ≡ true)
-  both_true true true e = (refl, refl)
-  both_true true false e = absurd cc
-  both_true false t e = absurd cc
-
-  is_same : (x y : ℕ) → nat_eq x y ≡ true → x ≡ y
-  is_same x y e = grind arith
-
   -- another word
   elsewhere : (index_of hints other b ≡ index_of hints place bucket → ⊥) → Wanted
   elsewhere differ =
       let apart : (same_place other place && nat_eq b bucket) ≡ false
-      = not_this (same_place other place && nat_eq b bucket) (λ e.
-      let parts = both_true (same_place other place) (nat_eq b bucket) e in
-      differ (ap (λ t. t * hints.buckets + b) (is_same (place_number other) (place_number place) parts.0)
-      ∙ ap (λ x. place_number place * hints.buckets + x) (is_same b bucket parts.1))) in
+      = false_from_ne_true (same_place other place && nat_eq b bucket) (λ e.
+      let parts = and_parts (same_place other place) (nat_eq b bucket) e in
+      differ (ap (λ t. t * hints.buckets + b) (eqb-true (place_number other) (place_number place) parts.0)
+      ∙ ap (λ x. place_number place * hints.buckets + x) (eqb-true b bucket parts.1))) in
       ap (λ read. has_bit read c)
       (get_or-set_other hints.words (index_of hints place bucket) (index_of hints other b) new 0 differ)
       ∙ sym (ap (λ found. (found && nat_eq c child) || has_bit (hint_word_at hints other b) c) apart)

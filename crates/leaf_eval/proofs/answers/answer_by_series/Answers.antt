@@ -1,3 +1,4 @@
+use Rattle.std.proofs.lemmas.List.{nil_from_length}
 use Rattle.std.proofs.Common.{◌≡◌, ◌∙◌, ◌≤◌, ◌+◌, ◌^◌, ◌∷◌, [], ℕ, List, to_z, of_z, w64, refl, sym, ap, subst, rules}
 use Rattle.std.proofs.Common.{arith}
 use Rattle.std.specs.List.{AllByRecursion}
@@ -12,7 +13,7 @@ use Rattle.mql_types.specs.Soundness.{IsWithinRows}
 use Rattle.mon_meaning.specs.Central.{all_held}
 use Rattle.mon_meaning.specs.LeafAnswers.{IsRefusedByLeaf}
 use Rattle.mon_meaning.specs.TopParts.{part_seen, parts_seen}
-use Rattle.leaf_eval.proofs.EvaluatedParts.{SoFar, leaf_done, none_long, none_so_far, one_more, over_leaf, sent_next}
+use Rattle.leaf_eval.proofs.EvaluatedParts.{SoFar, leaf_done, none_so_far, one_more, over_leaf, sent_next}
 use Rattle.leaf_eval.proofs.ReadyParts.{IsPartReady, asked_ready}
 use Rattle.mon_meaning.proofs.StandingPieces.{up-permutation}
 use Rattle.leaf_eval.proofs.answers.answer_by_series.Goals as goal
@@ -145,7 +146,7 @@ returns c =
     let moment : to_z w64 (of_z w64 c.args.moment) ≡ c.args.moment = search rules in
     let grid_is : grid ≡ grid_of typed c.args.moment = c.grid_of-grid.ensures.grid ∙ ap (grid_of typed) moment in
     let ended : into_iter_items c.loop-part.part-iterator ≡ [] =
-    none_long (into_iter_items c.loop-part.part-iterator) (sym c.loop-part.invariant.counted
+    nil_from_length (into_iter_items c.loop-part.part-iterator) (sym c.loop-part.invariant.counted
     ∙ c.in-None.ensures.steps.0) in
     record {
       answer = λ source kept.

@@ -1,7 +1,7 @@
 use Rattle.std.proofs.Common.{rules, ◌≡◌, ◌∙◌, ◌++◌, ℕ, ℤ, List, length, IfOk, sym, subst, to_z, of_z, w64}
 use Rattle.std.specs.List.{flat_map}
 use Rattle.line_runs.proofs.Checkable.{can_be_checked}
-use Rattle.line_runs.proofs.Ended.{held_by, owns_itself}
+use Rattle.line_runs.proofs.Ended.{held_by}
 use Rattle.line_runs.proofs.Printed.{check_prints, explain_prints, query_prints}
 use Rattle.line_runs.proofs.Results.{ok_as}
 use Rattle.line_runs.specs.Questions.{CanBeChecked, asked_line, meant_text}
@@ -15,6 +15,7 @@ use Rattle.query_texts.specs.TextTypes.{text_type}
 use Rattle.run_traces.specs.LineTexts.{leaf_lines, line_text, op_line}
 use Rattle.run_traces.specs.declared.traces.LineTrace.TheVariants as came
 use Rattle.line_runs.proofs.asks.answer_text.Goals as goal
+use Rattle.mon_store.proofs.GatherLemmas.{owns_itself}
 
 pub returns-in-Query-clause-text : goal.returns-in-Query-clause-text
 returns-in-Query-clause-text g c =

@@ -1,10 +1,11 @@
 use Rattle.std.proofs.Common.{rules, ◌≡◌, ℤ, IfOk, Ok, Err, sym, ap, subst, to_z, of_z, w64}
 use Rattle.line_runs.proofs.Answered.{answer_is}
-use Rattle.line_runs.proofs.Ended.{answered_ran, at_limit, fronts_through, refused_ran}
+use Rattle.line_runs.proofs.Ended.{answered_ran, at_limit, refused_ran}
 use Rattle.line_runs.specs.Questions.{IsAnswerTo, IsPrinted, IsRefusedFor}
 use Rattle.mon_config.specs.declared.config.Config.{Config}
 use Rattle.mon_store.specs.Queries.{IsEnded}
 use Rattle.line_runs.proofs.asks.ask.Goals as goal
+use Rattle.running_query.proofs.GoingLemmas.{fronts_through}
 
 pub answered-requires-clause-answer : goal.answered-requires-clause-answer
 answered-requires-clause-answer g c =

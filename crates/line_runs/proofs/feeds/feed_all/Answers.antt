@@ -4,10 +4,9 @@ use Rattle.std.specs.Vec.Iter.{into_iter_items}
 use Rattle.std.proofs.lemmas.List.{nil_from_length}
 use Rattle.mon_points.specs.Fitting.{ReadFits}
 use Rattle.mon_points.specs.declared.records.RowRead.{RowRead}
-use Rattle.mon_store.proofs.OwnLemmas.{fronts_through}
-use Rattle.line_runs.proofs.FeedParts.{fronts_itself}
 use Rattle.line_runs.proofs.FeedSteps.{feeding_first, feeding_last, feeding_more}
 use Rattle.line_runs.proofs.feeds.feed_all.Goals as goal
+use Rattle.running_query.proofs.GoingLemmas.{fronts_through, same_fronts}
 
 pub loop-read-init : goal.loop-read-init
 loop-read-init g c =
@@ -18,7 +17,7 @@ loop-read-init g c =
           (into_iter_items c.into_iter-read-iterator.result) c.args.fed.now items c.requires.accepted
           c.requires.refused;
       fit = subst (AllByRecursion (ReadFits c.args.store.now.schemas)) (sym items) c.requires.fit;
-      fronts = fronts_itself c.args.p.now.seen;
+      fronts = same_fronts c.args.p.now.seen;
       left = let l = ap length items in c.into_iter-read-iterator.ensures.into_iter_gives.1 ∙ sym l;
     }
 

@@ -1,3 +1,4 @@
+use Rattle.std.proofs.lemmas.List.{nil_from_length}
 use Rattle.std.proofs.Common.{◌≡◌, ◌∙◌, ◌+◌, ◌++◌, ◌∷◌, [], List, append-nil, append_assoc, ap, subst, sym, rules}
 use Rattle.std.proofs.Common.{arith}
 use Rattle.std.specs.Vec.Iter.{into_iter_items}
@@ -7,7 +8,6 @@ use Rattle.mql_types.specs.Pieces.{in_zone}
 use Rattle.mon_fold.specs.declared.answers.Piece.{Piece}
 use Rattle.mon_meaning.specs.TopParts.{part_seen, parts_seen}
 use Rattle.mixer.specs.within.ZonePieces.{AreHandedUp, CanHandUpAll, behind_part, joins_of_parts}
-use Rattle.mixer.proofs.PieceLoops.{none_long}
 use Rattle.mixer.proofs.ZoneSteps.{first_more, joins_next}
 use Rattle.mixer.proofs.zone_pieces.zone_pieces.Goals as goal
 
@@ -58,7 +58,7 @@ loop-part-preserved c =
 pub returns-clause-pieces : goal.returns-clause-pieces
 returns-clause-pieces c =
     let left = into_iter_items c.loop-part.part-iterator in
-    let ended : left ≡ [] = none_long left (sym c.loop-part.invariant.counted ∙ c.in-None.ensures.steps.0) in
+    let ended : left ≡ [] = nil_from_length left (sym c.loop-part.invariant.counted ∙ c.in-None.ensures.steps.0) in
     let all = spec.top_parts in_zone (node_tree c.args.tree.now) in
     let none : List Piece = [] in
     subst (AreHandedUp all c.args.pieces) (append-nil c.loop-part.made)

@@ -1,9 +1,10 @@
+use Rattle.std.proofs.lemmas.List.{nil_from_length}
 use Rattle.std.proofs.Common.{◌≡◌, ◌∙◌, ◌++◌, ◌∷◌, [], List, cond, length, append-nil, append_assoc, sym, ap, arith}
 use Rattle.std.specs.Vec.Iter.{into_iter_items}
 use Rattle.mon_value.specs.declared.columns.Column.{Column}
 use Rattle.mon_value.specs.declared.values.Value.{Value}
 use Rattle.mql_types.specs.Meaning.{key_cells}
-use Rattle.mon_meaning.proofs.ItemLemmas.{key_cells-cons, key_cells-none, no_columns, none_long}
+use Rattle.mon_meaning.proofs.ItemLemmas.{key_cells-cons, key_cells-none, no_columns}
 use Rattle.mon_meaning.proofs.value_rows.key_cells.Goals as goal
 use Rattle.mon_meaning.proofs.value_rows.key_cells.Goals.{in-None, in-Some+in-None-split_first}
 
@@ -47,7 +48,7 @@ returns c =
     let left : List Value = into_iter_items c.loop-cell.cell-iterator in
     elim c.match-next.branch [
       | in-None w ↦ (
-          let empty : left ≡ [] = none_long left (sym c.loop-cell.invariant.left ∙ w.in-None.ensures.steps.0) in
+          let empty : left ≡ [] = nil_from_length left (sym c.loop-cell.invariant.left ∙ w.in-None.ensures.steps.0) in
           record {
             keys = sym (append-nil keys)
                 ∙ ap (λ (more : List Value). keys ++ more) (sym (key_cells-none rest))
@@ -57,7 +58,7 @@ returns c =
       | in-Some+in-None-split_first w ↦ record {
         keys = sym (append-nil keys)
             ∙ ap (λ (more : List Value). keys ++ more)
-            (sym (no_columns rest left (none_long rest w.in-None-split_first.ensures.cases)))
+            (sym (no_columns rest left (nil_from_length rest w.in-None-split_first.ensures.cases)))
             ∙ c.loop-cell.invariant.whole;
       }
     ]

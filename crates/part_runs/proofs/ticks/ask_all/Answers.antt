@@ -3,12 +3,12 @@ use Rattle.std.proofs.lemmas.List.{map-append}
 use Rattle.std.specs.Prelude.{string_bytes}
 use Rattle.std.specs.List.{AllByRecursion}
 use Rattle.std.specs.Vec.Iter.{into_iter_items}
-use Rattle.mon_store.proofs.OwnLemmas.{fronts_through}
 use Rattle.run_traces.specs.declared.traces.DueTrace.{DueTrace}
 use Rattle.standing.specs.declared.dues.Due.{Due}
 use Rattle.standing.proofs.MomentLemmas.{HasMoment}
 use Rattle.part_runs.proofs.TickLemmas.{one_asked}
 use Rattle.part_runs.proofs.ticks.ask_all.Goals as goal
+use Rattle.running_query.proofs.GoingLemmas.{fronts_through}
 
 pub loop-due-preserved : goal.loop-due-preserved
 loop-due-preserved g c =

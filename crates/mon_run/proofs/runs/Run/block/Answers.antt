@@ -9,13 +9,13 @@ use Rattle.mon_run.specs.within.Lines.{BlockHalts, Noted, TextsStop, block_trace
 use Rattle.mon_run.specs.within.Stops.{seen}
 use Rattle.mon_run.proofs.DueLemmas.{block_noted_due, on_err_of, on_ok_of}
 use Rattle.mon_run.proofs.EndLemmas.{counts_then}
-use Rattle.part_runs.proofs.GrownLemmas.{fronts_none}
 use Rattle.mon_run.proofs.RunLemmas.{err_weaker, handed_on}
 use Rattle.mon_run.proofs.ScriptLemmas.{block_cut, block_ran, block_starved, block_unread, did_end}
 use Rattle.mon_run.proofs.runs.Run.block.Goals as goal
 use Rattle.part_runs.specs.PartsDone.{PartTells, ran_beside}
 use Rattle.run_theory.specs.Parts.{Beside}
 use Rattle.run_traces.specs.declared.traces.LineTrace.{LineTrace}
+use Rattle.running_query.proofs.GoingLemmas.{same_fronts}
 
 pub run_beside-requires-clause-contents : goal.run_beside-requires-clause-contents
 run_beside-requires-clause-contents g c = λ κs lives.
@@ -54,7 +54,7 @@ returns-in_err-texts-clause-stops g c =
     (subst (λ (p : Progress). BlockHalts c.args.store.now lines known known stop.OutOfMemory before p)
     (sym c.room.ensures.same)
     (block_starved c.args.store.now lines c.in_ok-contents.contents known known
-    (ap (λ log. log.traces.items) c.contents.ensures.log) (fronts_none known) c.in_ok-contents.ensures.read)))
+    (ap (λ log. log.traces.items) c.contents.ensures.log) (same_fronts known) c.in_ok-contents.ensures.read)))
 
 pub returns-in_err-rans-clause-stops : goal.returns-in_err-rans-clause-stops
 returns-in_err-rans-clause-stops g c =

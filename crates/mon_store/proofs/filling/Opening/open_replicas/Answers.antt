@@ -15,16 +15,16 @@ use Rattle.mon_value.specs.declared.positions.Leaf.{Leaf}
 use Rattle.mon_value.specs.declared.positions.Range.{Range}
 use Rattle.range_cell.specs.Rest.{others}
 use Rattle.mon_store.proofs.OpeningLemmas.{bare_there, number_is, opening_opened, opening_whole}
-use Rattle.mon_store.proofs.SameLemmas.{fronts_itself, fronts_through}
 use Rattle.mon_store.specs.Openings.{HasOpenedAt, IsBareAt, first_leaf}
 use Rattle.mon_store.proofs.filling.Opening.open_replicas.Goals as goal
+use Rattle.running_query.proofs.GoingLemmas.{fronts_through, same_fronts}
 
 pub loop-leaf-init : goal.loop-leaf-init
 loop-leaf-init g c = record {
   opening = c.requires.opening;
   slot = refl;
   holds = c.requires.holds;
-  fronts = fronts_itself c.args.self.now.know.seen;
+  fronts = same_fronts c.args.self.now.know.seen;
   books = refl;
   ranges = refl;
 }
