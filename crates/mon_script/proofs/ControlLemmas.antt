@@ -4,7 +4,7 @@ use Rattle.std.proofs.Common.{Err, option_map, refl, sym, subst}
 use Rattle.std.specs.Prelude.{codes}
 use Rattle.std.specs.List.{position_from}
 use Rattle.std.specs.Option.{ok_or}
-use Rattle.mon_script.specs.Controls.{control_form, down_form, leaf_of, named_form, recover_form, up_form}
+use Rattle.mon_script.specs.Controls.{control_form, down_form, leaf_of, on_leaf_form, recover_form, up_form}
 use Rattle.mon_script.specs.Controls.{zoned_form}
 use Rattle.mon_script.specs.Lawful.{IsLawfulForm}
 use Rattle.mon_script.specs.Lines.{cut_at}
@@ -85,7 +85,7 @@ named_by zones range (Err why) said e = absurd cc
 named_by zones range (Ok leaf) said e = range_by zones (range_named zones range) leaf said e
 
 cut_by : (zones : List ZoneSpec) (cut : Option (List ℕ × List ℕ)) (said : LineForm)
-    → ok_or cut kind.BadWord >>= (λ words. named_form zones words.0 words.1) ≡ Ok said → IsLawfulForm zones said
+    → ok_or cut kind.BadWord >>= (λ words. on_leaf_form zones words.0 words.1) ≡ Ok said → IsLawfulForm zones said
 cut_by zones None said e = absurd cc
 cut_by zones (Some words) said e = named_by zones words.0 (leaf_of zones words.1) said e
 

@@ -40,8 +40,8 @@ abbrev pub zoned_form : List ZoneSpec → Range → Leaf → Result LineForm Scr
 zoned_form zones range leaf = if share_zone zones range leaf then Ok (form.Recover range leaf) else Err kind.NotInZone
 
 -- the names of a range and of a leaf: a leaf that there isn't is told before a range that there isn't
-abbrev pub named_form : List ZoneSpec → List ℕ → List ℕ → Result LineForm ScriptKind
-named_form zones range leaf = do
+abbrev pub on_leaf_form : List ZoneSpec → List ℕ → List ℕ → Result LineForm ScriptKind
+on_leaf_form zones range leaf = do
   found ← leaf_of zones leaf
   of ← ok_or (range_named zones range) kind.UnknownRange
   zoned_form zones of found
@@ -50,7 +50,7 @@ named_form zones range leaf = do
 abbrev pub recover_form : List ZoneSpec → List ℕ → Result LineForm ScriptKind
 recover_form zones rest = do
   words ← ok_or (cut_at space rest) kind.BadWord
-  named_form zones words.0 words.1
+  on_leaf_form zones words.0 words.1
 
 -- ---- by the first word
 

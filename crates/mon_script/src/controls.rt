@@ -67,7 +67,7 @@ fn recover_form(topology: &Topology, rest: &[u8]) -> Result<LineForm, ScriptKind
 }
 
 fn named_form(topology: &Topology, range: &[u8], leaf: &[u8]) -> Result<LineForm, ScriptKind>
-    ensures form { result ≡ spec.named_form topology.now range.now leaf.now }
+    ensures form { result ≡ spec.on_leaf_form topology.now range.now leaf.now }
 {
     let leaf = leaf_of(topology, leaf)?;
     match topology.range_named(range) {

@@ -1,6 +1,7 @@
 // The list that the named list types of the crates are.
 ghost use Rattle.std.specs.Prelude.{◌≡◌, ◌↔◌, ◌-◌, ◌<◌, ◌++◌, ◌∷◌, [], length, slice_get, Some, IsTrue, OnOk, OnErr};
 ghost use Rattle.std.specs.Borrow.{sem};
+ghost use Rattle.std.specs.Cmp.Lexicographic.{pointwise};
 ghost use Rattle.std.specs.Option.{option_copied};
 ghost use Rattle.std.specs.Iterator.Adapters.{IterYieldsInOrder};
 ghost use Rattle.std.specs.Slice.Iter.{iter_rest};
@@ -160,6 +161,21 @@ impl<T: TryCopy + Drop> TryCopy for ListOf<T> {
     }
 }
 
+// Whether lists have the same items. Lists of fields are short, and compared again and again as rows come in.
+fn same_items<T: PartialEq>(own: &[T], others: &[T]) -> bool
+    ensures same { result ≡ pointwise T.eq own.now others.now }
+{
+    if own.len() != others.len() {
+        return false;
+    }
+    for i in 0..own.len() {
+        if own[i] != others[i] {
+            return false;
+        }
+    }
+    true
+}
+
 impl<T: PartialEq> PartialEq for ListOf<T> {
     ghost use Rattle.std.specs.Cmp.Lexicographic.{pointwise, lists_per};
 
@@ -168,7 +184,7 @@ impl<T: PartialEq> PartialEq for ListOf<T> {
     ghost laws = { lists_per T.laws };
 
     fn eq(&self, other: &Self) -> bool {
-        self.items == other.items
+        same_items(self.as_slice(), other.as_slice())
     }
 }
 

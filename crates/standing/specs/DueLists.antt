@@ -9,7 +9,7 @@ use Rattle.mon_value.specs.Sorting.{sorted_list}
 use Rattle.standing.specs.declared.dues.Due.{Due}
 use Rattle.standing.specs.declared.dues.TheConstants.{MOST_DUE}
 use Rattle.standing.specs.declared.faults.DueFault.{DueFault}
-use Rattle.standing.specs.declared.faults.DueFault.TheVariants as fault
+use Rattle.standing.specs.declared.faults.DueFault.TheVariants as refusal
 use Rattle.standing.specs.declared.queries.StandingQuery.{StandingQuery}
 
 -- a moment in seconds, which is no less than 0
@@ -76,10 +76,10 @@ due_count last moment queries = sum_by (times_due last moment) queries
 -- a moment before the last one is refused
 abbrev pub backwards : Option ℤ → ℤ → Option DueFault
 backwards None moment = None
-backwards (Some last) moment = if int_lt moment last then Some (fault.Backwards last) else None
+backwards (Some last) moment = if int_lt moment last then Some (refusal.Backwards last) else None
 
 abbrev pub too_many : ℕ → Option DueFault
-too_many count = if nat_lt MOST_DUE count then Some (fault.TooManyDue MOST_DUE) else None
+too_many count = if nat_lt MOST_DUE count then Some (refusal.TooManyDue MOST_DUE) else None
 
 -- why a moment is refused: it lies before the last one, or more would be due than may be
 abbrev pub due_fault : Option ℤ → ℤ → List StandingQuery → Option DueFault
