@@ -2,7 +2,7 @@
 ghost use Rattle.std.specs.Prelude.{◌≡◌, IfOk, Ok};
 ghost use Rattle.mql_ast.specs.Grammar.{Spells};
 ghost use Rattle.mql_ast.specs.Trees.{query_tree};
-ghost use Rattle.mql_types.specs.Durations.{HasDurations};
+ghost use Rattle.mql_types.specs.Times.{HasDurations};
 ghost use Rattle.mql_types.specs.Nodes.{typed_tree};
 ghost use Rattle.mql_types.specs.Soundness.{IsPipeSpelled, IsQueryType};
 ghost use Rattle.mql_types.specs.Typing.{typing};

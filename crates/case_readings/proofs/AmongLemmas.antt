@@ -3,7 +3,7 @@ use Rattle.std.proofs.Common.{◌≡◌, ◌∙◌, ◌<◌, ◌+◌, ℕ, List,
 use Rattle.std.proofs.Common.{get_or}
 use Rattle.std.specs.List.{AllByRecursion}
 use Rattle.std.proofs.lemmas.List.{drop_more, take_more}
-use Rattle.mon_meaning.specs.ApartTargets.{AreApart}
+use Rattle.mon_meaning.specs.ReadableSlots.{AreApart}
 use Rattle.mon_value.specs.declared.rows.Row.{Row}
 use Rattle.case_readings.specs.Readings.{Among, Done, Passed, Taken}
 

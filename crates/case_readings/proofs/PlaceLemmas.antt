@@ -5,8 +5,8 @@ use Rattle.std.proofs.Common.{None}
 use Rattle.std.specs.Option.{option_map_or}
 use Rattle.mixer.proofs.ApartTargets.{one_target}
 use Rattle.mixer.specs.Divisions.{ShareNoLocation, has_location, lies_at}
-use Rattle.mon_meaning.specs.ApartTargets.{ShareNoTarget, has_target}
-use Rattle.mon_schema.specs.SchemaLists.{SchemaLists}
+use Rattle.mon_meaning.specs.ReadableSlots.{ShareNoTarget, has_target}
+use Rattle.mon_schema.specs.Names.{SchemaLists}
 use Rattle.mon_topo.specs.Locations.{location_of}
 use Rattle.mon_value.proofs.SameLemmas.{same_text-Decides}
 use Rattle.mon_value.specs.Same.{same_target, same_text}

@@ -5,10 +5,10 @@ use Rattle.std.specs.List.{AllByRecursion}
 use Rattle.std.specs.Option.{option_map_or}
 use Rattle.std.proofs.lemmas.List.Folds.{list_any-append}
 use Rattle.mixer.specs.Divisions.{IsDivided, ShareNoLocation, all_rows, has_location, lies_at}
-use Rattle.mon_meaning.specs.ApartTargets.{AreApart, ShareNoTarget}
+use Rattle.mon_meaning.specs.ReadableSlots.{AreApart, ShareNoTarget}
 use Rattle.mixer.specs.Divisions.{together}
 use Rattle.mon_schema.specs.Fits.{fits}
-use Rattle.mon_schema.specs.SchemaLists.{SchemaLists}
+use Rattle.mon_schema.specs.Names.{SchemaLists}
 use Rattle.mon_topo.specs.Locations.{location_of}
 use Rattle.mon_value.specs.declared.rows.Row.{Row}
 use Rattle.mql_types.specs.Nodes.{TypedTree}

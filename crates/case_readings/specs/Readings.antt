@@ -3,11 +3,11 @@ use Rattle.std.specs.Prelude.{◌≡◌, ◌≤◌, ◌≤ℤ◌, ◌^◌, pos, 
 use Rattle.std.specs.List.{AllByRecursion}
 use Rattle.std.specs.Option.{option_map_or}
 use Rattle.mixer.specs.Divisions.{has_location}
-use Rattle.mon_meaning.specs.ApartTargets.{AreApart}
+use Rattle.mon_meaning.specs.ReadableSlots.{AreApart}
 use Rattle.mon_schema.specs.Fits.{fits}
-use Rattle.mon_schema.specs.SchemaLists.{SchemaLists}
+use Rattle.mon_schema.specs.Names.{SchemaLists}
 use Rattle.mon_topo.specs.Locations.{location_of}
-use Rattle.mon_value.specs.Sources.{IsSource}
+use Rattle.mon_value.specs.LeafHistories.{IsSource}
 use Rattle.mon_value.specs.declared.limits.TheConstants.{ROW_BITS}
 use Rattle.mon_value.specs.declared.rows.Row.{Row}
 use Rattle.case_readings.specs.declared.askings.Asked.{Asked}

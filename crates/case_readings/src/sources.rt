@@ -2,7 +2,7 @@
 ghost use Rattle.std.specs.Prelude.{◌≡◌, IfOk, IsTrue, true};
 ghost use Rattle.std.specs.List.{AllByRecursion};
 ghost use Rattle.mon_schema.specs.Fits.{fits};
-ghost use Rattle.mon_value.specs.Sources.{EndsBefore, IsSource};
+ghost use Rattle.mon_value.specs.LeafHistories.{EndsBefore, IsSource};
 
 use case_tables::Trouble;
 use mon_points::{RowRead, read_rows};

@@ -14,14 +14,13 @@ use Rattle.know.proofs.FirstLemmas.{nothing_is_sound}
 use Rattle.know.specs.Knowledge.{Knowledge}
 use Rattle.know.specs.Sound.{IsSound}
 use Rattle.leaf_cell.specs.Rest.{IsAtRest}
-use Rattle.leaf_store.specs.LeafBuckets.{key_buckets}
+use Rattle.leaf_store.specs.LeafStates.{key_buckets}
 use Rattle.leaf_store.specs.LeafStates as store
 use Rattle.mon_topo.specs.Locations.{LiesIn}
 use Rattle.mon_topo.specs.Settings.{Setting}
 use Rattle.mon_topo.specs.Zones.{leaves_in, ranges_in}
-use Rattle.mon_value.specs.Histories.{leaf_history}
+use Rattle.mon_value.specs.Histories.{leaf_history, leaf_numbered, range_numbered, same_range}
 use Rattle.mon_value.specs.LeafHistories.{is_opened}
-use Rattle.mon_value.specs.Positions.{leaf_numbered, range_numbered, same_range}
 use Rattle.mon_value.specs.declared.histories.Histories.{Histories}
 use Rattle.mon_value.specs.declared.positions.Range.{Range}
 use Rattle.mon_value.specs.declared.rows.SeriesKey.{SeriesKey}

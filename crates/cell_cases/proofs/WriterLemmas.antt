@@ -14,10 +14,8 @@ use Rattle.history_book.specs.Histories.{AreFronts, empty_histories}
 use Rattle.history_book.specs.Seats.{hand_of, times_range, times_room}
 use Rattle.know.specs.Knowledge.{Knowledge}
 use Rattle.mon_value.proofs.LeafHistoryLemmas.{is_opened-append}
-use Rattle.mon_value.specs.Histories.{leaf_history}
-use Rattle.mon_value.specs.LeafHistories.{entry_rows, is_opened, replica_rows, same_replica}
-use Rattle.mon_value.specs.Positions.{leaf_numbered}
-use Rattle.mon_value.specs.Sources.{EndsBefore, IsSource}
+use Rattle.mon_value.specs.Histories.{leaf_history, leaf_numbered, same_leaf}
+use Rattle.mon_value.specs.LeafHistories.{entry_rows, is_opened, replica_rows, same_replica, EndsBefore, IsSource}
 use Rattle.mon_value.specs.declared.histories.Entry.{Entry}
 use Rattle.mon_value.specs.declared.histories.Entry.TheVariants as entry
 use Rattle.mon_value.specs.declared.histories.Histories.{Histories}
@@ -26,7 +24,6 @@ use Rattle.mon_value.specs.declared.rows.Row.{Row}
 use Rattle.owners.proofs.EntryLemmas.{same_opened, same_rows}
 use Rattle.know.specs.declared.answers.Found.{Found}
 use Rattle.know.specs.declared.answers.Found.TheVariants as found
-use Rattle.mon_value.specs.Positions.{same_leaf}
 use Rattle.mon_value.specs.declared.positions.Leaf.{Leaf}
 use Rattle.std.proofs.Common.{Some, ◌+◌}
 use Rattle.std.proofs.lemmas.List.Sums.{sum_by-append}

@@ -1,7 +1,7 @@
 -- What the scenarios' store is set up with: a zone with one leaf, on which two ranges lie.
 use Rattle.std.specs.Prelude.{ℕ, true, false, List, [], ◌∷◌, codes}
-use Rattle.leaf_store.specs.LeafBuckets.{key_buckets}
-use Rattle.mon_schema.specs.SchemaLists.{SchemaLists}
+use Rattle.leaf_store.specs.LeafStates.{key_buckets}
+use Rattle.mon_schema.specs.Names.{SchemaLists}
 use Rattle.mon_topo.specs.Settings.{Setting}
 use Rattle.mon_topo.specs.declared.zones.ZoneSpec.{ZoneSpec}
 use Rattle.mon_value.specs.declared.rows.SeriesKey.{SeriesKey}

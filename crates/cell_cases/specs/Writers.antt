@@ -3,10 +3,8 @@ use Rattle.std.specs.Prelude.{◌≡◌, ◌<◌, ℕ, ℤ, ◌<ℤ◌, List}
 use Rattle.std.specs.List.{AllByRecursion}
 use Rattle.history_book.specs.Seats.{times_range}
 use Rattle.know.specs.Knowledge.{Knowledge}
-use Rattle.mon_value.specs.Histories.{leaf_history}
-use Rattle.mon_value.specs.LeafHistories.{is_opened, replica_rows}
-use Rattle.mon_value.specs.Positions.{leaf_numbered}
-use Rattle.mon_value.specs.Sources.{IsSource}
+use Rattle.mon_value.specs.Histories.{leaf_history, leaf_numbered}
+use Rattle.mon_value.specs.LeafHistories.{is_opened, replica_rows, IsSource}
 use Rattle.mon_value.specs.declared.positions.Range.{Range}
 use Rattle.mon_value.specs.declared.positions.Slot.{Slot}
 use Rattle.mon_value.specs.declared.rows.Row.{Row}

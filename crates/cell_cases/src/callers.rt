@@ -5,7 +5,7 @@ ghost use Rattle.history_book.specs.Histories.{empty_histories, histories_in};
 ghost use Rattle.history_book.specs.Seats as in_book;
 ghost use Rattle.history_book.specs.Seats.{hand_of, times_range};
 ghost use Rattle.mon_topo.specs.Zones.{leaves_in, ranges_in};
-ghost use Rattle.mon_value.specs.Positions.{leaf_numbered, range_numbered};
+ghost use Rattle.mon_value.specs.Histories.{leaf_numbered, range_numbered};
 ghost use Rattle.raise_table.specs.Places.{zone_leaf};
 ghost use Rattle.raise_table.specs.Seats as in_words;
 

@@ -4,7 +4,7 @@ ghost use Rattle.std.specs.Prelude.{◌≡◌, pos};
 ghost use Rattle.cell_cases.specs.Setups.{held, one_leaf};
 ghost use Rattle.cell_cases.specs.Writers.{IsWriter};
 ghost use Rattle.know.specs.Tables.{AreTablesOf};
-ghost use Rattle.mon_value.specs.Positions.{range_numbered};
+ghost use Rattle.mon_value.specs.Histories.{range_numbered};
 
 use crate::memory::all_answer;
 use crate::places::{BUCKETS, OneLeaf, open_place};

@@ -2,7 +2,7 @@
 ghost use Rattle.std.specs.Prelude.{◌<ℤ◌, ℤ, pos, OnOk};
 ghost use Rattle.cell_cases.specs.Writers.{IsWriter};
 ghost use Rattle.mon_topo.specs.Locations.{LiesIn};
-ghost use Rattle.mon_value.specs.Positions.{range_numbered};
+ghost use Rattle.mon_value.specs.Histories.{range_numbered};
 
 use crate::places::OneLeaf;
 use crate::rows::series;

@@ -9,7 +9,7 @@ ghost use Rattle.history_book.specs.Seats.{times_range};
 ghost use Rattle.know.specs.Tables.{AreTablesOf};
 ghost use Rattle.leaf_store.specs.LeafStates.{new_leaf};
 ghost use Rattle.mon_topo.specs.Sights.{no_sight};
-ghost use Rattle.mon_value.specs.Positions.{leaf_numbered, range_numbered};
+ghost use Rattle.mon_value.specs.Histories.{leaf_numbered, range_numbered};
 ghost use Rattle.raise_table.specs.Places.{zone_leaf};
 ghost use Rattle.raise_table.specs.Seats as in_words;
 

@@ -1,9 +1,8 @@
 // A leaf that goes down and comes up.
 ghost use Rattle.std.specs.Prelude.{◌≡◌, pos, true};
 ghost use Rattle.cell_cases.specs.Writers.{IsWriter, first_slot};
-ghost use Rattle.mon_value.specs.Histories.{leaf_history};
+ghost use Rattle.mon_value.specs.Histories.{leaf_history, leaf_numbered, range_numbered};
 ghost use Rattle.mon_value.specs.LeafHistories.{is_opened};
-ghost use Rattle.mon_value.specs.Positions.{leaf_numbered, range_numbered};
 
 use crate::places::OneLeaf;
 use crate::rows::{row_at, series};

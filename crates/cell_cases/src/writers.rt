@@ -3,7 +3,7 @@ ghost use Rattle.std.specs.Prelude.{◌<◌, ◌<ℤ◌, ℤ, pos, OnErr, OnOk};
 ghost use Rattle.cell_cases.specs.Writers.{IsWriter};
 ghost use Rattle.history_book.specs.Seats.{times_room};
 ghost use Rattle.mon_topo.specs.Locations.{LiesIn};
-ghost use Rattle.mon_value.specs.Positions.{leaf_numbered, range_numbered};
+ghost use Rattle.mon_value.specs.Histories.{leaf_numbered, range_numbered};
 
 use crate::places::OneLeaf;
 use crate::rows::{row_at, series};

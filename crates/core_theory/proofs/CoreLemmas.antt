@@ -4,12 +4,12 @@ use Rattle.std.proofs.Common.{subst, ◌∙◌, arith}
 use Rattle.std.specs.Prelude.{nat_eq, Option, Some, None}
 use Rattle.mon_hints.proofs.CoverLemmas.{covers_more, joined_bits_first, joined_bits_within}
 use Rattle.mon_hints.specs.Covers.{AreBitsWithin, Bits, joined_bits}
-use Rattle.mon_hints.specs.HistoryBuckets.{history_buckets}
+use Rattle.mon_hints.specs.Hints.{history_buckets}
 use Rattle.mon_meaning.specs.LeafAnswers.{IsLeafPart, IsOverLeaf}
 use Rattle.mon_topo.proofs.FrontLemmas.{begins_length}
 use Rattle.mon_topo.specs.Settings.{zone_of_leaf}
 use Rattle.mon_topo.specs.Settings.{Setting}
-use Rattle.mon_value.specs.Positions.{leaf_numbered}
+use Rattle.mon_value.specs.Histories.{leaf_numbered}
 use Rattle.mon_value.specs.LeafHistories.{is_down}
 use Rattle.mon_value.specs.declared.histories.Entry.{Entry}
 use Rattle.mon_value.specs.declared.positions.Leaf.{Leaf}
@@ -21,9 +21,9 @@ use Rattle.query_core.specs.Mixtures.{typed_of}
 use Rattle.plan_split.specs.Meeting.{is_plan_met}
 use Rattle.query_core.specs.Sessions as session
 use Rattle.query_core.specs.Sessions.{IsFoundSo, IsLicensed, IsLicensedEvent, IsTrueAnswer, query_after, view_after}
-use Rattle.query_core.specs.Settings.{QuerySetting}
+use Rattle.query_core.specs.Rounds.{QuerySetting}
 use Rattle.mon_meaning.specs.ReadableSlots.{slot_rows}
-use Rattle.mon_topo.specs.Serving.{first_serving}
+use Rattle.mon_topo.specs.RangeHistories.{first_serving}
 use Rattle.query_core.specs.declared.asks.Ask.{Ask}
 use Rattle.query_core.specs.declared.asks.Ask.TheVariants as ask
 use Rattle.query_core.specs.declared.asks.Told.{Told}

@@ -8,7 +8,7 @@ ghost use Rattle.mon_value.specs.declared.positions.FoundDown.{FoundDown as Foun
 ghost use Rattle.mon_value.specs.declared.positions.Range.{Range as RangeOf};
 ghost use Rattle.query_core.specs.Answers.{IsAnsweredRightly, IsStoppedRightly};
 ghost use Rattle.query_core.specs.Askings.{IsAskedOf};
-ghost use Rattle.query_core.specs.Findings.{HasNoReplica};
+ghost use Rattle.query_core.specs.Courses.{HasNoReplica};
 ghost use Rattle.query_core.specs.Machine.{new_query};
 ghost use Rattle.query_core.specs.declared.answers.Answer.{Answer as AnswerOf};
 ghost use Rattle.query_core.specs.declared.answers.RoundFault.TheVariants.{NoReplica, StepLimit};

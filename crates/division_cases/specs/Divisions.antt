@@ -2,8 +2,8 @@
 use Rattle.std.specs.Prelude.{List, [], ◌∷◌}
 use Rattle.std.specs.List.{AllByRecursion}
 use Rattle.mixer.specs.Divisions.{ShareNoLocation}
-use Rattle.mon_meaning.specs.ApartTargets.{AreApart, ShareNoTarget}
-use Rattle.mon_schema.specs.SchemaLists.{SchemaLists}
+use Rattle.mon_meaning.specs.ReadableSlots.{AreApart, ShareNoTarget}
+use Rattle.mon_schema.specs.Names.{SchemaLists}
 use Rattle.mon_value.specs.declared.rows.Row.{Row}
 use Rattle.case_readings.specs.Readings.{IsReading}
 

@@ -3,7 +3,7 @@ ghost use Rattle.std.specs.Prelude.{◌≡◌, false, true, IsTrue};
 ghost use Rattle.std.specs.List.{AllByRecursion};
 ghost use Rattle.std.specs.Option.{option_map_or};
 ghost use Rattle.mixer.specs.Divisions.{ShareNoLocation, has_location};
-ghost use Rattle.mon_meaning.specs.ApartTargets.{AreApart, ShareNoTarget, has_target};
+ghost use Rattle.mon_meaning.specs.ReadableSlots.{AreApart, ShareNoTarget, has_target};
 ghost use Rattle.mon_schema.specs.Fits.{fits};
 ghost use Rattle.mon_topo.specs.Locations.{location_of as place_of};
 ghost use Rattle.division_cases.specs.Divisions.{AreZonesApart, AreZonesRead, IsApartFrom, IsZoneRead};

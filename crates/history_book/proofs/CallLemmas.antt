@@ -13,7 +13,7 @@ use Rattle.history_book.specs.declared.views.BookEntry.{BookEntry}
 use Rattle.history_book.specs.declared.views.History.{History}
 use Rattle.history_book.specs.declared.views.History.TheVariants as of
 use Rattle.history_book.specs.declared.views.SeatView.{SeatView}
-use Rattle.mon_value.specs.Positions.{same_range}
+use Rattle.mon_value.specs.Histories.{same_range}
 use Rattle.history_book.specs.Histories.{IsFor, entries, history_numbered, is_about, numbered_as, book_entry_pass}
 use Rattle.history_book.specs.Numbers.{is_spent}
 use Rattle.history_book.specs.Seats.{guest_purse, hand_of, times_range, times_room}

@@ -8,7 +8,7 @@ use Rattle.history_book.specs.declared.views.History.{History}
 use Rattle.history_book.specs.declared.views.SeatView.{SeatView}
 use Rattle.history_book.specs.declared.numbers.TheConstants.{NUMBER_END}
 use Rattle.history_book.specs.Histories.{empty_histories, histories_in, history_numbered, numbered_as, numbers_on}
-use Rattle.mon_value.specs.Positions.{range_numbered}
+use Rattle.mon_value.specs.Histories.{range_numbered}
 use Rattle.std.proofs.lemmas.List.{append_assoc}
 use Rattle.history_book.specs.Seats.{Owner, new_owner, numbered_purse, own_ranges}
 use Rattle.history_book.specs.Steps.{Seated, after_deal, dealing, dealt, first_view, owner_view, ranges_on}

@@ -15,7 +15,7 @@ use Rattle.history_book.specs.declared.views.Kept.{Kept}
 use Rattle.history_book.specs.declared.views.SeatView.{SeatView}
 use Rattle.history_book.specs.Books.{word_count}
 use Rattle.history_book.specs.Histories.{empty_histories, entries, histories_in, history_numbered, is_under}
-use Rattle.mon_value.specs.Positions.{range_numbered, same_range}
+use Rattle.mon_value.specs.Histories.{range_numbered, same_range}
 use Rattle.history_book.specs.Histories.{numbers_on, same_history}
 use Rattle.history_book.specs.Numbers.{numbers_between, times_among}
 use Rattle.history_book.specs.Seats.{new_number, times_range}

@@ -6,14 +6,13 @@ use Rattle.std.proofs.lemmas.Bool.Decides.{nat_tests}
 use Rattle.std.proofs.lemmas.List.{map-append}
 use Rattle.mon_value.specs.declared.histories.Entry.{Entry}
 use Rattle.mon_value.specs.declared.histories.RangeEntry.{RangeEntry}
-use Rattle.mon_value.specs.Farther.{longer}
+use Rattle.mon_value.specs.Histories.{longer, leaf_history, joined_histories, range_history}
 use Rattle.mon_value.proofs.FartherLemmas.{longer_each-get}
 use Rattle.history_book.specs.declared.views.BookEntry.{BookEntry}
 use Rattle.history_book.specs.declared.views.BookEntry.TheVariants as one
 use Rattle.mon_value.specs.declared.histories.Histories.{Histories}
 use Rattle.history_book.specs.declared.views.History.{History}
 use Rattle.history_book.specs.declared.views.History.TheVariants as of
-use Rattle.mon_value.specs.Histories.{leaf_history, joined_histories, range_history}
 use Rattle.history_book.specs.Histories.{AreFronts, IsFor, empty_histories, entries, history_numbered}
 use Rattle.history_book.specs.Histories.{history_number, numbered_as, same_history}
 use Rattle.history_book.specs.Histories.{with_book_entry}

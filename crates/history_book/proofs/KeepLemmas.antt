@@ -24,8 +24,7 @@ use Rattle.history_book.specs.declared.views.Joined.{Joined}
 use Rattle.history_book.specs.declared.views.Kept.{Kept}
 use Rattle.history_book.specs.declared.views.Purse.{Purse}
 use Rattle.history_book.specs.declared.views.SeatView.{SeatView}
-use Rattle.mon_value.specs.Farther.{longer}
-use Rattle.mon_value.specs.Positions.{leaf_numbered, same_range}
+use Rattle.mon_value.specs.Histories.{longer, leaf_numbered, same_range}
 use Rattle.history_book.specs.Histories.{entries, is_about, is_under, book_entry_pass, same_history}
 use Rattle.history_book.specs.Numbers.{times_among}
 use Rattle.history_book.specs.Seats.{first_handed, guest_purse, new_number, no_entries, with_note, times_number}

@@ -6,7 +6,7 @@ use mathlib.Core.List.{IsPrefix}
 use Rattle.std.proofs.lemmas.Bool.Decides.{nat_tests}
 use Rattle.std.proofs.lemmas.List.{append-nil, append_assoc, length-append, length-map, nil_from_length}
 use Rattle.std.proofs.lemmas.List.Elements.{Contains-append_left, filter-append}
-use Rattle.mon_value.specs.Farther.{longer}
+use Rattle.mon_value.specs.Histories.{longer}
 use Rattle.history_book.specs.Histories.{added_at}
 
 module _ {X : Type 0} where

@@ -12,7 +12,7 @@ use Rattle.mon_value.specs.declared.histories.Histories.{Histories}
 use Rattle.history_book.specs.declared.views.History.{History}
 use Rattle.history_book.specs.declared.views.History.TheVariants as of
 use Rattle.history_book.specs.declared.views.SeatView.{SeatView}
-use Rattle.mon_value.specs.Positions.{leaf_numbered, same_leaf}
+use Rattle.mon_value.specs.Histories.{leaf_numbered, same_leaf}
 use Rattle.history_book.specs.Histories.{same_history}
 use Rattle.history_book.specs.Seats.{guest_purse, promised_after, rooms_after, times_range, times_room}
 use Rattle.history_book.specs.BookRule.{KeepsBookRule, has_number, has_room, hold_count, owns}

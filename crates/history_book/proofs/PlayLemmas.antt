@@ -23,7 +23,7 @@ use Rattle.history_book.specs.declared.views.Joined.{Joined}
 use Rattle.history_book.specs.declared.views.Kept.{Kept}
 use Rattle.history_book.specs.declared.views.Purse.{Purse}
 use Rattle.history_book.specs.declared.views.SeatView.{SeatView}
-use Rattle.mon_value.specs.Positions.{leaf_numbered}
+use Rattle.mon_value.specs.Histories.{leaf_numbered}
 use Rattle.history_book.specs.Histories.{IsFor, entries, history_numbered, is_about, is_under, book_entry_pass}
 use Rattle.history_book.specs.Histories.{same_history, with_book_entry}
 use Rattle.history_book.specs.Seats.{AreNumbersApart, HasEveryNumber, IsPurseBorneOut, IsKeptIn, guest_purse, hand_of}

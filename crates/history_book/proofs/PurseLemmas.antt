@@ -16,7 +16,7 @@ use Rattle.history_book.specs.declared.numbers.TheConstants.{SHARE}
 use Rattle.history_book.specs.declared.views.History.{History}
 use Rattle.history_book.specs.declared.views.Kept.{Kept}
 use Rattle.history_book.specs.declared.views.Purse.{Purse}
-use Rattle.mon_value.specs.Positions.{same_leaf, same_range}
+use Rattle.mon_value.specs.Histories.{same_leaf, same_range}
 use Rattle.history_book.specs.Numbers.{are_many, numbers_between, times_among}
 use Rattle.history_book.specs.Seats.{first_handed, guest_purse, held_after, holds_after, is_own_range, kept_in}
 use Rattle.history_book.specs.Seats.{met_purse, new_number, no_purse, times_number, times_range, times_room}

@@ -11,7 +11,7 @@ use Rattle.history_book.specs.declared.views.Kept.{Kept}
 use Rattle.history_book.specs.declared.views.SeatView.{SeatView}
 use Rattle.mon_value.specs.declared.positions.Leaf.{Leaf}
 use Rattle.mon_value.specs.declared.positions.Range.{Range}
-use Rattle.mon_value.specs.Positions.{leaf_numbered, range_numbered}
+use Rattle.mon_value.specs.Histories.{leaf_numbered, range_numbered}
 use Rattle.history_book.specs.Histories.{history_numbered, numbered_as}
 use Rattle.history_book.specs.BookRule.{HasSeat, IsTrue, KeepsBookRule, has_number, has_room, hold_count, kept_in_purse}
 use Rattle.history_book.specs.BookRule.{owns}

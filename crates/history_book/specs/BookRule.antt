@@ -18,7 +18,7 @@ use Rattle.history_book.specs.declared.views.Kept.{Kept}
 use Rattle.history_book.specs.declared.views.Purse.{Purse}
 use Rattle.history_book.specs.declared.views.SeatView.{SeatView}
 use Rattle.history_book.specs.Books.{word_count, word_of_history}
-use Rattle.mon_value.specs.Positions.{leaf_numbered, range_numbered}
+use Rattle.mon_value.specs.Histories.{leaf_numbered, range_numbered}
 use Rattle.history_book.specs.Histories.{entries, history_numbered, is_about, is_under, book_entry_pass}
 use Rattle.history_book.specs.Histories.{same_history}
 use Rattle.history_book.specs.Seats.{kept_in, times_number, times_range, times_room}

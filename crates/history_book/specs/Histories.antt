@@ -13,8 +13,7 @@ use Rattle.history_book.specs.declared.views.BookEntry.TheVariants as one
 use Rattle.mon_value.specs.declared.histories.Histories.{Histories}
 use Rattle.history_book.specs.declared.views.History.{History}
 use Rattle.history_book.specs.declared.views.History.TheVariants as of
-use Rattle.mon_value.specs.Positions.{leaf_numbered, range_numbered, same_leaf, same_range}
-use Rattle.mon_value.specs.Histories.{leaf_history, range_history}
+use Rattle.mon_value.specs.Histories.{leaf_numbered, range_numbered, same_leaf, same_range, leaf_history, range_history}
 
 -- ---- which histories there are
 

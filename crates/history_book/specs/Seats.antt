@@ -16,8 +16,7 @@ use Rattle.history_book.specs.declared.views.History.TheVariants as of
 use Rattle.history_book.specs.declared.views.Kept.{Kept}
 use Rattle.history_book.specs.declared.views.LengthNote.{LengthNote}
 use Rattle.history_book.specs.declared.views.Purse.{Purse}
-use Rattle.mon_value.specs.Positions.{same_leaf, same_range}
-use Rattle.mon_value.specs.Histories.{joined_histories}
+use Rattle.mon_value.specs.Histories.{same_leaf, same_range, joined_histories}
 use Rattle.history_book.specs.Histories.{empty_histories, entries, is_under, book_entry_pass}
 use Rattle.history_book.specs.Histories.{with_book_entry}
 use Rattle.history_book.specs.Numbers.{after_handing, handed_numbers, numbers_between, times_among}

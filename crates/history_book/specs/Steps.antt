@@ -15,8 +15,7 @@ use Rattle.history_book.specs.declared.views.Joined.{Joined}
 use Rattle.history_book.specs.declared.views.Purse.{Purse}
 use Rattle.history_book.specs.declared.views.SeatView.{SeatView}
 use Rattle.history_book.specs.Histories.{AreFronts, empty_histories, entries, histories_in, history_numbered, is_about}
-use Rattle.mon_value.specs.Positions.{leaf_numbered, range_numbered}
-use Rattle.mon_value.specs.Histories.{joined_histories}
+use Rattle.mon_value.specs.Histories.{leaf_numbered, range_numbered, joined_histories}
 use Rattle.history_book.specs.Histories.{numbers_on, with_book_entry}
 use Rattle.history_book.specs.Seats.{IsPurseBorneOut, Owner, Seat, first_handed, guest_purse, held_after, met_purse}
 use Rattle.history_book.specs.Seats.{no_purse, with_note, numbered_purse, own_notes_after, own_ranges, parted_purse}

@@ -6,7 +6,7 @@ use Rattle.mon_value.specs.LeafHistories.{IsWellFormed}
 use Rattle.mon_value.specs.declared.histories.Entry.{Entry}
 use Rattle.mon_value.specs.declared.histories.RangeEntry.{RangeEntry}
 use Rattle.mon_hints.specs.Covers.{Covers}
-use Rattle.mon_hints.specs.HistoryBuckets.{history_buckets}
+use Rattle.mon_hints.specs.Hints.{history_buckets}
 use Rattle.mon_topo.specs.HeldHistories.{AreAtHome, IsHeldBy}
 use Rattle.mon_topo.specs.RangeHistories.{IsLegal}
 use Rattle.mon_topo.specs.Settings.{Setting, zone_of_leaf}

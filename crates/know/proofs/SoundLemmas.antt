@@ -6,16 +6,14 @@ use Rattle.std.proofs.lemmas.List.Folds.{list_any-append}
 use Rattle.mon_value.specs.declared.histories.Entry.{Entry}
 use Rattle.mon_value.specs.declared.positions.Leaf.{Leaf}
 use Rattle.mon_hints.specs.Covers.{AreBitsWithin, Covers}
-use Rattle.mon_hints.specs.HistoryBuckets.{history_buckets}
+use Rattle.mon_hints.specs.Hints.{history_buckets}
 use Rattle.mon_hints.proofs.CoverLemmas.{covers_more}
-use Rattle.mon_topo.specs.HeldHistories.{AreHeld}
-use Rattle.mon_topo.specs.SeenHistories.{AreWithin}
+use Rattle.mon_topo.specs.HeldHistories.{AreHeld, AreWithin}
 use Rattle.mon_topo.specs.Settings.{Setting, zone_of_leaf}
-use Rattle.mon_value.specs.Positions.{leaf_numbered}
+use Rattle.mon_value.specs.Histories.{leaf_numbered, joined_histories, leaf_history, range_history}
 use Rattle.mon_topo.proofs.FrontLemmas.{begins_from}
 use Rattle.mon_topo.proofs.HeldLemmas.{joined_seen_held, joined_seen_leaf_by}
 use Rattle.mon_value.specs.declared.histories.Histories.{Histories}
-use Rattle.mon_value.specs.Histories.{joined_histories, leaf_history, range_history}
 use Rattle.history_book.specs.Histories.{AreFronts}
 use Rattle.mon_hints.specs.declared.places.Place.{Place}
 use Rattle.mon_hints.specs.declared.places.Place.TheVariants as at

@@ -9,7 +9,7 @@ use Rattle.mon_hints.specs.Places.{same_place}
 use Rattle.mon_topo.specs.Settings.{Setting, zone_of_leaf}
 use Rattle.mon_topo.specs.Views as views
 use Rattle.mon_topo.specs.Views.{View}
-use Rattle.mon_value.specs.Positions.{leaf_numbered}
+use Rattle.mon_value.specs.Histories.{leaf_numbered}
 use Rattle.mon_topo.specs.Zones.{first_leaf}
 use Rattle.mon_value.specs.declared.histories.Histories.{Histories}
 use Rattle.mon_hints.specs.declared.places.Place.{Place}

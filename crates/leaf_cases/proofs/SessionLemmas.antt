@@ -8,7 +8,7 @@ use Rattle.mon_meaning.specs.declared.meter.OverLimit.{OverLimit}
 use Rattle.mixer.specs.ZoneAnswers.{AllLeafParts, AllZoneParts, AreLeafParts, IsZonePart}
 use Rattle.mixer.specs.declared.zone_answers.ZoneAnswer.{ZoneAnswer}
 use Rattle.mon_schema.specs.Fits.{fits}
-use Rattle.mon_schema.specs.SchemaLists.{SchemaLists}
+use Rattle.mon_schema.specs.Names.{SchemaLists}
 use Rattle.mon_value.specs.declared.positions.Leaf.{Leaf}
 use Rattle.mon_value.specs.declared.positions.Range.{Range}
 use Rattle.mon_value.specs.declared.positions.Slot.{Slot}
@@ -28,13 +28,11 @@ use Rattle.query_core.specs.declared.stages.Stage.TheVariants as at
 use Rattle.query_core.specs.Courses.{with_next_zone, course_of, is_entered, left, with_found}
 use Rattle.query_core.specs.Courses as courses
 use Rattle.query_core.specs.Loadings.{is_whole, no_word, with_word}
-use Rattle.query_core.specs.Looks.{read_at, unread_look}
+use Rattle.query_core.specs.Rounds.{read_at, unread_look, Round, next_range, round_of, with_slot, QuerySetting}
 use Rattle.query_core.specs.Mixtures.{LeadsTo, MayBeTold, MayMix, MayMixRoot, Settles, TurnSettles, ZoneMixes}
 use Rattle.query_core.specs.Mixtures.{root_stage, typed_of, zone_turn}
 use Rattle.query_core.specs.Program as spec
 use Rattle.query_core.specs.Program.{after, begin_visits, let_some_in, next_zone, resolving, visiting}
-use Rattle.query_core.specs.Rounds.{Round, next_range, round_of, with_slot}
-use Rattle.query_core.specs.Settings.{QuerySetting}
 use Rattle.query_core.specs.Visits as visit
 use Rattle.query_core.specs.Visits.{Visits, gone_on, with_look, next_leaf}
 use Rattle.mql_types.specs.Soundness.{IsQueryType}

@@ -1,7 +1,6 @@
 // The states of a leaf, replayed from its history.
 ghost use Rattle.std.specs.Prelude.{◌≡◌, ◌≤◌, ◌∷◌, ◌++◌, [], false, length, IfOk, IsTrue, OnOk};
-ghost use Rattle.mon_value.specs.LeafHistories.{IsWellFormed, MayFollow, brought_rows, is_switch};
-ghost use Rattle.mon_value.specs.Sources.{IsSource};
+ghost use Rattle.mon_value.specs.LeafHistories.{IsWellFormed, MayFollow, brought_rows, is_switch, IsSource};
 
 use crate::rows::{add_fields, add_names, add_row};
 use case_queries::CaseSetting;

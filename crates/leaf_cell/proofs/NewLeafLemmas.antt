@@ -12,7 +12,7 @@ use Rattle.leaf_cell.specs.NewLeaves.{HasOpened, new_leaf_of}
 use Rattle.leaf_cell.specs.Rest.{HasRaised, IsAtRest}
 use Rattle.leaf_store.specs.LeafStates as store
 use Rattle.mon_hints.proofs.CoverLemmas.{buckets-push}
-use Rattle.mon_hints.specs.HistoryBuckets.{history_buckets}
+use Rattle.mon_hints.specs.Hints.{history_buckets}
 use Rattle.mon_topo.specs.Settings.{Setting}
 use Rattle.mon_value.specs.Histories.{joined_histories, leaf_history}
 use Rattle.mon_value.specs.declared.histories.Entry.{Entry}

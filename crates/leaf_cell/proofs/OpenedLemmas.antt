@@ -17,15 +17,15 @@ use Rattle.leaf_cell.proofs.RaisedLemmas.{history_alike, raised_with}
 use Rattle.leaf_cell.proofs.RestLemmas.{alike, promised_now, raised_now}
 use Rattle.leaf_cell.specs.Raising.{HasRaisedRow, rows_unraised}
 use Rattle.leaf_cell.specs.Rest.{GoesBy, IsAtRest, is_raised}
-use Rattle.leaf_store.specs.LeafBuckets.{is_unraised, key_buckets}
+use Rattle.leaf_store.specs.LeafStates.{is_unraised, key_buckets}
 use Rattle.leaf_store.specs.LeafStates as store
 use Rattle.mon_hints.proofs.CoverLemmas.{among-append}
 use Rattle.mon_hints.specs.Covers.{IsRaised}
-use Rattle.mon_hints.specs.HistoryBuckets.{history_buckets, rows_buckets}
-use Rattle.mon_hints.specs.Listings.{is_among}
+use Rattle.mon_hints.specs.Hints.{history_buckets, rows_buckets}
+use Rattle.mon_hints.specs.Formulas.{is_among}
 use Rattle.mon_hints.specs.declared.places.Place.{Place}
 use Rattle.mon_hints.specs.declared.places.Place.TheVariants as at
-use Rattle.mon_schema.specs.SchemaLists.{SchemaLists}
+use Rattle.mon_schema.specs.Names.{SchemaLists}
 use Rattle.mon_topo.specs.Settings.{Setting, zone_of_leaf}
 use Rattle.mon_value.specs.Histories.{leaf_history}
 use Rattle.mon_value.specs.declared.histories.Entry.{Entry}

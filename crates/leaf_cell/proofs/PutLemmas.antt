@@ -8,12 +8,12 @@ use Rattle.std.specs.Prelude.{IsTrue, if◌then◌else◌}
 use Rattle.history_book.specs.Seats.{times_range}
 use Rattle.leaf_cell.proofs.RaisedLemmas.{history_alike}
 use Rattle.leaf_cell.specs.Rest.{GoesBy}
-use Rattle.leaf_store.specs.LeafBuckets.{is_unraised, key_buckets}
+use Rattle.leaf_store.specs.LeafStates.{is_unraised, key_buckets}
 use Rattle.leaf_store.specs.LeafStates as store
-use Rattle.mon_hints.specs.HistoryBuckets.{history_buckets}
-use Rattle.mon_hints.specs.Listings.{is_among}
+use Rattle.mon_hints.specs.Hints.{history_buckets}
+use Rattle.mon_hints.specs.Formulas.{is_among}
 use Rattle.mon_topo.specs.Settings.{Setting}
-use Rattle.mon_value.specs.Positions.{range_numbered, same_range}
+use Rattle.mon_value.specs.Histories.{range_numbered, same_range}
 use Rattle.mon_value.specs.declared.histories.Entry.{Entry}
 use Rattle.mon_value.specs.declared.histories.Entry.TheVariants as entry
 use Rattle.mon_value.specs.declared.positions.Range.{Range}

@@ -14,7 +14,7 @@ use Rattle.leaf_cell.specs.Raising.{HasRaisedAt, MayRaiseAll, set_below}
 use Rattle.leaf_cell.specs.Rest.{is_raised}
 use Rattle.mon_hints.specs.BucketSets.{HasNone, IsNext}
 use Rattle.mon_hints.specs.Places.{place_number, same_place}
-use Rattle.mon_value.specs.Positions.{zone_numbered}
+use Rattle.mon_value.specs.Histories.{zone_numbered}
 use Rattle.mon_value.specs.declared.positions.Zone.{Zone}
 use Rattle.raise_table.specs.Places.{bit_of}
 use Rattle.raise_table.specs.Seats.{MayRaise, Owner, after_raise, note, raised_at}

@@ -13,11 +13,11 @@ use Rattle.leaf_cell.proofs.RaisedLemmas.{raised_exactly}
 use Rattle.leaf_cell.specs.Raising.{HasRaisedRow}
 use Rattle.leaf_cell.specs.Rest.{GoesBy, HasRaised, IsAtRest, is_raised}
 use Rattle.leaf_cell.specs.Visits.{IsAsBefore}
-use Rattle.leaf_store.specs.LeafBuckets.{is_unraised, key_buckets}
+use Rattle.leaf_store.specs.LeafStates.{is_unraised, key_buckets}
 use Rattle.leaf_store.specs.LeafStates as store
 use Rattle.mon_hints.proofs.CoverLemmas.{buckets-push}
-use Rattle.mon_hints.specs.HistoryBuckets.{history_buckets, rows_buckets}
-use Rattle.mon_hints.specs.Listings.{is_among}
+use Rattle.mon_hints.specs.Hints.{history_buckets, rows_buckets}
+use Rattle.mon_hints.specs.Formulas.{is_among}
 use Rattle.mon_topo.specs.Settings.{Setting}
 use Rattle.mon_value.specs.Histories.{leaf_history}
 use Rattle.mon_value.specs.LeafHistories.{brought_rows, is_switch}

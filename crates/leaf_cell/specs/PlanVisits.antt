@@ -10,8 +10,7 @@ use Rattle.leaf_cell.specs.declared.plan_reader.Visited.TheVariants as visited
 use Rattle.leaf_eval.specs.Visits.{IsVisit}
 use Rattle.leaf_eval.specs.declared.visits.Visit.{Visit}
 use Rattle.leaf_eval.specs.declared.visits.Visit.TheVariants as visit
-use Rattle.mon_hints.specs.Formulas.{all_named, formula_tree, formulas}
-use Rattle.mon_hints.specs.Listings.{AreAmong}
+use Rattle.mon_hints.specs.Formulas.{all_named, formula_tree, formulas, AreAmong}
 use Rattle.mon_meaning.specs.ReadableSlots.{CanBeRead}
 use Rattle.mon_value.specs.declared.histories.Entry.{Entry}
 use Rattle.mon_value.specs.declared.limits.TheConstants.{ROW_BITS}

@@ -2,13 +2,12 @@
 use Rattle.std.specs.Prelude.{◌≡◌, ℕ, ◌&&◌, Bool, List, None, nat_eq}
 use Rattle.std.specs.List.{list_any}
 use Rattle.mon_hints.specs.Places.{same_place}
-use Rattle.leaf_store.specs.LeafBuckets.{key_buckets}
+use Rattle.leaf_store.specs.LeafStates.{key_buckets}
 use Rattle.leaf_store.specs.LeafStates as store
-use Rattle.mon_hints.specs.HistoryBuckets.{history_buckets}
-use Rattle.mon_hints.specs.Listings.{is_among}
+use Rattle.mon_hints.specs.Hints.{history_buckets}
+use Rattle.mon_hints.specs.Formulas.{is_among}
 use Rattle.mon_topo.specs.Settings.{Setting}
-use Rattle.mon_value.specs.Histories.{leaf_history}
-use Rattle.mon_value.specs.Positions.{leaf_numbered}
+use Rattle.mon_value.specs.Histories.{leaf_history, leaf_numbered}
 use Rattle.owners.specs.Owners as owners
 use Rattle.raise_table.specs.Seats as hints
 use Rattle.raise_table.specs.Tables.{RaiseIdentity}

@@ -1,7 +1,7 @@
 // What reads a leaf that is up.
 ghost use Rattle.std.specs.Prelude.{IfOk};
 ghost use Rattle.leaf_cell.specs.Visits.{IsAsBefore};
-ghost use Rattle.leaf_store.specs.LeafBuckets.{key_buckets};
+ghost use Rattle.leaf_store.specs.LeafStates.{key_buckets};
 
 use leaf_store::LeafState;
 use mon_value::OutOfMemory;

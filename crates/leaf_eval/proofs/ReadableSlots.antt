@@ -3,8 +3,7 @@ use Rattle.std.proofs.Common.{◌≡◌, ◌∙◌, ◌||◌, Bool, true, false,
 use Rattle.std.specs.List.{AllByRecursion as All}
 use Rattle.std.proofs.lemmas.Bool.{and_parts, or_parts}
 use Rattle.leaf_eval.specs.Replicas.{AreReplicasApart, ShareNoSeries, has_series, replica_rows_of}
-use Rattle.mon_meaning.specs.ApartTargets.{AreApart, ShareNoTarget, has_target}
-use Rattle.mon_meaning.specs.ReadableSlots.{CanBeRead}
+use Rattle.mon_meaning.specs.ReadableSlots.{AreApart, ShareNoTarget, has_target, CanBeRead}
 use Rattle.mon_value.proofs.SameLemmas.{same_series-Decides}
 use Rattle.mon_value.specs.Same.{same_series, same_target}
 use Rattle.mon_value.specs.declared.histories.Entry.{Entry}

@@ -2,22 +2,21 @@
 use Rattle.std.proofs.Common.{◌≡◌, ◌≤ℤ◌, ℤ, pos, Bool, true, false, List, [], ◌∷◌, ◌++◌}
 use Rattle.std.specs.List.{AllByRecursion}
 use Rattle.mon_value.specs.Grids.{IsLawfulGrid}
-use Rattle.mon_value.specs.Sources.{points_by_series}
+use Rattle.mon_value.specs.LeafHistories.{points_by_series}
 use Rattle.mon_value.specs.declared.grids.Grid.{Grid}
 use Rattle.mon_value.specs.declared.rows.Point.{Point}
 use Rattle.mon_value.specs.declared.rows.Row.{Row}
 use Rattle.mon_value.specs.declared.rows.SeriesKey.{SeriesKey}
 use Rattle.mon_schema.specs.Fits.{fits}
-use Rattle.mon_schema.specs.SchemaLists.{SchemaLists}
-use Rattle.mql_types.specs.Loads.{load_of}
+use Rattle.mon_schema.specs.Names.{SchemaLists}
+use Rattle.mql_types.specs.Meaning.{load_of, grid_of, rows_meant}
 use Rattle.mql_types.proofs.FetchColumnLemmas.{fetches_have_columns}
 use Rattle.mql_types.proofs.QueryLaws.{typed_evaluable}
 use Rattle.mql_types.proofs.TypedGridLemmas.{typed_grid}
-use Rattle.mql_types.specs.Meaning.{grid_of, rows_meant}
 use Rattle.mql_types.specs.Nodes as node
 use Rattle.mql_types.specs.Nodes.{NodeTree, TypedTree, columns_of, level_of}
-use Rattle.mql_types.specs.Pieces as up
-use Rattle.mql_types.specs.Pieces.{PartUse, TopPart, part_or, top_parts}
+use Rattle.mql_types.specs.Levels as up
+use Rattle.mql_types.specs.Levels.{PartUse, TopPart, part_or, top_parts}
 use Rattle.mql_types.specs.Plans.{HasFetchColumns, fetches}
 use Rattle.mql_types.specs.Soundness.{IsEvaluable, IsWithinRows}
 use Rattle.mql_types.specs.declared.levels.Level.{Level}

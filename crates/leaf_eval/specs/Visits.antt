@@ -2,7 +2,7 @@
 use Rattle.std.specs.Prelude.{ℕ, ℤ, ◌≡◌, Bool, true, false, List, length}
 use Rattle.leaf_eval.specs.declared.visits.Visit.{Visit}
 use Rattle.leaf_eval.specs.declared.visits.Visit.TheVariants as visit
-use Rattle.mon_hints.specs.HistoryBuckets.{history_buckets}
+use Rattle.mon_hints.specs.Hints.{history_buckets}
 use Rattle.mon_meaning.specs.LeafAnswers.{IsLeafPart, IsOverLeaf}
 use Rattle.mon_meaning.specs.ReadableSlots.{slot_rows}
 use Rattle.mon_value.specs.LeafHistories.{is_down}

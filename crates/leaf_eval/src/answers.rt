@@ -1,6 +1,6 @@
 // A leaf's answer.
 ghost use Rattle.std.specs.Prelude.{◌≡◌, ◌≤◌, ◌^◌, ◌≤ℤ◌, pos, List};
-ghost use Rattle.mon_value.specs.Sources.{points_by_series};
+ghost use Rattle.mon_value.specs.LeafHistories.{points_by_series};
 ghost use Rattle.mon_value.specs.declared.limits.TheConstants.{ROW_BITS};
 ghost use Rattle.mon_value.specs.declared.rows.Row.{Row};
 ghost use Rattle.mql_types.specs.Nodes.{typed_tree};

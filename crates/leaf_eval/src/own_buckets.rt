@@ -1,9 +1,8 @@
 // Whether a leaf is read.
 ghost use Rattle.std.specs.Prelude.{◌≡◌, map, IfOk, if◌then◌else◌};
-ghost use Rattle.leaf_store.specs.LeafBuckets.{key_buckets};
-ghost use Rattle.mon_hints.specs.Formulas.{all_named, formula_tree, formulas};
-ghost use Rattle.mon_hints.specs.HistoryBuckets.{history_buckets};
-ghost use Rattle.mon_hints.specs.Listings.{AreAmong, is_among};
+ghost use Rattle.leaf_store.specs.LeafStates.{key_buckets};
+ghost use Rattle.mon_hints.specs.Formulas.{all_named, formula_tree, formulas, AreAmong, is_among};
+ghost use Rattle.mon_hints.specs.Hints.{history_buckets};
 ghost use Rattle.plan_split.specs.Meeting as spec;
 
 use leaf_store::LeafState;

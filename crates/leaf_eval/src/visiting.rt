@@ -1,9 +1,8 @@
 // A query's visit of a leaf.
 ghost use Rattle.std.specs.Prelude.{◌≡◌, ◌≤◌, ◌^◌, ◌≤ℤ◌, IfOk, map, pos};
 ghost use Rattle.leaf_eval.specs.Visits.{IsReadAt, IsVisit};
-ghost use Rattle.leaf_store.specs.LeafBuckets.{key_buckets};
-ghost use Rattle.mon_hints.specs.Formulas.{all_named, formula_tree, formulas};
-ghost use Rattle.mon_hints.specs.Listings.{AreAmong};
+ghost use Rattle.leaf_store.specs.LeafStates.{key_buckets};
+ghost use Rattle.mon_hints.specs.Formulas.{all_named, formula_tree, formulas, AreAmong};
 ghost use Rattle.mon_meaning.specs.ReadableSlots.{CanBeRead, slot_rows};
 ghost use Rattle.mon_value.specs.declared.limits.TheConstants.{ROW_BITS};
 ghost use Rattle.mql_types.specs.Nodes.{typed_tree};

@@ -8,11 +8,10 @@ use Rattle.std.proofs.lemmas.List.Concat.{flat_map-append}
 use Rattle.std.proofs.lemmas.Nat.{mod_below}
 use Rattle.mon_hints.proofs.TruthLemmas.{or_false}
 use Rattle.mon_hints.specs.BucketSets.{HasNone, IsNext}
-use Rattle.mon_hints.specs.Excerpts.{value_excerpts}
-use Rattle.mon_hints.specs.Fingerprints.{bucket_of, fingerprint_of}
-use Rattle.mon_hints.specs.Hints.{field_buckets, series_buckets, value_buckets}
-use Rattle.mon_hints.specs.Listings.{is_among}
-use Rattle.mon_schema.specs.SchemaLists.{SchemaLists, metric_named, target_named}
+use Rattle.mon_hints.specs.Hints.{value_excerpts, bucket_of, fingerprint_of, field_buckets, series_buckets}
+use Rattle.mon_hints.specs.Hints.{value_buckets, history_buckets, rows_buckets}
+use Rattle.mon_hints.specs.Formulas.{is_among}
+use Rattle.mon_schema.specs.Names.{SchemaLists, metric_named, target_named}
 use Rattle.mon_value.specs.declared.histories.Entry.{Entry}
 use Rattle.mon_value.specs.declared.rows.Row.{Row}
 use Rattle.mon_value.specs.declared.rows.SeriesKey.{SeriesKey}
@@ -20,9 +19,8 @@ use Rattle.mon_value.specs.declared.schemas.Field.{Field}
 use Rattle.mon_value.specs.declared.schemas.MetricSchema.{MetricSchema}
 use Rattle.mon_value.specs.declared.schemas.TargetSchema.{TargetSchema}
 use Rattle.mon_value.specs.declared.values.FieldValue.{FieldValue}
-use Rattle.mon_hints.specs.HistoryBuckets.{history_buckets, rows_buckets}
 use Rattle.mon_value.specs.LeafHistories.{brought_rows, leaf_rows}
-use Rattle.leaf_store.specs.LeafBuckets.{buckets_by, is_unraised, key_buckets}
+use Rattle.leaf_store.specs.LeafStates.{buckets_by, is_unraised, key_buckets}
 
 -- ---- below their number
 

@@ -5,10 +5,9 @@ use Rattle.std.specs.List.{AllByRecursion}
 use Rattle.std.proofs.lemmas.Int.{ints}
 use Rattle.mon_value.proofs.LeafHistoryLemmas.{IsWellFormed-push, no_rows, parts_same, replica_rows-push}
 use Rattle.mon_value.proofs.SameLemmas.{same_series-Decides}
-use Rattle.mon_value.specs.LeafHistories.{GoesOn, IsWellFormed, MayFollow, entry_rows, is_down, is_opened}
-use Rattle.mon_value.specs.LeafHistories.{replica_rows, same_replica}
+use Rattle.mon_value.specs.LeafHistories.{GoesOn, IsWellFormed, MayFollow, entry_rows, is_down, is_opened, replica_rows}
+use Rattle.mon_value.specs.LeafHistories.{same_replica, EndsBefore, IsSource, last_end, points_of, rows_of}
 use Rattle.mon_value.specs.Same.{same_series}
-use Rattle.mon_value.specs.Sources.{EndsBefore, IsSource, last_end, points_of, rows_of}
 use Rattle.mon_value.specs.declared.histories.Entry.{Entry}
 use Rattle.mon_value.specs.declared.histories.Entry.TheVariants as entry
 use Rattle.mon_value.specs.declared.positions.Range.{Range}

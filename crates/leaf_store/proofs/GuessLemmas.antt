@@ -1,7 +1,7 @@
 -- The series of a number, where its key is the one that is asked for.
 use Rattle.std.proofs.Common.{◌≡◌, ◌∙◌, ℕ, ℤ, Option, Some, None, IfSome, option_map, List, slice_get, sym, ap}
 use Rattle.std.proofs.lemmas.Option.{slice_get-map}
-use Rattle.mon_value.specs.Sources.{points_by_series, points_of, series_of}
+use Rattle.mon_value.specs.LeafHistories.{points_by_series, points_of, series_of}
 use Rattle.mon_value.specs.declared.rows.Point.{Point}
 use Rattle.mon_value.specs.declared.rows.Row.{Row}
 use Rattle.mon_value.specs.declared.rows.SeriesKey.{SeriesKey}

@@ -6,15 +6,15 @@ use Rattle.std.proofs.lemmas.List.{drop-append-le, length-append, length-drop}
 use Rattle.std.proofs.lemmas.List.Folds.{list_any-append}
 use Rattle.std.proofs.lemmas.List.Sums.{sum_by-append}
 use Rattle.mon_hints.proofs.TruthLemmas.{or_false}
-use Rattle.mon_hints.specs.Listings.{is_among}
-use Rattle.mon_schema.specs.SchemaLists.{SchemaLists}
+use Rattle.mon_hints.specs.Formulas.{is_among}
+use Rattle.mon_schema.specs.Names.{SchemaLists}
 use Rattle.mon_value.specs.LeafHistories.{IsWellFormed, MayFollow, is_down, is_down_after, is_switch}
 use Rattle.mon_value.specs.declared.histories.Entry.{Entry}
 use Rattle.mon_value.specs.declared.histories.Entry.TheVariants as entry
 use Rattle.mon_value.specs.declared.limits.TheConstants.{MOST_SWITCHES}
-use Rattle.mon_hints.specs.HistoryBuckets.{history_buckets, rows_buckets}
+use Rattle.mon_hints.specs.Hints.{history_buckets, rows_buckets}
 use Rattle.mon_value.specs.LeafHistories.{brought_rows}
-use Rattle.leaf_store.specs.LeafBuckets.{key_buckets}
+use Rattle.leaf_store.specs.LeafStates.{key_buckets}
 use Rattle.leaf_store.specs.declared.kept.Kept.{Kept}
 use Rattle.leaf_store.specs.within.Raises.{AddsBuckets}
 use Rattle.leaf_store.specs.within.Replicas.{AllHaveRows, IsInTwoParts, Replicas, shown_entries}

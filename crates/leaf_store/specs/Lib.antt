@@ -1,4 +1,3 @@
-pub mod LeafBuckets
 pub mod LeafLists
 pub mod LeafStates
 pub mod within

@@ -5,14 +5,12 @@ ghost use Rattle.std.specs.Prelude.{true, IfOk, IfSome, IfNone, OnOk, OnErr, IsT
 ghost use Rattle.std.specs.List.{count_by};
 ghost use Rattle.std.specs.Option.{option_copied};
 ghost use Rattle.mon_hints.specs.BucketSets.{HasNone, IsNext, is_set};
-ghost use Rattle.mon_hints.specs.Listings.{is_among};
+ghost use Rattle.mon_hints.specs.Formulas.{is_among};
 ghost use Rattle.mon_value.specs.LeafHistories.{IsWellFormed, MayFollow, brought_rows, is_down, is_down_after};
-ghost use Rattle.mon_value.specs.LeafHistories.{is_opened, is_switch, replica_rows};
-ghost use Rattle.mon_value.specs.Sources.{IsSource, last_end, points_of};
-ghost use Rattle.mon_hints.specs.HistoryBuckets.{history_buckets};
-ghost use Rattle.leaf_store.specs.LeafBuckets.{AreToRaise, key_buckets, is_unraised};
-ghost use Rattle.leaf_store.specs.LeafStates.{new_leaf, opened_rows, leaf_with_entry, leaf_with_put, with_promised};
-ghost use Rattle.leaf_store.specs.LeafStates.{with_settled};
+ghost use Rattle.mon_value.specs.LeafHistories.{is_opened, is_switch, replica_rows, IsSource, last_end, points_of};
+ghost use Rattle.mon_hints.specs.Hints.{history_buckets};
+ghost use Rattle.leaf_store.specs.LeafStates.{AreToRaise, key_buckets, is_unraised, new_leaf, opened_rows};
+ghost use Rattle.leaf_store.specs.LeafStates.{leaf_with_entry, leaf_with_put, with_promised, with_settled};
 ghost use Rattle.leaf_store.specs.within.Follows.{CanTakeRow};
 
 use crate::kept::{Kept, KeptEntries};

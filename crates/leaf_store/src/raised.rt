@@ -1,9 +1,9 @@
 // The buckets that a leaf's series have.
 ghost use Rattle.std.specs.Prelude.{◌≡◌, ◌<◌, ◌≤◌, ◌||◌, ◌∷◌, ℕ, [], false, IfSome, IfNone, IsTrue};
 ghost use Rattle.mon_hints.specs.BucketSets.{HasNone, IsNext, is_set};
-ghost use Rattle.mon_hints.specs.Listings.{is_among};
-ghost use Rattle.mon_hints.specs.HistoryBuckets.{rows_buckets};
-ghost use Rattle.leaf_store.specs.LeafBuckets.{key_buckets};
+ghost use Rattle.mon_hints.specs.Formulas.{is_among};
+ghost use Rattle.mon_hints.specs.Hints.{rows_buckets};
+ghost use Rattle.leaf_store.specs.LeafStates.{key_buckets};
 ghost use Rattle.leaf_store.specs.within.Raises.{AddsBuckets, AddsEntry, HoldsBuckets, IsKnown, is_left};
 
 use crate::replicas::{Replica, Replicas, find_series};

@@ -2,8 +2,7 @@
 ghost use Rattle.std.specs.Prelude.{◌≡◌, ◌++◌, ◌∷◌, [], true, false, length, slice_get, option_map, IfOk, IfSome};
 ghost use Rattle.std.specs.Prelude.{IsTrue, OnErr, OnOk};
 ghost use Rattle.std.specs.Option.{option_copied};
-ghost use Rattle.mon_value.specs.LeafHistories.{same_replica};
-ghost use Rattle.mon_value.specs.Sources.{IsSource, last_end, points_of};
+ghost use Rattle.mon_value.specs.LeafHistories.{same_replica, IsSource, last_end, points_of};
 ghost use Rattle.leaf_store.specs.within.Replicas.{CanPut, CanSettle, HasSeries, IsLater, IsNewReplica, IsReplicaAdded};
 ghost use Rattle.leaf_store.specs.within.Replicas.{IsPut, SettlesEntry, has_row_of, rows_held, rows_if, rows_if_kept};
 

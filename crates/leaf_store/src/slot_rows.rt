@@ -1,7 +1,7 @@
 // The rows of a replica.
 ghost use Rattle.std.specs.Prelude.{◌≡◌, ◌++◌, ◌∷◌, ◌<◌, ◌<ℤ◌, [], length, slice_get, option_map, Some, IfNone, IfOk};
 ghost use Rattle.std.specs.Prelude.{IfSome, OnErr, OnOk};
-ghost use Rattle.mon_value.specs.Sources.{IsSource, last_end, points_of, series_of};
+ghost use Rattle.mon_value.specs.LeafHistories.{IsSource, last_end, points_of, series_of};
 ghost use Rattle.leaf_store.specs.within.Replicas.{has_row_of};
 
 use mon_series::{KeptRows, KeptSeries, Series};

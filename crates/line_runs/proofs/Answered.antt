@@ -2,7 +2,7 @@
 use Rattle.std.proofs.Common.{◌<◌, ℕ, ℤ, List, Ok, sym, subst}
 use Rattle.history_book.specs.Histories.{AreFronts}
 use Rattle.know.specs.Knowledge.{Knowledge}
-use Rattle.leaf_store.specs.LeafBuckets.{key_buckets}
+use Rattle.leaf_store.specs.LeafStates.{key_buckets}
 use Rattle.line_runs.proofs.Growing.{marks, seen_of, wider}
 use Rattle.line_runs.specs.Questions.{IsAnswerTo}
 use Rattle.mon_config.specs.declared.config.Config.{Config}

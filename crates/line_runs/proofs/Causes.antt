@@ -11,25 +11,22 @@ use Rattle.mon_store.specs.Stores.{setting_of}
 use Rattle.mon_store.specs.declared.queries.QueryFault.{QueryFault}
 use Rattle.mon_store.specs.declared.queries.QueryFault.TheVariants as fault
 use Rattle.mon_topo.proofs.RangeHistoryLemmas.{all_filter}
-use Rattle.mon_value.specs.Histories.{leaf_history}
-use Rattle.mon_value.specs.Positions.{same_leaf}
+use Rattle.mon_value.specs.Histories.{leaf_history, same_leaf}
 use Rattle.mon_value.specs.declared.histories.Histories.{Histories}
 use Rattle.mon_value.specs.declared.positions.FoundDown.{FoundDown}
 use Rattle.mon_value.specs.declared.positions.Leaf.{Leaf}
 use Rattle.mon_value.specs.declared.positions.Range.{Range}
-use Rattle.mql_types.specs.Loads.{load}
+use Rattle.mql_types.specs.Meaning.{load}
 use Rattle.query_core.specs.Answers.{IsStoppedRightly}
-use Rattle.query_core.specs.Areas.{area_of, has_leaf}
-use Rattle.query_core.specs.Findings.{AreFoundThen, HasNoReplica, IsFoundThen}
+use Rattle.query_core.specs.Rounds.{area_of, has_leaf, QuerySetting}
+use Rattle.query_core.specs.Courses.{AreFoundThen, HasNoReplica, IsFoundThen}
 use Rattle.query_core.specs.Mixtures.{typed_of}
-use Rattle.query_core.specs.Settings.{QuerySetting}
 use Rattle.query_core.specs.Traces.{IsBetween, lengths_of, source_of}
 use Rattle.query_core.specs.declared.answers.Trace.{Trace}
 use Rattle.run_traces.specs.LineCauses.{HasCause}
 use Rattle.run_traces.specs.LineForms.{IsQuestionFault}
 use Rattle.mon_script.specs.declared.forms.LineForm.{LineForm}
-use Rattle.run_traces.specs.LineFreshness.{found_cuts, refusal_cuts}
-use Rattle.run_traces.specs.LineTables.{moment_of, text_of}
+use Rattle.run_traces.specs.LineTables.{found_cuts, refusal_cuts, moment_of, text_of}
 use Rattle.run_traces.specs.declared.traces.LineFault.{LineFault}
 use Rattle.run_traces.specs.declared.traces.LineFault.TheVariants as why
 use Rattle.query_core.proofs.LeafLemmas.{same_leaves}

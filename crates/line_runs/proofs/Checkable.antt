@@ -14,8 +14,7 @@ use Rattle.mon_topo.specs.HeldHistories.{AreAtHome, AreHeld, IsAtHome}
 use Rattle.mon_topo.specs.Zones.{leaves_in}
 use Rattle.mon_value.proofs.LeafHistoryLemmas.{front}
 use Rattle.mon_value.specs.Histories.{leaf_history}
-use Rattle.mon_value.specs.LeafHistories.{IsWellFormed}
-use Rattle.mon_value.specs.Sources.{IsSource}
+use Rattle.mon_value.specs.LeafHistories.{IsWellFormed, IsSource}
 use Rattle.mon_value.specs.declared.histories.Entry.{Entry}
 use Rattle.mon_value.specs.declared.histories.Histories.{Histories}
 use Rattle.mon_value.specs.declared.rows.Row.{Row}

@@ -15,18 +15,16 @@ use Rattle.mon_config.specs.declared.config.Config.{Config}
 use Rattle.mon_store.proofs.OwnLemmas.{within_front}
 use Rattle.mon_store.specs.Writes.{AreAllDown, IsRefused, IsRefusedAs, WasFoundSo}
 use Rattle.mon_topo.proofs.FrontLemmas.{begins_length, begins_through, take_on}
-use Rattle.mon_topo.specs.RangeHistories.{serving}
-use Rattle.mon_topo.specs.Serving.{is_avoided}
-use Rattle.mon_value.specs.Histories.{leaf_history, range_history}
+use Rattle.mon_topo.specs.RangeHistories.{serving, is_avoided}
+use Rattle.mon_value.specs.Histories.{leaf_history, range_history, same_leaf}
 use Rattle.mon_value.specs.LeafHistories.{IsDownAt, is_down}
-use Rattle.mon_value.specs.Positions.{same_leaf}
 use Rattle.mon_value.specs.declared.histories.RangeEntry.{RangeEntry}
 use Rattle.mon_value.specs.declared.positions.FoundDown.{FoundDown}
 use Rattle.mon_value.specs.declared.positions.Leaf.{Leaf}
 use Rattle.mon_value.specs.declared.positions.Range.{Range}
 use Rattle.mon_value.specs.declared.positions.SlotLeaf.{SlotLeaf}
 use Rattle.mon_value.specs.declared.rows.Row.{Row}
-use Rattle.query_core.specs.Findings.{IsFoundBetween}
+use Rattle.query_core.specs.Courses.{IsFoundBetween}
 use Rattle.query_core.specs.Traces.{IsBetween, found_leaves}
 use Rattle.range_cell.specs.declared.answers.WriteFault.{WriteFault}
 use Rattle.range_cell.specs.declared.answers.WriteFault.TheVariants as unwritten

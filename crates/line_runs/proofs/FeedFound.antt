@@ -18,20 +18,20 @@ use Rattle.mon_config.specs.declared.config.Config.{Config}
 use Rattle.mon_points.specs.declared.records.RowRead.{RowRead}
 use Rattle.mon_points.specs.declared.records.RowRead.TheVariants as read
 use Rattle.mon_store.proofs.OwnLemmas.{entries_front}
-use Rattle.mon_value.specs.Positions.{leaf_numbered, same_leaf}
+use Rattle.mon_value.specs.Histories.{leaf_numbered, same_leaf}
 use Rattle.mon_value.specs.declared.histories.Histories.{Histories}
 use Rattle.mon_value.specs.declared.positions.FoundDown.{FoundDown}
 use Rattle.mon_value.specs.declared.positions.Leaf.{Leaf}
 use Rattle.mon_value.specs.declared.rows.Row.{Row}
 use Rattle.owners.specs.Puts.{pass_of}
-use Rattle.query_core.specs.Findings.{IsFoundBetween}
+use Rattle.query_core.specs.Courses.{IsFoundBetween}
 use Rattle.query_core.specs.Traces.{IsBetween}
 use Rattle.range_cell.specs.declared.answers.WriteFault.TheVariants as unwritten
 use Rattle.run_traces.specs.LineCauses.{HasRowCause, rows_before}
 use Rattle.run_traces.specs.LineClaims.{RowFound, RowsFound, marked}
 use Rattle.run_traces.specs.LineFeeds.{AreTold, refused_at}
-use Rattle.run_traces.specs.LineFreshness.{found_cuts, row_cuts}
-use Rattle.run_traces.specs.LinePlaces.{is_fed}
+use Rattle.run_traces.specs.LineTables.{found_cuts, row_cuts}
+use Rattle.run_traces.specs.LineSwitches.{is_fed}
 use Rattle.run_traces.specs.declared.traces.RowRefusal.{RowRefusal}
 use Rattle.run_traces.specs.declared.traces.RowRefused.{RowRefused}
 use Rattle.run_traces.specs.declared.traces.RowRefused.TheVariants as refused

@@ -17,16 +17,15 @@ use Rattle.history_book.specs.declared.views.History.{History}
 use Rattle.history_book.specs.declared.views.History.TheVariants as of
 use Rattle.know.specs.Knowledge.{Knowledge}
 use Rattle.line_runs.specs.Feeding.{AreFed, WasTaken}
-use Rattle.mon_config.specs.KeyRanges.{range_of_key}
+use Rattle.mon_config.specs.Configs.{range_of_key}
 use Rattle.mon_config.specs.declared.config.Config.{Config}
 use Rattle.mon_points.specs.declared.records.RowRead.{RowRead}
 use Rattle.mon_points.specs.declared.records.RowRead.TheVariants as read
 use Rattle.mon_store.proofs.OwnLemmas.{drop_prefix, entries_front}
 use Rattle.mon_store.specs.Writes.{IsStill, IsUnwritten, new_entries, only_in, own_entries, put_in, written}
 use Rattle.mon_topo.specs.RangeHistories.{acked_row, acknowledged_rows}
-use Rattle.mon_value.specs.Histories.{range_history}
-use Rattle.mon_value.specs.Positions.{same_range}
-use Rattle.mon_value.specs.Sources.{IsSource}
+use Rattle.mon_value.specs.Histories.{range_history, same_range}
+use Rattle.mon_value.specs.LeafHistories.{IsSource}
 use Rattle.mon_value.specs.declared.histories.Ack.{Ack}
 use Rattle.mon_value.specs.declared.histories.Entry.TheVariants as entry
 use Rattle.mon_value.specs.declared.histories.RangeEntry.{RangeEntry}
@@ -38,7 +37,7 @@ use Rattle.owners.specs.Puts.{number_or, pass_of}
 use Rattle.run_theory.proofs.Stands.{kept_stands, same_to}
 use Rattle.run_traces.specs.LineClaims.{FeedMade, book_row}
 use Rattle.run_traces.specs.LineFeeds.{lies_in}
-use Rattle.run_traces.specs.LinePlaces.{is_fed, is_row}
+use Rattle.run_traces.specs.LineSwitches.{is_fed, is_row}
 use Rattle.run_traces.specs.declared.traces.RowRefusal.{RowRefusal}
 use Rattle.run_traces.proofs.ListFacts.{all_as, all_at, any_at, both_all, made_kept}
 use Rattle.run_traces.proofs.RowFacts.{fed_row, lies_as, row_joined, row_key}

@@ -15,14 +15,14 @@ use Rattle.history_book.specs.declared.views.BookEntry.TheVariants as one
 use Rattle.mon_topo.specs.RangeHistories.{acked_row, acknowledged_rows}
 use Rattle.mon_value.proofs.SameLemmas.{same_series-Decides}
 use Rattle.mon_value.specs.Same.{same_series}
-use Rattle.mon_value.specs.Sources.{EndsBefore, IsSource}
+use Rattle.mon_value.specs.LeafHistories.{EndsBefore, IsSource}
 use Rattle.mon_value.specs.declared.histories.Entry.TheVariants as entry
 use Rattle.mon_value.specs.declared.histories.RangeEntry.{RangeEntry}
 use Rattle.mon_value.specs.declared.histories.RangeEntry.TheVariants as range_entry
 use Rattle.mon_value.specs.declared.rows.Row.{Row}
 use Rattle.run_theory.proofs.Callers.{both_all}
 use Rattle.run_traces.specs.LineClaims.{book_row}
-use Rattle.run_traces.specs.LinePlaces.{is_row}
+use Rattle.run_traces.specs.LineSwitches.{is_row}
 use Rattle.run_traces.proofs.ListFacts.{all_as, last_all}
 use Rattle.run_traces.proofs.RowFacts.{row_key}
 

@@ -15,7 +15,7 @@ use Rattle.mon_store.proofs.OwnLemmas.{within_front}
 use Rattle.mon_topo.specs.HeldHistories.{AreHeld}
 use Rattle.mon_topo.specs.RangeHistories.{acknowledged_rows}
 use Rattle.mon_value.specs.Histories.{range_history}
-use Rattle.mon_value.specs.Sources.{IsSource}
+use Rattle.mon_value.specs.LeafHistories.{IsSource}
 use Rattle.mon_value.specs.declared.histories.RangeEntry.{RangeEntry}
 use Rattle.mon_value.specs.declared.positions.Range.{Range}
 use Rattle.mon_value.specs.declared.rows.Row.{Row}

@@ -5,10 +5,9 @@ use Rattle.history_book.proofs.ListLemmas.{prefix_length}
 use Rattle.history_book.specs.Histories.{AreFronts, entries}
 use Rattle.history_book.specs.declared.views.History.{History}
 use Rattle.history_book.specs.declared.views.History.TheVariants as of
-use Rattle.mon_schema.specs.SchemaLists.{SchemaLists}
+use Rattle.mon_schema.specs.Names.{SchemaLists}
 use Rattle.mon_topo.proofs.FrontLemmas.{begins_from}
-use Rattle.mon_topo.specs.HeldHistories.{AreHeld, BeginsWith}
-use Rattle.mon_topo.specs.SeenHistories.{AreWithin}
+use Rattle.mon_topo.specs.HeldHistories.{AreHeld, BeginsWith, AreWithin}
 use Rattle.mon_topo.specs.declared.zones.ZoneSpec.{ZoneSpec}
 use Rattle.mon_value.specs.Histories.{leaf_history, range_history}
 use Rattle.mon_value.specs.declared.histories.Histories.{Histories}

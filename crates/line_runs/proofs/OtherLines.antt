@@ -13,7 +13,7 @@ use Rattle.mon_value.specs.declared.positions.Leaf.{Leaf}
 use Rattle.run_traces.specs.LineCauses.{HasCause}
 use Rattle.run_traces.specs.LineClaims.{marked}
 use Rattle.run_traces.specs.LineForms.{Suits}
-use Rattle.run_traces.specs.LineFreshness.{refusal_cuts}
+use Rattle.run_traces.specs.LineTables.{refusal_cuts}
 use Rattle.run_traces.specs.LineTexts.{done_text, refused_line}
 use Rattle.run_traces.specs.declared.traces.LineFault.{LineFault}
 use Rattle.run_traces.specs.declared.traces.LineTrace.TheVariants as came

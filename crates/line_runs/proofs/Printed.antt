@@ -11,7 +11,7 @@ use Rattle.mon_meaning.specs.Central.{IsMeant}
 use Rattle.mon_table.specs.Bags.{PrintsAlike}
 use Rattle.mon_table.specs.Tables.{printed_table, table_text}
 use Rattle.mon_topo.specs.Zones.{leaves_in}
-use Rattle.mon_value.specs.Columns.{column_names}
+use Rattle.mon_value.specs.Tables.{column_names}
 use Rattle.mon_value.specs.declared.rows.Row.{Row}
 use Rattle.mon_value.specs.declared.tables.Table.{Table}
 use Rattle.mon_value.specs.declared.tables.TimedRow.{TimedRow}

@@ -23,11 +23,9 @@ use Rattle.mon_store.specs.Recoveries.{IsMoved, IsNotRecovered, IsNotRecoveredAs
 use Rattle.mon_store.specs.Recoveries.{WereFoundDown, opened}
 use Rattle.mon_store.specs.Writes.{WasFoundSo, new_entries, only_in}
 use Rattle.mon_topo.proofs.FrontLemmas.{begins_length}
-use Rattle.mon_topo.specs.RangeHistories.{acknowledged_rows, serving}
-use Rattle.mon_topo.specs.Serving.{is_avoided}
-use Rattle.mon_value.specs.Histories.{leaf_history, range_history}
+use Rattle.mon_topo.specs.RangeHistories.{acknowledged_rows, serving, is_avoided}
+use Rattle.mon_value.specs.Histories.{leaf_history, range_history, same_leaf, same_range, same_slot}
 use Rattle.mon_value.specs.LeafHistories.{same_replica}
-use Rattle.mon_value.specs.Positions.{same_leaf, same_range, same_slot}
 use Rattle.mon_value.specs.declared.histories.Entry.TheVariants as entry
 use Rattle.mon_value.specs.declared.histories.RangeEntry.{RangeEntry}
 use Rattle.mon_value.specs.declared.histories.RangeEntry.TheVariants as range_entry
@@ -37,14 +35,14 @@ use Rattle.mon_value.specs.declared.positions.Range.{Range}
 use Rattle.mon_value.specs.declared.positions.Slot.{Slot}
 use Rattle.mon_value.specs.declared.rows.Row.{Row}
 use Rattle.owners.specs.Puts.{pass_of}
-use Rattle.query_core.specs.Findings.{IsFoundBetween}
+use Rattle.query_core.specs.Courses.{IsFoundBetween}
 use Rattle.query_core.specs.Traces.{IsBetween, found_leaves, lengths_of}
 use Rattle.range_cell.specs.declared.answers.RecoverFault.{RecoverFault}
 use Rattle.range_cell.specs.declared.answers.RecoverFault.TheVariants as unopened
 use Rattle.run_traces.specs.LineCauses.{HasNoSource, IsDenied}
 use Rattle.run_traces.specs.LineClaims.{RecoveryMade}
 use Rattle.run_traces.specs.LineForms.{IsRecoveryFault, Suits}
-use Rattle.run_traces.specs.LineFreshness.{cut_at, leaf_of}
+use Rattle.run_traces.specs.LineTables.{cut_at, leaf_of}
 use Rattle.run_traces.specs.LineSwitches.{Recovery, StandsBetween, opens, recovers, recovery_of}
 use Rattle.run_traces.specs.LineTexts.{line_text, recovery_text}
 use Rattle.run_traces.specs.declared.traces.LineFault.{LineFault}
@@ -53,7 +51,7 @@ use Rattle.run_traces.specs.declared.traces.LineTrace.TheVariants as came
 use Rattle.run_traces.proofs.ListFacts.{both_all, no_item}
 use Rattle.run_traces.proofs.Switched.{leaf_there, range_there}
 use Rattle.running_query.specs.Ends.{WasFoundDown}
-use Rattle.write_core.specs.Openings.{denial_of}
+use Rattle.write_core.specs.Recovering.{denial_of}
 use Rattle.write_core.specs.declared.copies.Denial.{Denial}
 use Rattle.write_core.specs.declared.copies.Denial.TheVariants as denial
 use Rattle.line_runs.proofs.Causes.{HasItsCause, LiesBetween}

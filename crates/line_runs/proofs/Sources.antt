@@ -3,16 +3,15 @@ use Rattle.std.proofs.Common.{◌≡◌, ◌∙◌, ◌<◌, ◌+◌, ℕ, zero,
 use Rattle.std.proofs.Common.{map, refl, sym, ap, subst, arith}
 use Rattle.std.specs.Prelude.{Contains}
 use Rattle.std.specs.List.{AllByRecursion, flat_map, range_with_len}
-use Rattle.mon_schema.specs.SchemaLists.{SchemaLists}
+use Rattle.mon_schema.specs.Names.{SchemaLists}
 use Rattle.mon_topo.proofs.RangeHistoryLemmas.{all_append, all_from, all_on}
 use Rattle.mon_topo.specs.HeldHistories.{AreAtHome, IsAtHome}
 use Rattle.mon_topo.specs.Locations.{range_for}
 use Rattle.mon_topo.specs.declared.zones.ZoneSpec.{ZoneSpec}
 use Rattle.mon_value.proofs.LeafHistoryLemmas.{parts_same}
 use Rattle.mon_value.proofs.SameLemmas.{same_series-Decides}
-use Rattle.mon_value.specs.LeafHistories.{entry_rows, replica_rows, same_replica}
-use Rattle.mon_value.specs.Positions.{range_numbered}
-use Rattle.mon_value.specs.Sources.{EndsBefore, IsSource}
+use Rattle.mon_value.specs.LeafHistories.{entry_rows, replica_rows, same_replica, EndsBefore, IsSource}
+use Rattle.mon_value.specs.Histories.{range_numbered}
 use Rattle.mon_value.specs.declared.histories.Entry.{Entry}
 use Rattle.mon_value.specs.declared.histories.Entry.TheVariants as entry
 use Rattle.mon_value.specs.declared.positions.Range.{Range}

@@ -8,7 +8,7 @@ use Rattle.line_runs.specs.StandingLines.{standing_ran, standing_then}
 use Rattle.line_runs.specs.declared.lines.LineRan.{LineRan}
 use Rattle.line_runs.proofs.OtherLines.{done_wrote, still_refused}
 use Rattle.mon_config.specs.declared.config.Config.{Config}
-use Rattle.mon_schema.specs.SchemaLists.{SchemaLists}
+use Rattle.mon_schema.specs.Names.{SchemaLists}
 use Rattle.mon_script.specs.declared.forms.LineForm.TheVariants as form
 use Rattle.mql_types.specs.Nodes.{TypedTree}
 use Rattle.query_texts.specs.TextTypes.{text_type}
@@ -17,8 +17,7 @@ use Rattle.query_texts.specs.declared.faults.TextFault.TheVariants as text_fault
 use Rattle.run_traces.specs.LineDues.{IsDueBy, stands_behind, undue_fault}
 use Rattle.run_traces.specs.declared.traces.LineFault.TheVariants as why
 use Rattle.run_traces.specs.declared.traces.LineTrace.TheVariants as came
-use Rattle.standing.specs.Adding.{add_fault, fault_in, is_taken}
-use Rattle.standing.specs.StandingStates.{StandingState}
+use Rattle.standing.specs.DueLists.{add_fault, fault_in, is_taken, StandingState}
 use Rattle.standing.specs.declared.faults.DueFault.{DueFault}
 use Rattle.standing.specs.declared.faults.DueFault.TheVariants as undue
 use Rattle.standing.specs.declared.faults.StandingFault.{StandingFault}

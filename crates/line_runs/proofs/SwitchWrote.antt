@@ -26,9 +26,8 @@ use Rattle.mon_script.specs.declared.forms.LineForm.TheVariants as form
 use Rattle.mon_store.specs.Switches.{IsNotSwitched, IsSwitched}
 use Rattle.mon_store.specs.Writes.{IsUnwritten, only_in}
 use Rattle.mon_topo.proofs.FrontLemmas.{begins_length}
-use Rattle.mon_value.specs.Histories.{leaf_history}
+use Rattle.mon_value.specs.Histories.{leaf_history, same_leaf}
 use Rattle.mon_value.specs.LeafHistories.{is_down, is_switch}
-use Rattle.mon_value.specs.Positions.{same_leaf}
 use Rattle.mon_value.specs.declared.histories.Entry.{Entry}
 use Rattle.mon_value.specs.declared.limits.TheConstants.{MOST_SWITCHES}
 use Rattle.mon_value.specs.declared.positions.Leaf.{Leaf}
@@ -37,7 +36,7 @@ use Rattle.query_core.specs.Traces.{IsBetween, lengths_of}
 use Rattle.run_traces.specs.LineCauses.{HasSwitchedEnough, WasAlready}
 use Rattle.run_traces.specs.LineClaims.{SwitchMade}
 use Rattle.run_traces.specs.LineForms.{IsSwitchFault, Suits}
-use Rattle.run_traces.specs.LineFreshness.{cut_at, leaf_of}
+use Rattle.run_traces.specs.LineTables.{cut_at, leaf_of}
 use Rattle.run_traces.specs.LineSwitches.{StandsBetween, Switch, goes, switch_entry, switch_of, switches}
 use Rattle.run_traces.specs.LineTexts.{line_text, switch_text}
 use Rattle.run_traces.specs.declared.traces.LineFault.TheVariants as why

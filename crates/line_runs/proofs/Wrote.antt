@@ -20,7 +20,7 @@ use Rattle.mon_config.specs.declared.config.Config.{Config}
 use Rattle.mon_store.specs.Writes.{own_entries}
 use Rattle.mon_table.specs.Tables.{table_text}
 use Rattle.mon_topo.proofs.RangeHistoryLemmas.{all_on}
-use Rattle.mon_value.specs.Columns.{column_names}
+use Rattle.mon_value.specs.Tables.{column_names}
 use Rattle.mon_value.specs.declared.histories.Histories.{Histories}
 use Rattle.mon_value.specs.declared.positions.Leaf.{Leaf}
 use Rattle.mon_value.specs.declared.rows.Row.{Row}
@@ -35,10 +35,9 @@ use Rattle.run_traces.proofs.RunFacts.{book_length}
 use Rattle.run_traces.specs.LineCauses.{HasCause}
 use Rattle.run_traces.specs.LineClaims.{Finds, HaveGrown, LookFound, marked}
 use Rattle.run_traces.specs.LineForms.{IsQuestionFault, Suits}
-use Rattle.run_traces.specs.LineFreshness.{refusal_cuts}
+use Rattle.run_traces.specs.LineTables.{refusal_cuts, moment_of, text_of}
 use Rattle.mon_script.specs.declared.forms.LineForm.{LineForm}
 use Rattle.owners.specs.Puts.{pass_of}
-use Rattle.run_traces.specs.LineTables.{moment_of, text_of}
 use Rattle.run_traces.specs.LineTexts.{asked_text, explanation, line_text}
 use Rattle.run_traces.specs.RanLines.{RanLine}
 use Rattle.run_traces.specs.declared.traces.LineFault.{LineFault}

@@ -13,12 +13,11 @@ use Rattle.mon_store.specs.declared.queries.QueryFault.{QueryFault}
 use Rattle.mon_store.specs.declared.queries.QueryFault.TheVariants as fault
 use Rattle.mon_table.specs.Tables.{table_text}
 use Rattle.mon_topo.specs.declared.zones.ZoneSpec.{ZoneSpec}
-use Rattle.mon_value.specs.Columns.{column_names}
-use Rattle.mon_value.specs.Sources.{IsSource}
+use Rattle.mon_value.specs.Tables.{column_names}
+use Rattle.mon_value.specs.LeafHistories.{IsSource}
 use Rattle.mon_value.specs.declared.rows.Row.{Row}
-use Rattle.mql_types.specs.Explanations.{op_levels}
-use Rattle.mql_types.specs.Loads.{load}
-use Rattle.mql_types.specs.Meaning.{meaning}
+use Rattle.mql_types.specs.Plans.{op_levels}
+use Rattle.mql_types.specs.Meaning.{load, meaning}
 use Rattle.mql_types.specs.Nodes.{TypedTree, columns_of}
 use Rattle.query_core.specs.Traces.{IsTraceBetween, Lengths, lengths_of, source_of}
 use Rattle.query_core.specs.declared.answers.Answer.{Answer}

@@ -6,7 +6,7 @@ use Rattle.mon_table.specs.Tables.{newline}
 use Rattle.mon_topo.specs.declared.zones.ZoneSpec.{ZoneSpec}
 use Rattle.run_traces.specs.LineDues.{unstood_fault}
 use Rattle.run_traces.specs.declared.traces.LineTrace.TheVariants as came
-use Rattle.standing.specs.StandingStates.{StandingState, standing_query, with_query}
+use Rattle.standing.specs.DueLists.{StandingState, standing_query, with_query}
 use Rattle.standing.specs.declared.faults.StandingFault.{StandingFault}
 
 abbrev pub added : List ℕ → LineRan

@@ -3,7 +3,7 @@ ghost use Rattle.std.specs.Prelude.{◌≡◌, ◌≤ℤ◌, pos, [], IfOk};
 ghost use Rattle.history_book.specs.Histories.{AreFronts};
 ghost use Rattle.line_runs.specs.LineWrites.{LineWrote, ran_line};
 ghost use Rattle.mon_script.specs.Lawful.{IsLawfulForm};
-ghost use Rattle.mon_script.specs.Places.{mark_of};
+ghost use Rattle.mon_script.specs.Blocks.{mark_of};
 ghost use Rattle.mon_script.specs.declared.places.Mark.TheVariants.{Acts};
 
 use crate::asks::{Asked, ask};

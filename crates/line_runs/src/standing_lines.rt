@@ -4,7 +4,7 @@ ghost use Rattle.line_runs.specs.Questions as question;
 ghost use Rattle.line_runs.specs.StandingLines as spec;
 ghost use Rattle.run_traces.specs.LineDues as dues;
 ghost use Rattle.run_traces.specs.LineTexts as line;
-ghost use Rattle.standing.specs.Adding.{add_fault};
+ghost use Rattle.standing.specs.DueLists.{add_fault};
 
 use crate::lines::LineRan;
 use crate::refusals::refused_for;

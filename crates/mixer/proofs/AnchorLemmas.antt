@@ -10,7 +10,7 @@ use Rattle.mon_value.specs.declared.columns.Column.{Column}
 use Rattle.mon_value.specs.declared.schemas.TargetSchema.{TargetSchema}
 use Rattle.mon_value.specs.declared.values.Value.{Value}
 use Rattle.mon_value.proofs.SameLemmas.{both, same_text-Decides}
-use Rattle.mon_schema.specs.SchemaLists.{target_named}
+use Rattle.mon_schema.specs.Names.{target_named}
 use Rattle.mql_types.specs.Levels.{same_anchor}
 use Rattle.mql_types.proofs.MadeCells.{nothing_is, same_item}
 use Rattle.mixer.proofs.HeldCells.{Holds, SaysIf}

@@ -18,11 +18,10 @@ use Rattle.mon_value.specs.declared.tables.TimedRow.{TimedRow}
 use Rattle.mon_value.specs.declared.values.FieldValue.{FieldValue}
 use Rattle.mon_value.specs.declared.values.Value.{Value}
 use Rattle.mon_schema.specs.Fits.{fields_fit}
-use Rattle.mon_schema.specs.SchemaLists.{SchemaLists, target_named}
+use Rattle.mon_schema.specs.Names.{SchemaLists, target_named}
 use Rattle.mql_types.specs.LevelLoads.{counted_if, load_at}
 use Rattle.mql_types.specs.Levels.{is_location_anchor, same_anchor}
-use Rattle.mql_types.specs.Loads.{is_reached, meets, points_reached}
-use Rattle.mql_types.specs.Meaning.{aligned_rows, points_meant, rows_meant}
+use Rattle.mql_types.specs.Meaning.{is_reached, meets, points_reached, aligned_rows, points_meant, rows_meant}
 use Rattle.mql_types.specs.Nodes as node
 use Rattle.mql_types.specs.Nodes.{NodeTree, level_of}
 use Rattle.mql_types.specs.declared.levels.Level.{Level}

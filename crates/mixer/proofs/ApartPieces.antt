@@ -3,9 +3,8 @@ use Rattle.std.proofs.Common.{◌≡◌, ◌∙◌, ℕ, Bool, true, false, Some
 use Rattle.std.specs.Prelude.{IsPermutation, slice_get}
 use Rattle.std.specs.List.{AllByRecursion, filter, filter_map, flat_map}
 use Rattle.std.proofs.lemmas.List.Sorted.{IsPermutation-append, IsPermutation-refl, IsPermutation-trans}
-use Rattle.mon_value.specs.Groups.{group_rows}
+use Rattle.mon_value.specs.Groups.{group_rows, top_rows}
 use Rattle.mon_value.specs.Order.{field_as_value}
-use Rattle.mon_value.specs.Tops.{top_rows}
 use Rattle.mon_value.specs.declared.columns.Anchor.{Anchor}
 use Rattle.mon_value.specs.declared.columns.Anchor.TheVariants as anchor
 use Rattle.mon_value.specs.declared.grids.Grid.{Grid}
@@ -15,12 +14,12 @@ use Rattle.mon_value.specs.declared.schemas.TargetSchema.{TargetSchema}
 use Rattle.mon_value.specs.declared.values.FieldValue.{FieldValue}
 use Rattle.mon_value.specs.declared.values.Value.{Value}
 use Rattle.mon_schema.specs.Fits.{fields_fit}
-use Rattle.mon_schema.specs.SchemaLists.{SchemaLists, target_named}
-use Rattle.mql_types.specs.Levels.{is_location_anchor, same_anchor}
+use Rattle.mon_schema.specs.Names.{SchemaLists, target_named}
+use Rattle.mql_types.specs.Levels.{is_location_anchor, same_anchor, PartUse, PieceMeant, TopPart, part_or, piece_meant}
+use Rattle.mql_types.specs.Levels.{pieces_meant, top_parts}
 use Rattle.mql_types.specs.Meaning.{aligned_rows, points_meant, rows_meant}
 use Rattle.mql_types.specs.Nodes as node
 use Rattle.mql_types.specs.Nodes.{NodeTree, level_of}
-use Rattle.mql_types.specs.Pieces.{PartUse, PieceMeant, TopPart, part_or, piece_meant, pieces_meant, top_parts}
 use Rattle.mql_types.specs.declared.levels.Level.{Level}
 use Rattle.mql_types.proofs.FetchedTrees.{AllFit}
 use Rattle.mql_types.proofs.KeptRows.{all-append}

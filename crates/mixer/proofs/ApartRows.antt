@@ -7,13 +7,12 @@ use Rattle.std.proofs.lemmas.Bool.{false_from_ne_true}
 use Rattle.std.proofs.lemmas.List.{map-append}
 use Rattle.std.proofs.lemmas.List.Concat.{flat_map-append}
 use Rattle.std.proofs.lemmas.List.Elements.{filter-append}
-use Rattle.mon_value.specs.Alignments.{aligned_values}
+use Rattle.mon_value.specs.Grids.{aligned_values}
 use Rattle.mon_value.specs.Groups.{group_key, group_row, group_rows, rows_by_group}
-use Rattle.mon_value.specs.Joins.{is_pair, pair_of, pairs_of}
-use Rattle.mon_value.specs.Keyed.{items_by_key}
-use Rattle.mon_value.specs.Same.{same_row}
-use Rattle.mon_value.specs.SeriesRows.{row_of}
-use Rattle.mon_value.specs.Sources.{points_by_series}
+use Rattle.mon_value.specs.Tables.{is_pair, pair_of, pairs_of}
+use Rattle.mon_value.specs.Same.{items_by_key, same_row}
+use Rattle.mon_value.specs.Order.{row_of}
+use Rattle.mon_value.specs.LeafHistories.{points_by_series}
 use Rattle.mon_value.specs.declared.aggregates.Aggregate.{Aggregate}
 use Rattle.mon_value.specs.declared.aligners.Aligner.{Aligner}
 use Rattle.mon_value.specs.declared.columns.Anchor.{Anchor}
@@ -26,7 +25,7 @@ use Rattle.mon_value.specs.declared.rows.SeriesKey.{SeriesKey}
 use Rattle.mon_value.specs.declared.tables.TimedRow.{TimedRow}
 use Rattle.mon_value.specs.declared.values.Value.{Value}
 use Rattle.mon_value.proofs.SameLemmas.{same_row-Decides}
-use Rattle.mon_schema.specs.SchemaLists.{SchemaLists}
+use Rattle.mon_schema.specs.Names.{SchemaLists}
 use Rattle.mql_types.specs.Branches.{common_columns}
 use Rattle.mql_types.specs.Groupings.{key_columns_at}
 use Rattle.mql_types.specs.Levels.{is_location_anchor, same_anchor}

@@ -6,7 +6,7 @@ use Rattle.mon_value.specs.Same.{same_series, same_target}
 use Rattle.mon_value.specs.declared.rows.Row.{Row}
 use Rattle.mon_value.specs.declared.rows.SeriesKey.{SeriesKey}
 use Rattle.mon_value.specs.declared.rows.Target.{Target}
-use Rattle.mon_meaning.specs.ApartTargets.{ShareNoTarget, has_target}
+use Rattle.mon_meaning.specs.ReadableSlots.{ShareNoTarget, has_target}
 
 -- the key of a target alone
 abbrev bare_key : Target → SeriesKey

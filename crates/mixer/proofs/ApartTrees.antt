@@ -20,8 +20,8 @@ use Rattle.mon_value.specs.declared.values.FieldValue.{FieldValue}
 use Rattle.mon_value.specs.declared.values.Value.{Value}
 use Rattle.mon_value.proofs.PermutationLemmas.{filter-permutation, front_exchanged}
 use Rattle.mon_schema.specs.Fits.{fields_fit}
-use Rattle.mon_schema.specs.SchemaLists.{SchemaLists, target_named}
-use Rattle.mql_ast.specs.Truths.{predicate_truth}
+use Rattle.mon_schema.specs.Names.{SchemaLists, target_named}
+use Rattle.mql_ast.specs.Rows.{predicate_truth}
 use Rattle.mql_types.specs.Levels.{is_location_anchor, same_anchor}
 use Rattle.mql_types.specs.Meaning.{aligned_rows, is_fetched, is_point_kept, points_meant, rows_meant, value_row}
 use Rattle.mql_types.specs.Nodes as node

@@ -5,7 +5,7 @@ use Rattle.std.proofs.Common.{map, length, refl, ap, arith}
 use Rattle.std.specs.Prelude.{slice_get, option_map}
 use Rattle.std.specs.List.{AllByRecursion, cons_option, filter, zip}
 use Rattle.mon_value.specs.Groups.{cells_at}
-use Rattle.mon_value.specs.Joins.{Named}
+use Rattle.mon_value.specs.Tables.{Named}
 use Rattle.mon_value.specs.declared.columns.Anchor.{Anchor}
 use Rattle.mon_value.specs.declared.columns.Column.{Column}
 use Rattle.mon_value.specs.declared.values.Value.{Value}

@@ -7,12 +7,12 @@ use Rattle.mon_value.specs.declared.grids.Grid.{Grid}
 use Rattle.mon_value.specs.declared.rows.Row.{Row}
 use Rattle.mon_value.specs.declared.tables.TimedRow.{TimedRow}
 use Rattle.mon_value.specs.declared.values.Value.{Value}
-use Rattle.mon_schema.specs.SchemaLists.{SchemaLists}
+use Rattle.mon_schema.specs.Names.{SchemaLists}
 use Rattle.mql_types.specs.LevelLoads.{counted_if, load_at}
 use Rattle.mql_types.specs.Meaning.{rows_meant}
 use Rattle.mql_types.specs.Nodes as node
 use Rattle.mql_types.specs.Nodes.{NodeTree, level_of}
-use Rattle.mql_types.specs.Pieces.{AsRows, TopPart, part_or, top_parts}
+use Rattle.mql_types.specs.Levels.{AsRows, TopPart, part_or, top_parts}
 use Rattle.mql_types.specs.declared.levels.Level.{Level}
 use Rattle.mql_types.specs.declared.levels.Level.TheVariants as level
 use Rattle.mql_types.proofs.TypedTrees.{AreRows}

@@ -6,8 +6,8 @@ use Rattle.std.specs.List.{AllByRecursion, flat_map}
 use Rattle.std.proofs.lemmas.List.{length-append}
 use Rattle.std.proofs.lemmas.List.Sorted.{IsPermutation-append, IsPermutation-sym, IsPermutation-trans}
 use Rattle.std.proofs.lemmas.List.Sorted.{length_permutation}
-use Rattle.mon_value.specs.Limits.{greatest_sum}
-use Rattle.mon_value.specs.Tops.{top_rows}
+use Rattle.mon_value.specs.Values.{greatest_sum}
+use Rattle.mon_value.specs.Groups.{top_rows}
 use Rattle.mon_value.specs.declared.aggregates.Aggregate.{Aggregate}
 use Rattle.mon_value.specs.declared.columns.Column.{Column}
 use Rattle.mon_value.specs.declared.grids.Grid.{Grid}
@@ -16,8 +16,8 @@ use Rattle.mon_value.specs.declared.tables.Table.{Table}
 use Rattle.mon_value.specs.declared.tables.TimedRow.{TimedRow}
 use Rattle.mql_types.specs.Meaning.{rows_meant}
 use Rattle.mql_types.specs.Nodes.{columns_of}
-use Rattle.mql_types.specs.Pieces as up
-use Rattle.mql_types.specs.Pieces.{PartUse, TopPart}
+use Rattle.mql_types.specs.Levels as up
+use Rattle.mql_types.specs.Levels.{PartUse, TopPart}
 use Rattle.mon_fold.proofs.MergeableGroups as mergeable
 use Rattle.mon_fold.proofs.MergeableGroups.{first_can}
 use Rattle.mon_fold.proofs.PartialGroupLemmas.{groups_merge}

@@ -4,8 +4,7 @@ use Rattle.mon_value.specs.declared.grids.Grid.{Grid}
 use Rattle.mon_value.specs.declared.rows.Row.{Row}
 use Rattle.mql_types.specs.LevelLoads.{counted_if, is_zone, load_at}
 use Rattle.mql_types.specs.Levels.{is_leaf, is_root}
-use Rattle.mql_types.specs.Loads.{load_of, points_reached}
-use Rattle.mql_types.specs.Meaning.{rows_meant}
+use Rattle.mql_types.specs.Meaning.{load_of, points_reached, rows_meant}
 use Rattle.mql_types.specs.Nodes as node
 use Rattle.mql_types.specs.Nodes.{NodeTree}
 use Rattle.mql_types.specs.declared.levels.Level.{Level}

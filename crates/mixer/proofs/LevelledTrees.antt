@@ -4,7 +4,7 @@ use Rattle.std.proofs.Common.{◌≡◌, Bool, true, false, cond, Option, Some, 
 use Rattle.std.specs.List.{AllByRecursion, list_any}
 use Rattle.mon_value.specs.declared.columns.Column.{Column}
 use Rattle.mon_value.specs.declared.schemas.Kind.{Kind}
-use Rattle.mon_schema.specs.SchemaLists.{SchemaLists}
+use Rattle.mon_schema.specs.Names.{SchemaLists}
 use Rattle.mql_ast.specs.Trees as tree
 use Rattle.mql_ast.specs.Trees.{BranchTrees, DeedTree, OpTree, PipeTree, SourceTree}
 use Rattle.mql_ast.specs.declared.pipes.How.{How}
@@ -12,17 +12,16 @@ use Rattle.mql_ast.specs.declared.pipes.How.TheVariants as how
 use Rattle.std.specs.Prelude.{ℕ, ℤ}
 use Rattle.mql_types.specs.Branches.{common_columns}
 use Rattle.mql_types.specs.Groupings.{key_columns_at}
-use Rattle.mql_types.specs.Levels.{higher_level, is_leaf, is_located, meeting_level, tell_target}
+use Rattle.mql_types.specs.Levels.{higher_level, is_leaf, is_located, meeting_level, tell_target, in_zone}
 use Rattle.mql_types.specs.Nodes as node
 use Rattle.mql_types.specs.Nodes.{NodeTree, TypedTree, columns_of, level_of}
-use Rattle.mql_types.specs.Pieces.{in_zone}
 use Rattle.mql_types.specs.Times.{every_said, query_times}
 use Rattle.mql_types.specs.Typing.{Part, aligned_by_default, aligned_tree, branch_node, branches_node, deed_part}
 use Rattle.mql_types.specs.Typing.{further_node, ops_part, pipe_part, source_part, typing}
 use Rattle.mql_types.specs.declared.levels.Level.{Level}
 use Rattle.mql_types.specs.declared.levels.Level.TheVariants as level
 use Rattle.mql_types.proofs.FetchColumnLemmas.{typed_without_faults}
-use Rattle.mon_schema.specs.HeldTargets.{TellsLocation}
+use Rattle.mon_schema.specs.Fits.{TellsLocation}
 use Rattle.mixer.proofs.LeafHomes.{TargetSays, target_told}
 use Rattle.mixer.proofs.LocalTrees.{IsLocal}
 use Rattle.mixer.proofs.ZoneHomes.{LocationSays, location_told, target_located}

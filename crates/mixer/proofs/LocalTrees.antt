@@ -4,7 +4,7 @@ use Rattle.mon_value.specs.declared.columns.Anchor.{Anchor}
 use Rattle.mon_value.specs.declared.grids.Grid.{Grid}
 use Rattle.mon_value.specs.declared.rows.Row.{Row}
 use Rattle.mon_value.specs.declared.values.Value.{Value}
-use Rattle.mon_schema.specs.SchemaLists.{SchemaLists}
+use Rattle.mon_schema.specs.Names.{SchemaLists}
 use Rattle.mql_types.specs.Branches.{common_columns}
 use Rattle.mql_types.specs.Groupings.{key_columns_at}
 use Rattle.mql_types.specs.Meaning.{rows_meant}

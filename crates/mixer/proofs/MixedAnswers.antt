@@ -11,11 +11,9 @@ use Rattle.mon_value.specs.declared.rows.Row.{Row}
 use Rattle.mon_value.specs.declared.tables.Table.{Table}
 use Rattle.mon_value.specs.declared.tables.TimedRow.{TimedRow}
 use Rattle.mql_types.specs.LevelLoads.{leaf_load, zone_load}
-use Rattle.mql_types.specs.Levels.{is_leaf}
-use Rattle.mql_types.specs.Loads.{load}
-use Rattle.mql_types.specs.Meaning.{grid_of, rows_meant}
+use Rattle.mql_types.specs.Levels.{is_leaf, TopPart, in_zone, top_parts}
+use Rattle.mql_types.specs.Meaning.{load, grid_of, rows_meant}
 use Rattle.mql_types.specs.Nodes.{TypedTree, columns_of}
-use Rattle.mql_types.specs.Pieces.{TopPart, in_zone, top_parts}
 use Rattle.mql_types.specs.Soundness.{IsEvaluable, IsTyped, IsWithinRows}
 use Rattle.mql_types.proofs.FetchedTrees.{AllFit}
 use Rattle.mql_types.proofs.JoinedRows.{all-front}
@@ -27,7 +25,7 @@ use Rattle.mon_meaning.specs.Counts.{TellsOver}
 use Rattle.mon_meaning.specs.LeafAnswers.{load_in_leaf, parts_load}
 use Rattle.mon_meaning.specs.declared.meter.OverLimit.{OverLimit}
 use Rattle.mixer.specs.Divisions.{ShareNoLocation, all_rows, together}
-use Rattle.mon_meaning.specs.ApartTargets.{ShareNoTarget}
+use Rattle.mon_meaning.specs.ReadableSlots.{ShareNoTarget}
 use Rattle.mixer.specs.ZoneAnswers.{AllLeafParts, AllZoneParts, AreLeafParts, AreZoneParts, IsRefusedByZone}
 use Rattle.mixer.specs.ZoneAnswers.{IsZonePart, load_in_zone}
 use Rattle.mixer.specs.declared.zone_answers.ZoneAnswer.{ZoneAnswer}

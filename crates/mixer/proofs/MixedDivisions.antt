@@ -7,22 +7,20 @@ use Rattle.std.proofs.lemmas.List.Sums.{sum_by-cons}
 use Rattle.mon_value.specs.declared.grids.Grid.{Grid}
 use Rattle.mon_value.specs.declared.rows.Row.{Row}
 use Rattle.mon_value.specs.declared.tables.TimedRow.{TimedRow}
-use Rattle.mon_schema.specs.SchemaLists.{SchemaLists}
+use Rattle.mon_schema.specs.Names.{SchemaLists}
 use Rattle.mql_types.specs.LevelLoads.{is_zone, leaf_load, load_at, root_load, zone_load}
-use Rattle.mql_types.specs.Levels.{is_leaf, is_root}
-use Rattle.mql_types.specs.Loads.{load, load_of}
-use Rattle.mql_types.specs.Meaning.{grid_of, meaning, rows_meant}
+use Rattle.mql_types.specs.Levels.{is_leaf, is_root, PieceMeant, TopPart, in_zone, leaf_part, piece_meant, pieces_meant}
+use Rattle.mql_types.specs.Levels.{top_parts, zone_part}
+use Rattle.mql_types.specs.Meaning.{load, load_of, grid_of, meaning, rows_meant}
 use Rattle.mql_types.specs.Nodes.{NodeTree, TypedTree}
-use Rattle.mql_types.specs.Pieces.{PieceMeant, TopPart, in_zone, leaf_part, piece_meant, pieces_meant, top_parts}
-use Rattle.mql_types.specs.Pieces.{zone_part}
 use Rattle.mql_types.specs.Soundness.{IsTyped}
 use Rattle.mql_types.proofs.FetchedTrees.{AllFit}
 use Rattle.mql_types.proofs.JoinedRows.{all-front}
 use Rattle.mql_types.proofs.TypedGridLemmas.{typed_grid}
 use Rattle.mql_types.proofs.TypedQueries.{query_ruled}
 use Rattle.mixer.specs.Divisions.{IsDivided, ShareNoLocation, all_rows, together}
-use Rattle.mon_meaning.specs.ApartTargets.{AreApart, ShareNoTarget}
-use Rattle.mon_schema.specs.HeldTargets.{TellsLocation}
+use Rattle.mon_meaning.specs.ReadableSlots.{AreApart, ShareNoTarget}
+use Rattle.mon_schema.specs.Fits.{TellsLocation}
 use Rattle.mixer.specs.Mixing.{SamePieces, joined_pieces, joins_mixed, mixed_load, mixed_table, parts_mixed, piece_rows}
 use Rattle.mixer.specs.Mixing.{pieces_together, root_joins, rows_mixed, zone_answer, zone_joins, zone_mixed}
 use Rattle.mixer.specs.Mixing.{zone_pieces}

@@ -3,17 +3,16 @@ use Rattle.std.proofs.Common.{◌≡◌, ◌∙◌, Bool, true, false, cond, Lis
 use Rattle.std.proofs.Common.{sym, ap}
 use Rattle.std.specs.List.{filter, filter_map, flat_map}
 use Rattle.std.proofs.lemmas.List.{map-append}
-use Rattle.mon_value.specs.Groups.{group_rows}
-use Rattle.mon_value.specs.Joins.{pairs_of}
-use Rattle.mon_value.specs.Tops.{top_rows}
+use Rattle.mon_value.specs.Groups.{group_rows, top_rows}
+use Rattle.mon_value.specs.Tables.{pairs_of}
 use Rattle.mon_value.specs.declared.grids.Grid.{Grid}
 use Rattle.mon_value.specs.declared.rows.Row.{Row}
 use Rattle.mon_value.specs.declared.tables.TimedRow.{TimedRow}
-use Rattle.mql_ast.specs.Truths.{predicate_truth}
+use Rattle.mql_ast.specs.Rows.{predicate_truth}
 use Rattle.mql_types.specs.Meaning.{rows_meant, value_row}
 use Rattle.mql_types.specs.Nodes as node
 use Rattle.mql_types.specs.Nodes.{NodeTree, columns_of, level_of}
-use Rattle.mql_types.specs.Pieces.{AsRows, PartUse, TopPart, part_or, top_parts}
+use Rattle.mql_types.specs.Levels.{AsRows, PartUse, TopPart, part_or, top_parts}
 use Rattle.mql_types.specs.declared.levels.Level.{Level}
 use Rattle.mixer.specs.Mixing.{first_table, part_count, parts_mixed, rows_mixed}
 

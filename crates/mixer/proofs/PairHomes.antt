@@ -5,7 +5,7 @@ use Rattle.std.proofs.Common.{refl, sym, subst}
 use Rattle.std.specs.Prelude.{find, option_map, unwrap_or}
 use Rattle.std.specs.List.{cons_option, list_all, zip}
 use Rattle.std.proofs.lemmas.List.Folds.{find_at}
-use Rattle.mon_value.specs.Joins.{Named, cells_agree, has_name, pair_of, right_cells, right_columns}
+use Rattle.mon_value.specs.Tables.{Named, cells_agree, has_name, pair_of, right_cells, right_columns}
 use Rattle.mon_value.specs.Same.{same_text, same_value}
 use Rattle.mon_value.specs.declared.columns.Anchor.{Anchor}
 use Rattle.mon_value.specs.declared.columns.Anchor.TheVariants as anchor
@@ -13,8 +13,8 @@ use Rattle.mon_value.specs.declared.columns.Column.{Column}
 use Rattle.mon_value.specs.declared.tables.TimedRow.{TimedRow}
 use Rattle.mon_value.specs.declared.values.Value.{Value}
 use Rattle.mon_value.proofs.SameLemmas.{both, same_value-Decides}
-use Rattle.mon_schema.specs.SchemaLists.{SchemaLists}
-use Rattle.mql_ast.specs.NamedCells.{column_named}
+use Rattle.mon_schema.specs.Names.{SchemaLists}
+use Rattle.mql_ast.specs.Rows.{column_named}
 use Rattle.mql_types.specs.Branches.{anchored_with, as_joined, common_columns, join_columns, left_column, same_columns}
 use Rattle.mql_types.specs.Branches.{union_columns}
 use Rattle.mql_types.specs.Levels.{common_anchor, is_location_anchor, same_anchor}

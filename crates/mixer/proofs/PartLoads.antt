@@ -5,16 +5,15 @@ use Rattle.std.proofs.lemmas.List.Sums.{sum_by-append, sum_by-cons}
 use Rattle.mon_value.specs.declared.grids.Grid.{Grid}
 use Rattle.mon_value.specs.declared.rows.Row.{Row}
 use Rattle.mon_value.specs.declared.columns.Column.{Column}
-use Rattle.mon_schema.specs.SchemaLists.{SchemaLists}
+use Rattle.mon_schema.specs.Names.{SchemaLists}
 use Rattle.mql_types.specs.Branches.{common_columns}
 use Rattle.mql_types.specs.Groupings.{key_columns_at}
 use Rattle.mql_types.specs.LevelLoads.{counted_if, is_zone, load_at}
-use Rattle.mql_types.specs.Levels.{higher_level, is_leaf, meeting_level}
-use Rattle.mql_types.specs.Loads.{load_of, points_reached}
-use Rattle.mql_types.specs.Meaning.{rows_meant}
+use Rattle.mql_types.specs.Levels.{higher_level, is_leaf, meeting_level, AsRows, PartUse, TopPart, in_zone, part_or}
+use Rattle.mql_types.specs.Levels.{top_parts}
+use Rattle.mql_types.specs.Meaning.{load_of, points_reached, rows_meant}
 use Rattle.mql_types.specs.Nodes as node
 use Rattle.mql_types.specs.Nodes.{NodeTree, columns_of, level_of}
-use Rattle.mql_types.specs.Pieces.{AsRows, PartUse, TopPart, in_zone, part_or, top_parts}
 use Rattle.mql_types.specs.declared.levels.Level.{Level}
 use Rattle.mql_types.specs.declared.levels.Level.TheVariants as level
 use Rattle.mql_types.proofs.TypedTrees.{AreRows}

@@ -4,7 +4,7 @@ use Rattle.std.specs.Prelude.{ℕ, option_map}
 use Rattle.std.specs.List.{AllByRecursion, filter_map}
 use Rattle.mon_value.specs.declared.columns.Column.{Column}
 use Rattle.mon_value.specs.declared.values.ValueType.TheVariants as type
-use Rattle.mql_ast.specs.NamedCells.{column_named}
+use Rattle.mql_ast.specs.Rows.{column_named}
 use Rattle.mql_ast.specs.Trees.{ItemTree, SumTree}
 use Rattle.mql_ast.specs.declared.names.Name.{Name}
 use Rattle.mql_ast.specs.declared.operations.Aggregate.{Aggregate}

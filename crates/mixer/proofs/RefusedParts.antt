@@ -6,7 +6,7 @@ use Rattle.mon_value.specs.declared.refusals.Refusal.{Refusal}
 use Rattle.mon_value.specs.declared.refusals.Refusal.TheVariants as refusal
 use Rattle.mon_value.specs.declared.rows.Row.{Row}
 use Rattle.mql_types.specs.LevelLoads.{leaf_load}
-use Rattle.mql_types.specs.Loads.{load}
+use Rattle.mql_types.specs.Meaning.{load}
 use Rattle.mql_types.specs.Nodes.{TypedTree}
 use Rattle.mql_types.proofs.JoinedRows.{all-front}
 use Rattle.mon_fold.specs.declared.answers.LeafAnswer.{LeafAnswer}
@@ -14,7 +14,7 @@ use Rattle.mon_meaning.specs.Central.{IsRefusedBy}
 use Rattle.mon_meaning.specs.LeafAnswers.{IsRefusedByLeaf, load_in_leaf}
 use Rattle.mon_meaning.specs.declared.meter.OverLimit.{OverLimit}
 use Rattle.mixer.specs.Divisions.{IsDivided, all_rows, together}
-use Rattle.mon_meaning.specs.ApartTargets.{AreApart, ShareNoTarget}
+use Rattle.mon_meaning.specs.ReadableSlots.{AreApart, ShareNoTarget}
 use Rattle.mixer.specs.ZoneAnswers.{AllLeafParts, AreLeafParts, IsRefusedByZone, load_in_zone}
 use Rattle.mixer.proofs.MixedAnswers.{typed_over}
 use Rattle.mixer.proofs.MixedDivisions.{leaf_load_of_parts, loads_mixed}

@@ -11,15 +11,14 @@ use Rattle.mon_value.specs.declared.rows.Target.{Target}
 use Rattle.mon_value.specs.declared.schemas.MetricSchema.{MetricSchema}
 use Rattle.mon_value.specs.declared.schemas.TargetSchema.{TargetSchema}
 use Rattle.mon_value.proofs.SameLemmas.{both, same_series-Decides, same_text-Decides}
-use Rattle.mon_schema.specs.Fits.{fields_fit, fits, fits_both}
-use Rattle.mon_schema.specs.SchemaLists.{SchemaLists, metric_named, target_named}
+use Rattle.mon_schema.specs.Fits.{fields_fit, fits, fits_both, TellsLocation}
+use Rattle.mon_schema.specs.Names.{SchemaLists, metric_named, target_named}
 use Rattle.mon_topo.specs.Locations.{location_of}
 use Rattle.mql_types.proofs.FetchedPoints.{row_of_schemas}
 use Rattle.mql_types.proofs.FetchedTrees.{AllFit}
 use Rattle.mql_types.proofs.JoinedRows.{all-both, all-map}
 use Rattle.mixer.specs.Divisions.{ShareNoLocation, has_location, lies_at, together}
-use Rattle.mon_meaning.specs.ApartTargets.{ShareNoTarget, has_target}
-use Rattle.mon_schema.specs.HeldTargets.{TellsLocation}
+use Rattle.mon_meaning.specs.ReadableSlots.{ShareNoTarget, has_target}
 use Rattle.mixer.proofs.LeafHomes.{IsItself, TargetSays, target_field}
 use Rattle.mixer.proofs.StemmingTrees.{HasHome}
 use Rattle.mixer.proofs.ZoneHomes.{IsLocated, Location, LocationSays, has_location as target_location, location_field}

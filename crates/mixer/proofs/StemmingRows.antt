@@ -4,7 +4,7 @@ use Rattle.std.proofs.Common.{length-append, refl, sym, ap, subst, arith}
 use Rattle.std.specs.List.{AllByRecursion, filter, filter_map, flat_map, list_all, list_any, zip}
 use Rattle.std.specs.Ordering.{int_eq}
 use Rattle.mon_value.specs.Groups.{aggregate_made, group_key, group_keys, group_row, group_rows, rows_in}
-use Rattle.mon_value.specs.Joins.{Named, cells_agree, is_pair, pair_of, pairs_of}
+use Rattle.mon_value.specs.Tables.{Named, cells_agree, is_pair, pair_of, pairs_of}
 use Rattle.mon_value.specs.Same.{same_row}
 use Rattle.mon_value.specs.declared.aggregates.Aggregate.{Aggregate}
 use Rattle.mon_value.specs.declared.columns.Anchor.{Anchor}
@@ -13,8 +13,8 @@ use Rattle.mon_value.specs.declared.columns.Column.{Column}
 use Rattle.mon_value.specs.declared.tables.TimedRow.{TimedRow}
 use Rattle.mon_value.specs.declared.values.Value.{Value}
 use Rattle.mon_value.proofs.SameLemmas.{both, same_row-Decides}
-use Rattle.mon_schema.specs.SchemaLists.{SchemaLists}
-use Rattle.mql_ast.specs.Sums.{meets_no_values, sum_value}
+use Rattle.mon_schema.specs.Names.{SchemaLists}
+use Rattle.mql_ast.specs.Rows.{meets_no_values, sum_value}
 use Rattle.mql_ast.specs.Trees.{ItemTree}
 use Rattle.mql_types.specs.Branches.{common_columns, join_columns, same_columns, union_columns}
 use Rattle.mql_types.specs.Groupings.{key_columns_at}

@@ -4,12 +4,11 @@ use Rattle.std.proofs.Common.{◌≡◌, ◌∙◌, ℕ, suc, ◌+◌, Bool, tru
 use Rattle.std.proofs.Common.{refl, sym, ap, subst, arith}
 use Rattle.std.specs.Prelude.{slice_get}
 use Rattle.std.specs.List.{AllByRecursion, filter_map}
-use Rattle.mon_value.specs.Alignments.{aligned_values}
+use Rattle.mon_value.specs.Grids.{aligned_values}
 use Rattle.mon_value.specs.Groups.{group_rows}
-use Rattle.mon_value.specs.Order.{field_as_value}
+use Rattle.mon_value.specs.Order.{field_as_value, cells_of, row_of}
 use Rattle.mon_value.specs.Same.{same_series, same_text}
-use Rattle.mon_value.specs.SeriesRows.{cells_of, row_of}
-use Rattle.mon_value.specs.Sources.{key_of_row, points_by_series, points_of, series_of}
+use Rattle.mon_value.specs.LeafHistories.{key_of_row, points_by_series, points_of, series_of}
 use Rattle.mon_value.specs.declared.aggregates.Aggregate as folds
 use Rattle.mon_value.specs.declared.aligners.Aligner.{Aligner}
 use Rattle.mon_value.specs.declared.columns.Anchor.{Anchor}
@@ -28,9 +27,9 @@ use Rattle.mon_value.specs.declared.values.FieldValue.{FieldValue}
 use Rattle.mon_value.specs.declared.values.Value.{Value}
 use Rattle.mon_value.proofs.SameLemmas.{both, same_series-Decides, same_text-Decides}
 use Rattle.mon_schema.specs.Fits.{field_fits, fields_fit}
-use Rattle.mon_schema.specs.SchemaLists.{SchemaLists, target_named}
+use Rattle.mon_schema.specs.Names.{SchemaLists, target_named}
 use Rattle.mql_ast.specs.Trees.{ItemTree}
-use Rattle.mql_ast.specs.Truths.{predicate_truth}
+use Rattle.mql_ast.specs.Rows.{predicate_truth}
 use Rattle.mql_types.specs.Fetches.{columns_fetched, key_column, target_columns, value_column}
 use Rattle.mql_types.specs.Groupings.{aggregate_columns, key_columns_at}
 use Rattle.mql_types.specs.Items.{item_column}
@@ -39,7 +38,7 @@ use Rattle.mql_types.specs.Meaning.{aligned_rows, is_fetched, is_point_kept, poi
 use Rattle.mql_types.specs.Nodes as node
 use Rattle.mql_types.specs.Nodes.{NodeTree, columns_of, level_of}
 use Rattle.mql_types.specs.Typing.{aligned_column, aligned_width}
-use Rattle.mql_types.specs.Widths.{with_width}
+use Rattle.mql_types.specs.Branches.{with_width}
 use Rattle.mql_types.specs.declared.levels.Level.{Level}
 use Rattle.mql_types.specs.declared.nodes.NodeInfo.{NodeInfo}
 use Rattle.mql_types.proofs.FetchedPoints.{IsRowOf, columns_split, series_columns}

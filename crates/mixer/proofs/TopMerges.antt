@@ -6,10 +6,9 @@ use Rattle.std.specs.List.{AllByRecursion, filter, flat_map}
 use Rattle.std.proofs.lemmas.List.Elements.{filter-append}
 use Rattle.std.proofs.lemmas.List.Folds.{flat_map-map}
 use Rattle.std.proofs.lemmas.List.Sorted.{IsPermutation-append_comm, IsPermutation-trans, length_permutation}
-use Rattle.mon_value.specs.Groups.{group_key, group_keys, rows_in}
+use Rattle.mon_value.specs.Groups.{group_key, group_keys, rows_in, rank_cmp, top_rows}
 use Rattle.mon_value.specs.Same.{same_row}
-use Rattle.mon_value.specs.Sorting.{sorted_list}
-use Rattle.mon_value.specs.Tops.{rank_cmp, top_rows}
+use Rattle.mon_value.specs.Order.{sorted_list}
 use Rattle.mon_value.specs.declared.tables.TimedRow.{TimedRow}
 use Rattle.mon_value.proofs.KeyedLemmas as keyed
 use Rattle.mon_value.proofs.SameLemmas.{same_row-Decides}

@@ -8,9 +8,8 @@ use Rattle.std.specs.Ordering.{is_gt}
 use Rattle.std.specs.declared.cmp.Ordering.{Ordering}
 use Rattle.std.proofs.lemmas.List.Elements.{filter-append}
 use Rattle.std.proofs.lemmas.List.Sorted.{IsPermutation-append_comm}
-use Rattle.mon_value.specs.Keyed.{items_with, keys_of}
-use Rattle.mon_value.specs.Order.{TellsApart}
-use Rattle.mon_value.specs.Sorting.{sorted_list, sorted_list_with}
+use Rattle.mon_value.specs.Same.{items_with, keys_of}
+use Rattle.mon_value.specs.Order.{TellsApart, sorted_list, sorted_list_with}
 use Rattle.mon_value.proofs.KeyedLemmas as keyed
 use Rattle.mon_value.proofs.SortingLemmas.{InOrder, sorted_list-InOrder, sorted_list-alike, sorted_list-in_order}
 use Rattle.mon_meaning.proofs.ApartKeys.{all_keys}

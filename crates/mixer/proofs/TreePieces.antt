@@ -3,20 +3,19 @@ use Rattle.std.proofs.Common.{◌≡◌, ◌∙◌, ℕ, Bool, true, false, cond
 use Rattle.std.proofs.Common.{append_assoc, refl, sym, ap, subst}
 use Rattle.std.specs.Prelude.{IsPermutation}
 use Rattle.std.proofs.lemmas.List.Sorted.{IsPermutation-append}
-use Rattle.mon_value.specs.Groups.{group_rows}
-use Rattle.mon_value.specs.Tops.{top_rows}
+use Rattle.mon_value.specs.Groups.{group_rows, top_rows}
 use Rattle.mon_value.specs.declared.aggregates.Aggregate.{Aggregate}
 use Rattle.mon_value.specs.declared.columns.Column.{Column}
 use Rattle.mon_value.specs.declared.grids.Grid.{Grid}
 use Rattle.mon_value.specs.declared.rows.Row.{Row}
 use Rattle.mon_value.specs.declared.tables.TimedRow.{TimedRow}
 use Rattle.mon_value.proofs.PermutationLemmas.{filter-permutation}
-use Rattle.mql_ast.specs.Truths.{predicate_truth}
+use Rattle.mql_ast.specs.Rows.{predicate_truth}
 use Rattle.mql_types.specs.Meaning.{rows_meant, value_row}
 use Rattle.mql_types.specs.Nodes as node
 use Rattle.mql_types.specs.Nodes.{NodeTree, columns_of, level_of}
-use Rattle.mql_types.specs.Pieces as up
-use Rattle.mql_types.specs.Pieces.{PartUse, TopPart, part_or, top_parts}
+use Rattle.mql_types.specs.Levels as up
+use Rattle.mql_types.specs.Levels.{PartUse, TopPart, part_or, top_parts}
 use Rattle.mql_types.specs.declared.levels.Level.{Level}
 use Rattle.mon_fold.proofs.PartialGroupLemmas.{groups_finish}
 use Rattle.mon_fold.specs.PartialGroups.{GroupsSoFar, row_finished}

@@ -4,16 +4,16 @@ use Rattle.std.proofs.Common.{subst, arith}
 use Rattle.std.specs.List.{flat_map}
 use Rattle.std.proofs.lemmas.List.Sorted.{length_permutation}
 use Rattle.std.proofs.lemmas.List.Sums.{sum_by-append, sum_by-cons}
-use Rattle.mon_value.specs.Joins.{pairs_of}
+use Rattle.mon_value.specs.Tables.{pairs_of}
 use Rattle.mon_value.specs.declared.grids.Grid.{Grid}
 use Rattle.mon_value.specs.declared.rows.Row.{Row}
 use Rattle.mon_value.specs.declared.tables.TimedRow.{TimedRow}
-use Rattle.mql_ast.specs.SumWidths.{CanCompute}
-use Rattle.mql_types.specs.Loads.{load_of}
+use Rattle.mql_ast.specs.Rows.{CanCompute}
+use Rattle.mql_types.specs.Meaning.{load_of}
 use Rattle.mql_types.specs.Nodes as node
 use Rattle.mql_types.specs.Nodes.{NodeTree, columns_of, level_of}
-use Rattle.mql_types.specs.Pieces as up
-use Rattle.mql_types.specs.Pieces.{PartUse, TopPart, part_or, top_parts}
+use Rattle.mql_types.specs.Levels as up
+use Rattle.mql_types.specs.Levels.{PartUse, TopPart, part_or, top_parts}
 use Rattle.mql_types.specs.Soundness.{IsEvaluable, IsWithinRows}
 use Rattle.mql_types.specs.declared.levels.Level.{Level}
 use Rattle.mon_fold.specs.declared.answers.Piece.{Piece}

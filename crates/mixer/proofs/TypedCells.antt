@@ -4,10 +4,8 @@ use Rattle.std.proofs.Common.{refl, sym, subst, arith}
 use Rattle.std.specs.Prelude.{is_none, option_map, slice_get}
 use Rattle.std.specs.List.{AllByRecursion, cons_option, filter_map, sum_by}
 use Rattle.std.proofs.lemmas.List.Sums.{sum_by-cons}
-use Rattle.mon_value.specs.Aggregates.{item_count}
-use Rattle.mon_value.specs.Columns.{FitColumns, HasType}
-use Rattle.mon_value.specs.GroupConditions.{TakesType}
-use Rattle.mon_value.specs.Groups.{aggregate_made, cells_at, column_of}
+use Rattle.mon_value.specs.Groups.{item_count, TakesType, aggregate_made, cells_at, column_of}
+use Rattle.mon_value.specs.Tables.{FitColumns, HasType}
 use Rattle.mon_value.specs.Values.{magnitude}
 use Rattle.mon_value.specs.declared.aggregates.AggregateKind.{AggregateKind}
 use Rattle.mon_value.specs.declared.aggregates.AggregateKind.TheVariants as kind
@@ -17,7 +15,7 @@ use Rattle.mon_value.specs.declared.values.Value.{Value}
 use Rattle.mon_value.specs.declared.values.Value.TheVariants as value
 use Rattle.mon_value.specs.declared.values.ValueType.{ValueType}
 use Rattle.mon_value.specs.declared.values.ValueType.TheVariants as type
-use Rattle.mql_ast.specs.Sums.{meets_no_values, sum_value}
+use Rattle.mql_ast.specs.Rows.{meets_no_values, sum_value}
 use Rattle.mql_ast.specs.Trees.{SumTree}
 use Rattle.mql_types.specs.Groupings.{as_key, key_at, key_columns_at}
 use Rattle.mql_types.specs.Items.{operand_faults, plain_column, renamed_column, sum_width}

@@ -4,9 +4,9 @@ use Rattle.std.proofs.Common.{◌≡◌, ◌∙◌, ◌<◌, ℕ, Bool, true, fa
 use Rattle.std.proofs.Common.{◌++◌, map, length, refl, sym, ap, subst}
 use Rattle.std.specs.Prelude.{option_and_then, option_map, slice_get}
 use Rattle.std.specs.List.{AllByRecursion, cons_option, filter_map, flat_map, list_any}
-use Rattle.mon_value.specs.Columns.{FitColumns}
-use Rattle.mon_value.specs.GroupConditions.{TakesColumn, TakesType}
-use Rattle.mon_value.specs.Groups.{aggregate_made, group_key, group_keys, group_row, group_rows, rows_in}
+use Rattle.mon_value.specs.Tables.{FitColumns}
+use Rattle.mon_value.specs.Groups.{TakesColumn, TakesType, aggregate_made, group_key, group_keys, group_row, group_rows}
+use Rattle.mon_value.specs.Groups.{rows_in}
 use Rattle.mon_value.specs.Same.{same_row}
 use Rattle.mon_value.specs.declared.aggregates.Aggregate as folds
 use Rattle.mon_value.specs.declared.aggregates.AggregateKind.{AggregateKind}
@@ -17,8 +17,7 @@ use Rattle.mon_value.specs.declared.values.Value.{Value}
 use Rattle.mon_value.specs.declared.values.ValueType.{ValueType}
 use Rattle.mon_value.specs.declared.values.ValueType.TheVariants as type
 use Rattle.mon_value.proofs.SameLemmas.{same_row-Decides}
-use Rattle.mql_ast.specs.NamedCells.{column_named, place_of}
-use Rattle.mql_ast.specs.Sums.{meets_no_values, sum_value}
+use Rattle.mql_ast.specs.Rows.{column_named, place_of, meets_no_values, sum_value}
 use Rattle.mql_ast.specs.Trees as tree
 use Rattle.mql_ast.specs.Trees.{ItemTree, SumTree}
 use Rattle.mql_ast.specs.declared.names.Name.{Name}
@@ -32,7 +31,7 @@ use Rattle.mql_types.specs.Groupings as grouping
 use Rattle.mql_types.specs.Items.{item_column, item_name, item_sum_faults, key_columns, plain_column}
 use Rattle.mql_types.specs.Meaning.{key_cells, value_row}
 use Rattle.mql_types.specs.Soundness.{CountsRows}
-use Rattle.mql_types.specs.Widths.{count_width}
+use Rattle.mql_types.specs.Branches.{count_width}
 use Rattle.mql_types.proofs.FoldedColumns.{fold_made, over_is}
 use Rattle.mql_types.proofs.JoinedRows.{FitColumns-append, all-map}
 use Rattle.mql_types.proofs.KeptRows.{all-filter}

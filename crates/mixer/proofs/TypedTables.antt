@@ -2,16 +2,12 @@
 use Rattle.std.proofs.Common.{◌≡◌, ◌∙◌, ℕ, List, [], ◌∷◌, ◌++◌, map}
 use Rattle.std.proofs.Common.{length, take, sym, ap, subst}
 use Rattle.std.specs.List.{filter, filter_map, flat_map}
-use Rattle.mon_value.specs.Alignments.{aligned_values}
-use Rattle.mon_value.specs.Columns.{FitColumns, HasType}
-use Rattle.mon_value.specs.Grids.{IsLawfulGrid}
-use Rattle.mon_value.specs.Groups.{group_key, group_keys, group_rows, rows_in}
-use Rattle.mon_value.specs.Joins.{is_pair, pair_of, pairs_of}
+use Rattle.mon_value.specs.Grids.{aligned_values, IsLawfulGrid}
+use Rattle.mon_value.specs.Tables.{FitColumns, HasType, is_pair, pair_of, pairs_of}
+use Rattle.mon_value.specs.Groups.{group_key, group_keys, group_rows, rows_in, rank_cmp}
 use Rattle.mon_value.specs.Same.{same_row}
-use Rattle.mon_value.specs.SeriesRows.{row_of}
-use Rattle.mon_value.specs.Sorting.{sorted_list}
-use Rattle.mon_value.specs.Sources.{points_by_series}
-use Rattle.mon_value.specs.Tops.{rank_cmp}
+use Rattle.mon_value.specs.Order.{row_of, sorted_list}
+use Rattle.mon_value.specs.LeafHistories.{points_by_series}
 use Rattle.mon_value.specs.declared.aggregates.Aggregate as folds
 use Rattle.mon_value.specs.declared.aligners.Aligner.{Aligner}
 use Rattle.mon_value.specs.declared.columns.Column.{Column}
@@ -24,20 +20,17 @@ use Rattle.mon_value.specs.declared.tables.TimedRow.{TimedRow}
 use Rattle.mon_value.specs.declared.values.Value.{Value}
 use Rattle.mon_value.specs.declared.values.Value.TheVariants as value
 use Rattle.mon_value.specs.declared.values.ValueType.TheVariants as type
-use Rattle.mon_schema.specs.SchemaLists.{SchemaLists}
+use Rattle.mon_schema.specs.Names.{SchemaLists}
 use Rattle.mql_ast.specs.Trees.{ItemTree}
-use Rattle.mql_ast.specs.Truths.{predicate_truth}
-use Rattle.mql_types.specs.Branches.{join_columns}
-use Rattle.mql_types.specs.Branches.{union_columns}
+use Rattle.mql_ast.specs.Rows.{predicate_truth}
+use Rattle.mql_types.specs.Branches.{join_columns, union_columns, with_width}
 use Rattle.mql_types.specs.Fetches.{value_column}
 use Rattle.mql_types.specs.Groupings.{aggregate_columns, key_columns_at}
 use Rattle.mql_types.specs.Items.{value_columns}
-use Rattle.mql_types.specs.Loads.{series_cells}
-use Rattle.mql_types.specs.Meaning.{aligned_rows, points_meant, rows_meant, value_row}
+use Rattle.mql_types.specs.Meaning.{series_cells, aligned_rows, points_meant, rows_meant, value_row}
 use Rattle.mql_types.specs.Nodes as node
 use Rattle.mql_types.specs.Nodes.{NodeTree, columns_of}
 use Rattle.mql_types.specs.Typing.{aligned_column, aligned_width}
-use Rattle.mql_types.specs.Widths.{with_width}
 use Rattle.mql_types.specs.declared.nodes.NodeInfo.{NodeInfo}
 use Rattle.mql_types.proofs.AlignedRows.{SeriesFits, aligned_are, series_fit}
 use Rattle.mql_types.proofs.AlignedValues.{aligned_fit}

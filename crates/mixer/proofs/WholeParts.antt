@@ -5,14 +5,13 @@ use Rattle.std.specs.List.{AllByRecursion}
 use Rattle.std.proofs.lemmas.List.Sorted.{IsPermutation-append, IsPermutation-refl, IsPermutation-trans}
 use Rattle.std.proofs.lemmas.List.Sorted.{length_permutation}
 use Rattle.std.proofs.lemmas.List.Sums.{sum_by-cons}
-use Rattle.mon_value.specs.Limits.{greatest_sum}
+use Rattle.mon_value.specs.Values.{greatest_sum}
 use Rattle.mon_value.specs.declared.grids.Grid.{Grid}
 use Rattle.mon_value.specs.declared.rows.Row.{Row}
-use Rattle.mon_schema.specs.SchemaLists.{SchemaLists}
-use Rattle.mql_types.specs.Loads.{load_of}
-use Rattle.mql_types.specs.Meaning.{rows_meant}
+use Rattle.mon_schema.specs.Names.{SchemaLists}
+use Rattle.mql_types.specs.Meaning.{load_of, rows_meant}
 use Rattle.mql_types.specs.Nodes.{NodeTree, columns_of}
-use Rattle.mql_types.specs.Pieces.{TopPart, piece_meant, pieces_meant, top_parts}
+use Rattle.mql_types.specs.Levels.{TopPart, piece_meant, pieces_meant, top_parts}
 use Rattle.mql_types.specs.Soundness.{IsWithinRows}
 use Rattle.mql_types.specs.declared.levels.Level.{Level}
 use Rattle.mql_types.proofs.FetchedTrees.{AllFit}
@@ -22,7 +21,7 @@ use Rattle.mon_fold.specs.declared.answers.Piece.{Piece}
 use Rattle.mon_meaning.specs.LeafAnswers.{parts_load}
 use Rattle.mon_meaning.proofs.StandingPieces.{up-permutation}
 use Rattle.mixer.specs.Divisions.{together}
-use Rattle.mon_meaning.specs.ApartTargets.{AreApart}
+use Rattle.mon_meaning.specs.ReadableSlots.{AreApart}
 use Rattle.mixer.specs.Mixing.{SamePieces, joined_pieces}
 use Rattle.mixer.specs.within.Joined.{AllStandEmpty, AreTogether, CanBeEmpty, CanJoinAll}
 use Rattle.mixer.proofs.ApartPieces.{no_rows}

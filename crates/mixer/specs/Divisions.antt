@@ -3,10 +3,10 @@ use Rattle.std.specs.Prelude.{◌≡◌, ℕ, Bool, false, List, [], ◌∷◌, 
 use Rattle.std.specs.List.{AllByRecursion, list_any}
 use Rattle.std.specs.Option.{option_map_or}
 use Rattle.mon_value.specs.Same.{same_text}
-use Rattle.mon_meaning.specs.ApartTargets.{AreApart, ShareNoTarget}
+use Rattle.mon_meaning.specs.ReadableSlots.{AreApart, ShareNoTarget}
 use Rattle.mon_value.specs.declared.rows.Row.{Row}
-use Rattle.mon_schema.specs.HeldTargets.{TellsLocation}
-use Rattle.mon_schema.specs.SchemaLists.{SchemaLists}
+use Rattle.mon_schema.specs.Fits.{TellsLocation}
+use Rattle.mon_schema.specs.Names.{SchemaLists}
 use Rattle.mon_topo.specs.Locations.{location_of}
 use Rattle.mql_types.specs.Nodes.{TypedTree}
 use Rattle.mql_types.specs.Soundness.{IsTyped}

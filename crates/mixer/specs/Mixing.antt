@@ -4,19 +4,17 @@
 use Rattle.std.specs.Prelude.{ℕ, ℤ, ◌≡◌, ◌+◌, Bool, List, [], ◌∷◌, ◌++◌, IsPermutation, map, length, take, drop}
 use Rattle.std.specs.Prelude.{filter, sum_by, if◌then◌else◌}
 use Rattle.std.specs.List.{filter_map, flat_map, zip}
-use Rattle.mon_value.specs.Groups.{group_rows}
-use Rattle.mon_value.specs.Joins.{pairs_of}
-use Rattle.mon_value.specs.Tops.{top_rows}
+use Rattle.mon_value.specs.Groups.{group_rows, top_rows}
+use Rattle.mon_value.specs.Tables.{pairs_of}
 use Rattle.mon_value.specs.declared.rows.Row.{Row}
 use Rattle.mon_value.specs.declared.tables.TimedRow.{TimedRow}
-use Rattle.mql_ast.specs.Truths.{predicate_truth}
+use Rattle.mql_ast.specs.Rows.{predicate_truth}
 use Rattle.mixer.specs.Divisions.{all_rows, together}
 use Rattle.mql_types.specs.LevelLoads.{counted_if, is_zone, leaf_load, root_load, zone_load}
-use Rattle.mql_types.specs.Levels.{is_leaf, is_root}
+use Rattle.mql_types.specs.Levels.{is_leaf, is_root, PieceMeant, in_zone, leaf_part, top_parts}
 use Rattle.mql_types.specs.Meaning.{value_row}
 use Rattle.mql_types.specs.Nodes as node
 use Rattle.mql_types.specs.Nodes.{NodeTree, TypedTree, columns_of}
-use Rattle.mql_types.specs.Pieces.{PieceMeant, in_zone, leaf_part, top_parts}
 use Rattle.mql_types.specs.declared.levels.Level.{Level}
 
 -- ---- pieces of several children

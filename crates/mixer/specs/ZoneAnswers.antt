@@ -6,14 +6,14 @@ use Rattle.mon_value.specs.declared.rows.Row.{Row}
 use Rattle.mql_types.specs.LevelLoads.{leaf_load, zone_load}
 use Rattle.mql_types.specs.Meaning.{grid_of}
 use Rattle.mql_types.specs.Nodes.{TypedTree}
-use Rattle.mql_types.specs.Pieces.{in_zone, top_parts}
+use Rattle.mql_types.specs.Levels.{in_zone, top_parts}
 use Rattle.mql_types.specs.Soundness.{IsTyped}
 use Rattle.mon_fold.specs.declared.answers.LeafAnswer.{LeafAnswer}
 use Rattle.mon_meaning.specs.LeafAnswers.{IsLeafPart}
 use Rattle.mon_meaning.specs.Standing.{AllStandFor}
 use Rattle.mon_meaning.specs.declared.meter.OverLimit.{OverLimit}
 use Rattle.mixer.specs.Divisions.{IsDivided, together}
-use Rattle.mon_meaning.specs.ApartTargets.{AreApart, ShareNoTarget}
+use Rattle.mon_meaning.specs.ReadableSlots.{AreApart, ShareNoTarget}
 use Rattle.mixer.specs.declared.zone_answers.ZoneAnswer.{ZoneAnswer}
 
 -- how much a zone and its leaves do of a query that is asked at a moment, over the leaves' rows

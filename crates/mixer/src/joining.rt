@@ -4,7 +4,7 @@ ghost use Rattle.std.specs.Vec.Iter.{into_iter_items, into_iter_len};
 ghost use Rattle.mon_fold.specs.declared.answers.Piece.TheVariants as piece;
 ghost use Rattle.std.specs.List.{AllByRecursion};
 ghost use Rattle.mql_types.specs.Nodes.{node_tree};
-ghost use Rattle.mql_types.specs.Pieces as spec;
+ghost use Rattle.mql_types.specs.Levels as spec;
 ghost use Rattle.mon_meaning.specs.TopParts.{up_to};
 ghost use Rattle.mixer.specs.within.Joined.{AllCanJoin, AllStandEmpty, AreTogether, CanBeEmpty, CanJoin, CanJoinAll};
 ghost use Rattle.mixer.specs.within.Joined.{CanJoinChildren, piece_joined, pieces_joined};

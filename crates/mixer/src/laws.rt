@@ -1,22 +1,20 @@
 // What holds of typed queries over rows that are divided into zones and leaves.
 ghost use Rattle.std.specs.Prelude.{◌≡◌, ◌≤ℤ◌, ◌∷◌, ◌++◌, ℕ, ℤ, pos, List, IsPermutation, map, sum_by};
-ghost use Rattle.mon_value.specs.Tops.{top_rows};
+ghost use Rattle.mon_value.specs.Groups.{top_rows};
 ghost use Rattle.mon_value.specs.declared.refusals.Refusal.{Refusal};
 ghost use Rattle.mon_value.specs.declared.rows.Row.{Row};
 ghost use Rattle.mon_value.specs.declared.tables.TimedRow.{TimedRow};
 ghost use Rattle.mql_types.specs.LevelLoads.{leaf_load, root_load, zone_load};
-ghost use Rattle.mql_types.specs.Levels.{is_leaf};
-ghost use Rattle.mql_types.specs.Loads.{load, load_of};
-ghost use Rattle.mql_types.specs.Meaning.{grid_of, meaning};
+ghost use Rattle.mql_types.specs.Levels.{is_leaf, leaf_part, top_parts, zone_part};
+ghost use Rattle.mql_types.specs.Meaning.{load, load_of, grid_of, meaning};
 ghost use Rattle.mql_types.specs.Nodes.{TypedTree};
-ghost use Rattle.mql_types.specs.Pieces.{leaf_part, top_parts, zone_part};
 ghost use Rattle.mql_types.specs.Soundness.{IsTyped};
 ghost use Rattle.mon_fold.specs.declared.answers.LeafAnswer.{LeafAnswer};
 ghost use Rattle.mon_meaning.specs.Central.{IsRefusedBy};
 ghost use Rattle.mon_meaning.specs.LeafAnswers.{IsRefusedByLeaf};
 ghost use Rattle.mon_meaning.specs.declared.meter.OverLimit.{OverLimit};
 ghost use Rattle.mixer.specs.Divisions.{IsDivided, all_rows, together};
-ghost use Rattle.mon_meaning.specs.ApartTargets.{AreApart, ShareNoTarget};
+ghost use Rattle.mon_meaning.specs.ReadableSlots.{AreApart, ShareNoTarget};
 ghost use Rattle.mixer.specs.Mixing.{SamePieces, mixed_load, mixed_table, root_joins, zone_answer, zone_joins};
 ghost use Rattle.mixer.specs.ZoneAnswers.{AllLeafParts, AreLeafParts, IsRefusedByZone};
 

@@ -2,10 +2,9 @@
 ghost use Rattle.std.specs.Prelude.{◌≡◌, ◌+◌, length, IfErr, IfOk, OnOk};
 ghost use Rattle.std.specs.Vec.Iter.{into_iter_items, into_iter_len};
 ghost use Rattle.mon_fold.specs.declared.answers.Piece.TheVariants as piece;
-ghost use Rattle.mql_types.specs.Levels.{is_leaf};
+ghost use Rattle.mql_types.specs.Levels.{is_leaf, in_zone};
 ghost use Rattle.mql_types.specs.Nodes.{node_tree};
-ghost use Rattle.mql_types.specs.Pieces as spec;
-ghost use Rattle.mql_types.specs.Pieces.{in_zone};
+ghost use Rattle.mql_types.specs.Levels as spec;
 ghost use Rattle.mon_meaning.specs.Counts.{TellsOver};
 ghost use Rattle.mon_meaning.specs.TopParts.{part_seen, use_seen};
 ghost use Rattle.mixer.specs.within.Mixtures.{joins_from};

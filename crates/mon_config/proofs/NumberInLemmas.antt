@@ -3,8 +3,7 @@ use Rattle.std.proofs.Common.{◌≡◌, ℕ, Bool, true, false, cond, List, Opt
 use Rattle.std.proofs.Common.{Err, refl, subst}
 use Rattle.serde_json.specs.Data.{Data}
 use Rattle.serde_json.specs.Find.{as_number, as_u64, get}
-use Rattle.mon_config.specs.Objects.{number_of_data, number_if}
-use Rattle.mon_config.specs.Shapes.{value_or_here, if_there, optional_key, under_key}
+use Rattle.mon_config.specs.Objects.{number_of_data, number_if, value_or_here, if_there, optional_key, under_key}
 
 -- a number that is kept for a test passes it
 by_test : (test : ℕ → Bool) (m n : ℕ) (b : Bool) → test m ≡ b → value_or_here (cond b (Some m) None) ≡ Ok n

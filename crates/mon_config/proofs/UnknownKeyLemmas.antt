@@ -11,7 +11,7 @@ use Rattle.std.specs.declared.cmp.Ordering.TheVariants.{Less}
 use Rattle.serde_json.specs.View.{members_of, view}
 use Rattle.serde_json.specs.declared.value.Value.{Value}
 use Rattle.mon_value.specs.Same.{same_text}
-use Rattle.mon_config.specs.Shapes.{lesser_key, unknown_in}
+use Rattle.mon_config.specs.Objects.{lesser_key, unknown_in}
 
 -- the first of the keys that isn't known
 abbrev pub first_unknown : List (List ℕ) → List (String Global) → Option (List ℕ)

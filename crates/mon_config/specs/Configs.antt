@@ -1,4 +1,4 @@
--- The configuration that a text spells, or the first of its faults.
+-- The configuration that a text spells, or the first of its faults, and what that prints as.
 use Rattle.std.specs.Prelude.{ℕ, ◌≡◌, ◌<◌, ◌≤◌, ◌+◌, ◌^◌, nat_lt, List, [], ◌∷◌, ◌++◌, length, codes, Option, Some}
 use Rattle.std.specs.Prelude.{None, Result, Ok, Err, if◌then◌else◌}
 use Rattle.std.specs.Option.{ok_or}
@@ -9,19 +9,23 @@ use Rattle.mon_value.specs.Answers.{◌>>=◌}
 use Rattle.mon_value.specs.declared.limits.TheConstants.{MOST_BUCKETS, ROW_BITS}
 use Rattle.mon_value.specs.declared.schemas.TargetSchema.{TargetSchema}
 use Rattle.mon_value.specs.declared.schemas.MetricSchema.{MetricSchema}
-use Rattle.mon_schema.specs.Faults.{target_fault, metric_fault}
-use Rattle.mon_schema.specs.SchemaLists.{SchemaLists, no_schemas, with_target, with_metric}
+use Rattle.mon_schema.specs.Faults.{target_fault, metric_fault, schema_fault_text}
+use Rattle.mon_schema.specs.Names.{SchemaLists, no_schemas, with_target, with_metric}
 use Rattle.mon_schema.specs.declared.faults.SchemaFault.{SchemaFault}
-use Rattle.mon_topo.specs.Faults.{topology_fault}
+use Rattle.mon_topo.specs.Faults.{topology_fault, topo_kind_text}
 use Rattle.mon_topo.specs.declared.faults.TopoFault.{TopoFault}
 use Rattle.mon_topo.specs.declared.zones.ZoneSpec.{ZoneSpec}
+use Rattle.mon_topo.specs.Locations.{range_for}
+use Rattle.mon_value.specs.declared.positions.Range.{Range}
+use Rattle.mon_value.specs.declared.rows.SeriesKey.{SeriesKey}
 use Rattle.mon_config.specs.declared.config.Config.{Config}
 use Rattle.mon_config.specs.declared.faults.ConfigFault.{ConfigFault}
 use Rattle.mon_config.specs.declared.faults.ConfigFault.TheVariants as fault
 use Rattle.mon_config.specs.declared.parts.Parts.{Parts}
-use Rattle.mon_config.specs.Objects.{parts_in}
-use Rattle.mon_config.specs.Shapes.{through_key, through_index}
+use Rattle.mon_config.specs.Objects.{parts_in, through_key, through_index}
 use Rattle.mon_config.specs.declared.limits.TheConstants.{LONGEST_CONFIGURATION}
+
+-- The configuration that a text spells, or the first of its faults.
 
 -- the data that a text spells
 abbrev pub data_in : List ℕ → Option Data
@@ -103,3 +107,18 @@ pub record IsLimited (config : Config) : Type 0 where
   pub limit : config.limit ≤ 2 ^ ROW_BITS
   pub some : 0 < config.buckets
   pub most : config.buckets ≤ MOST_BUCKETS
+
+-- What a refused configuration prints as.
+
+abbrev pub config_fault_text : ConfigFault → List ℕ
+config_fault_text fault.TooLong = codes "TooLong"
+config_fault_text fault.NotJson = codes "NotJson"
+config_fault_text (fault.Shape path) = codes "Shape " ++ path
+config_fault_text (fault.Schema refused path) = codes "Schema " ++ (schema_fault_text refused ++ (codes " " ++ path))
+config_fault_text (fault.Topology kind path) = codes "Topology " ++ (topo_kind_text kind ++ (codes " " ++ path))
+
+-- The range that a series' target lies in.
+
+-- there is none where no zone lists the target's location
+abbrev pub range_of_key : Config → SeriesKey → Option Range
+range_of_key config key = range_for config.schemas config.topology key.target

@@ -1,8 +1,7 @@
 // The configuration as a whole.
 ghost use Rattle.std.specs.Prelude.{◌≡◌, ◌<◌, length, IfOk, IfSome};
 ghost use Rattle.mon_config.specs.Configs as spec;
-ghost use Rattle.mon_config.specs.Configs.{config_in, KeepsNumbers};
-ghost use Rattle.mon_config.specs.KeyRanges.{range_of_key};
+ghost use Rattle.mon_config.specs.Configs.{config_in, KeepsNumbers, range_of_key};
 ghost use Rattle.mon_config.specs.Numbers.{AreLawful};
 ghost use Rattle.mon_config.specs.Objects.{parts_in};
 ghost use Rattle.mon_topo.specs.Zones.{ranges_in};

@@ -38,7 +38,7 @@ impl TryCopy for ConfigFault {
 
 impl fmt::Display for ConfigFault {
     ghost use Rattle.std.specs.Prelude.{Some};
-    ghost use Rattle.mon_config.specs.FaultTexts.{config_fault_text};
+    ghost use Rattle.mon_config.specs.Configs.{config_fault_text};
 
     ghost output = { λ fault. Some (config_fault_text fault) };
 

@@ -1,7 +1,7 @@
 // The schemas of a configuration, held one after another.
 ghost use Rattle.std.specs.Prelude.{Err};
 ghost use Rattle.mon_value.specs.Answers.{Gives};
-ghost use Rattle.mon_schema.specs.SchemaLists.{no_schemas};
+ghost use Rattle.mon_schema.specs.Names.{no_schemas};
 ghost use Rattle.mon_config.specs.Configs as spec;
 
 use crate::faults::ConfigFault;

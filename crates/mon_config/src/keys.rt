@@ -4,7 +4,7 @@ ghost use Rattle.std.specs.List.{list_any};
 ghost use Rattle.mon_value.specs.Answers.{Gives};
 ghost use Rattle.mon_value.specs.Same.{same_text};
 ghost use Rattle.mon_config.specs.Objects as spec;
-ghost use Rattle.mon_config.specs.Shapes.{object_of, unknown_in};
+ghost use Rattle.mon_config.specs.Objects.{object_of, unknown_in};
 ghost use Rattle.serde_json.specs.View.{members_view, view};
 
 use crate::paths::{Shaped, path_through_key, wrong_form};

@@ -1,7 +1,7 @@
 // Paths to what is at fault.
 ghost use Rattle.std.specs.Prelude.{◌≡◌, ◌++◌, [], codes, Err, IfOk};
 ghost use Rattle.mon_value.specs.Answers.{Gives};
-ghost use Rattle.mon_config.specs.Shapes.{through_key, through_index};
+ghost use Rattle.mon_config.specs.Objects.{through_key, through_index};
 
 use mon_value::{OutOfMemory, Refusal, Text};
 use std::alloc::Global;

@@ -1,7 +1,7 @@
 // How the value under a key, and each value of a list, is read.
 ghost use Rattle.std.specs.Prelude.{ℕ, List, Ok, Result, map};
 ghost use Rattle.mon_value.specs.Answers.{Gives};
-ghost use Rattle.mon_config.specs.Shapes as spec;
+ghost use Rattle.mon_config.specs.Objects as spec;
 ghost use Rattle.serde_json.specs.Data.{Data};
 ghost use Rattle.serde_json.specs.View.{view};
 

@@ -1,7 +1,7 @@
 // The values that stand in the objects of a configuration.
 ghost use Rattle.mon_value.specs.Answers.{Gives};
 ghost use Rattle.mon_config.specs.Objects as spec;
-ghost use Rattle.mon_config.specs.Shapes.{value_or_here};
+ghost use Rattle.mon_config.specs.Objects.{value_or_here};
 
 use crate::limits::GREATEST_LIMIT;
 use crate::paths::{Shaped, wrong_form};

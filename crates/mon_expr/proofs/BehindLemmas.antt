@@ -2,7 +2,7 @@
 use Rattle.std.proofs.Common.{◌≡◌, ℕ, zero, suc, Bool, true, ◌&&◌, List, [], ◌∷◌, drop}
 use Rattle.std.proofs.Common.{inl, inr}
 use Rattle.std.proofs.lemmas.Bool.{or_cases, or_right, and_parts}
-use Rattle.mon_value.specs.Patterns.{holds_behind}
+use Rattle.mon_value.specs.Same.{holds_behind}
 
 module _ (test : List ℕ → Bool) where
   -- one byte further in front

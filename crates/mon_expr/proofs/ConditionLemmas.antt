@@ -7,7 +7,7 @@ use Rattle.std.proofs.lemmas.List.{reverse-append, take-append-drop}
 use Rattle.mon_value.specs.declared.columns.Column.{Column}
 use Rattle.mon_value.specs.declared.values.Value.{Value}
 use Rattle.mql_ast.specs.Trees.{PredicateTree}
-use Rattle.mql_ast.specs.Truths.{predicate_truth}
+use Rattle.mql_ast.specs.Rows.{predicate_truth}
 use Rattle.mon_expr.specs.ConditionLists.{answer, are_ordered, condition_truth, is_at, is_before, next_of}
 use Rattle.mon_expr.proofs.NextPlaces.{conditions_left}
 use Rattle.mon_expr.specs.declared.condition_lists.Condition.{Condition}

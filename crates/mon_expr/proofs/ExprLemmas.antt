@@ -2,14 +2,12 @@
 use Rattle.std.proofs.Common.{◌≡◌, ◌≤◌, ℕ, ◌^◌, ℤ, false, List, sum, Option, Some, None, option_map, option_and_then}
 use Rattle.std.proofs.Common.{IsSomeAnd, refl, sym, ap, subst, ◌∙◌, arith}
 use Rattle.std.proofs.Math.Pow.{pow_mono}
-use Rattle.mon_value.specs.Distributions.{percentile_of}
-use Rattle.mon_value.specs.Groups.{counts_in, number_in}
+use Rattle.mon_value.specs.Groups.{percentile_of, counts_in, number_in}
 use Rattle.mon_value.specs.declared.columns.Column.{Column}
 use Rattle.mon_value.specs.declared.values.Value.{Value}
 use Rattle.mon_value.specs.declared.values.Value.TheVariants as value
-use Rattle.mql_ast.specs.NamedCells.{cell_named}
-use Rattle.mql_ast.specs.Sums.{bounds_named, percentile_in, put_together, sum_value}
-use Rattle.mql_ast.specs.SumWidths.{HasShares, IsTypedSum, sum_bits}
+use Rattle.mql_ast.specs.Rows.{cell_named, bounds_named, percentile_in, put_together, sum_value, HasShares, IsTypedSum}
+use Rattle.mql_ast.specs.Rows.{sum_bits}
 use Rattle.mql_ast.specs.Trees as tree
 use Rattle.mql_ast.specs.Trees.{SumTree, sum_tree}
 use Rattle.mql_ast.specs.declared.expressions.Expr.{Expr}

@@ -7,8 +7,7 @@ use Rattle.std.specs.Option.{option_map_or, option_and_then}
 use Rattle.std.proofs.lemmas.Bool.{cases_lt, false_from_ne_true, true≢false}
 use Rattle.std.proofs.lemmas.List.{nil_from_length}
 use Rattle.mon_value.proofs.SameLemmas.{same_text-Decides}
-use Rattle.mon_value.specs.Patterns.{holds_behind, is_match}
-use Rattle.mon_value.specs.Same.{same_text}
+use Rattle.mon_value.specs.Same.{holds_behind, is_match, same_text}
 use Rattle.mon_expr.proofs.BehindLemmas.{behind_later, behind_more}
 use Rattle.mon_expr.proofs.FindLemmas.{drop-nil}
 use Rattle.mon_expr.specs.Greedy.{rest_behind, rest_behind_all}

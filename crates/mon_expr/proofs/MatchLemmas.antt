@@ -6,8 +6,7 @@ use Rattle.std.specs.List.{starts_with}
 use Rattle.std.proofs.lemmas.Bool.{or_cases, or_left, or_right, and_parts, and_from, false≢true}
 use Rattle.std.proofs.lemmas.List.{take_at, drop_at, take-append-drop, append_assoc}
 use Rattle.mon_value.proofs.SameLemmas.{same_text-Decides}
-use Rattle.mon_value.specs.Patterns.{IsMatch, last_piece, next_piece, holds_behind, is_match}
-use Rattle.mon_value.specs.Same.{same_text}
+use Rattle.mon_value.specs.Same.{IsMatch, last_piece, next_piece, holds_behind, is_match, same_text}
 
 same_self : (text : List ℕ) → same_text text text ≡ true
 same_self text = (same_text-Decides text text).1 refl

@@ -4,17 +4,15 @@ use Rattle.std.proofs.Common.{is_some, option_map, option_and_then, IsNone, IsTr
 use Rattle.std.specs.Option.{option_map_or}
 use Rattle.std.proofs.lemmas.Bool.{not-false}
 use Rattle.std.proofs.lemmas.Option.{none-some}
-use Rattle.mon_value.specs.Columns.{HasType}
-use Rattle.mon_value.specs.Distributions.{percentile_bucket, percentile_of, upper_bound}
-use Rattle.mon_value.specs.Groups.{number_in}
+use Rattle.mon_value.specs.Tables.{HasType}
+use Rattle.mon_value.specs.Groups.{percentile_bucket, percentile_of, upper_bound, number_in}
 use Rattle.mon_value.specs.declared.columns.Column.{Column}
 use Rattle.mon_value.specs.declared.values.Value.{Value}
 use Rattle.mon_value.specs.declared.values.Value.TheVariants as value
 use Rattle.mon_value.specs.declared.values.ValueType.{ValueType}
 use Rattle.mon_value.specs.declared.values.ValueType.TheVariants as type
-use Rattle.mql_ast.specs.NamedCells.{column_named, place_of}
-use Rattle.mql_ast.specs.Sums.{bounds_named, is_without_values, meets_no_values, percentile_in, put_together, sum_value}
-use Rattle.mql_ast.specs.SumWidths.{CanCompute, IsTypedSum, column_bits, percentile_width, sum_bits}
+use Rattle.mql_ast.specs.Rows.{column_named, place_of, bounds_named, is_without_values, meets_no_values, percentile_in}
+use Rattle.mql_ast.specs.Rows.{put_together, sum_value, CanCompute, IsTypedSum, column_bits, percentile_width, sum_bits}
 use Rattle.mql_ast.specs.Trees as tree
 use Rattle.mql_ast.specs.Trees.{SumTree}
 use Rattle.mon_expr.proofs.ExprLemmas.{IsNumeric, Width, value_again, width_of}

@@ -2,13 +2,11 @@
 use Rattle.std.proofs.Common.{◌≡◌, ℕ, ℤ, pos, ◌+ℤ◌, ◌-ℤ◌, Bool, true, false, not, List, [], ◌∷◌, ◌++◌, Option, Some}
 use Rattle.std.proofs.Common.{None, option_map, option_and_then, refl, sym, ap, ◌∙◌, arith}
 use Rattle.std.proofs.lemmas.Int.{ints}
-use Rattle.mon_value.specs.Distributions.{percentile_of}
-use Rattle.mon_value.specs.Groups.{number_in, counts_in}
+use Rattle.mon_value.specs.Groups.{percentile_of, number_in, counts_in}
 use Rattle.mon_value.specs.declared.columns.Column.{Column}
 use Rattle.mon_value.specs.declared.values.Value.{Value}
 use Rattle.mon_value.specs.declared.values.Value.TheVariants as value
-use Rattle.mql_ast.specs.NamedCells.{cell_named}
-use Rattle.mql_ast.specs.Sums.{bounds_named, percentile_in, put_together, sum_value}
+use Rattle.mql_ast.specs.Rows.{cell_named, bounds_named, percentile_in, put_together, sum_value}
 use Rattle.mql_ast.specs.Trees as tree
 use Rattle.mql_ast.specs.Trees.{SumTree}
 use Rattle.mon_expr.specs.BoundSums.{sum_of_both, signed_number, terms_total, with_sign}

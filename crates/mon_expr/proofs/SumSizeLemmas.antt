@@ -8,7 +8,7 @@ use Rattle.std.proofs.Math.Nat.{pow-suc}
 use Rattle.std.proofs.Math.Pow.{pow_mono}
 use Rattle.std.proofs.lemmas.Bool.{leb-true}
 use Rattle.std.proofs.lemmas.Option.{none-some, same_Some}
-use Rattle.mon_value.specs.Columns.{FitColumns, HasType}
+use Rattle.mon_value.specs.Tables.{FitColumns, HasType}
 use Rattle.mon_value.specs.Groups.{counts_in, number_in}
 use Rattle.mon_value.specs.Values.{magnitude}
 use Rattle.mon_value.specs.declared.columns.Column.{Column}
@@ -16,10 +16,9 @@ use Rattle.mon_value.specs.declared.values.Value.{Value}
 use Rattle.mon_value.specs.declared.values.Value.TheVariants as value
 use Rattle.mon_value.specs.declared.values.ValueType.{ValueType}
 use Rattle.mon_value.specs.declared.values.ValueType.TheVariants as type
-use Rattle.mql_ast.specs.NamedCells.{cell_named, column_named, place_of}
-use Rattle.mql_ast.specs.Sums.{bounds_named, bucket_bounds}
-use Rattle.mql_ast.specs.SumWidths.{CanCompute, FitWidths, HasBound, HasShares, column_bits, percentile_width}
-use Rattle.mql_ast.specs.SumWidths.{sum_bits, widest_percentile, bits_together}
+use Rattle.mql_ast.specs.Rows.{cell_named, column_named, place_of, bounds_named, bucket_bounds, CanCompute, FitWidths}
+use Rattle.mql_ast.specs.Rows.{HasBound, HasShares, column_bits, percentile_width, sum_bits, widest_percentile}
+use Rattle.mql_ast.specs.Rows.{bits_together}
 use Rattle.mql_ast.specs.Trees as tree
 use Rattle.mql_ast.specs.Trees.{SumTree}
 use Rattle.mon_expr.specs.BoundSums.{CanDivide, CanTake, terms_size}

@@ -3,7 +3,7 @@ use Rattle.std.specs.Prelude.{◌≡◌, ◌≤◌, Bool, true, List, length, re
 use Rattle.mon_value.specs.declared.columns.Column.{Column}
 use Rattle.mon_value.specs.declared.values.Value.{Value}
 use Rattle.mql_ast.specs.Trees.{PredicateTree}
-use Rattle.mql_ast.specs.Truths.{predicate_truth}
+use Rattle.mql_ast.specs.Rows.{predicate_truth}
 use Rattle.mon_expr.specs.ConditionLists.{answer, are_ordered, is_before}
 use Rattle.mon_expr.specs.declared.condition_lists.BoundPredicate.{BoundPredicate}
 use Rattle.mon_expr.specs.declared.condition_lists.Condition.{Condition}

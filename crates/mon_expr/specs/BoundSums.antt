@@ -4,14 +4,12 @@ use Rattle.std.specs.Prelude.{length, sum, slice_get, Option, Some, None, option
 use Rattle.std.specs.List.{AllByRecursion}
 use Rattle.std.specs.Option.{ForSome, option_map_or}
 use Rattle.mon_value.specs.declared.limits.TheConstants.{NUMBER_BITS}
-use Rattle.mon_value.specs.Distributions.{percentile_of}
-use Rattle.mon_value.specs.Groups.{number_in, counts_in}
-use Rattle.mon_value.specs.Limits.{greatest_sum}
+use Rattle.mon_value.specs.Groups.{percentile_of, number_in, counts_in}
+use Rattle.mon_value.specs.Values.{greatest_sum}
 use Rattle.mon_value.specs.declared.columns.Column.{Column}
 use Rattle.mon_value.specs.declared.values.Value.{Value}
 use Rattle.mon_value.specs.declared.values.Value.TheVariants as value
-use Rattle.mql_ast.specs.Sums.{sum_value}
-use Rattle.mql_ast.specs.SumWidths.{CanCompute}
+use Rattle.mql_ast.specs.Rows.{sum_value, CanCompute}
 use Rattle.mql_ast.specs.Trees.{SumTree}
 use Rattle.mon_expr.specs.declared.bound_sums.BoundExpr.{BoundExpr}
 use Rattle.mon_expr.specs.declared.bound_sums.BoundExpr.TheVariants as bound

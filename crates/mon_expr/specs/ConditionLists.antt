@@ -1,7 +1,7 @@
 -- Conditions that lead to one another, and in the end to an answer. They stand here from the last one back.
 use Rattle.std.specs.Prelude.{ℕ, Bool, true, false, ◌&&◌, ◌==◌, nat_lt, List, [], ◌∷◌, length, slice_get, if◌then◌else◌}
 use Rattle.mon_value.specs.declared.values.Value.{Value}
-use Rattle.mql_ast.specs.Truths.{is_compared, is_like, is_passed}
+use Rattle.mql_ast.specs.Rows.{is_compared, is_like, is_passed}
 use Rattle.mon_expr.specs.declared.condition_lists.Condition.{Condition}
 use Rattle.mon_expr.specs.declared.condition_lists.Next.{Next}
 use Rattle.mon_expr.specs.declared.condition_lists.Next.TheVariants as next

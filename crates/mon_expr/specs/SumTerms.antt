@@ -1,9 +1,8 @@
 -- The terms of a sum, and those that are still to be found.
 use Rattle.std.specs.Prelude.{ℕ, ◌+◌, Bool, not, List, [], ◌∷◌, ◌++◌}
 use Rattle.mon_value.specs.declared.columns.Column.{Column}
-use Rattle.mql_ast.specs.NamedCells.{place_of}
+use Rattle.mql_ast.specs.Rows.{place_of, bounds_named}
 use Rattle.mql_ast.specs.SumParts.{nodes}
-use Rattle.mql_ast.specs.Sums.{bounds_named}
 use Rattle.mql_ast.specs.Trees as tree
 use Rattle.mql_ast.specs.Trees.{SumTree, sum_tree}
 use Rattle.mon_expr.specs.declared.bound_sums.Part.{Part}

@@ -2,7 +2,7 @@
 ghost use Rattle.std.specs.Prelude.{◌≡◌};
 ghost use Rattle.mon_value.specs.Order.{value_cmp, field_as_value};
 ghost use Rattle.mon_value.specs.declared.values.Value.TheVariants as value;
-ghost use Rattle.mql_ast.specs.Truths as spec;
+ghost use Rattle.mql_ast.specs.Rows as spec;
 
 use crate::patterns::matches_pieces;
 use mon_value::{FieldValue, Text, Value};

@@ -1,7 +1,7 @@
 // Which texts a pattern matches.
 ghost use Rattle.std.specs.Prelude.{◌≡◌, ◌↔◌, IsTrue};
 ghost use Rattle.std.specs.Option.{option_copied};
-ghost use Rattle.mon_value.specs.Patterns.{IsMatch, holds_behind, is_match};
+ghost use Rattle.mon_value.specs.Same.{IsMatch, holds_behind, is_match};
 ghost use Rattle.mon_expr.specs.Greedy as spec;
 
 use memchr::memmem;

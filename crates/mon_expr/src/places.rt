@@ -1,6 +1,6 @@
 // Where the columns of a table stand.
 ghost use Rattle.std.specs.Prelude.{◌≡◌};
-ghost use Rattle.mql_ast.specs.NamedCells as spec;
+ghost use Rattle.mql_ast.specs.Rows as spec;
 
 use mon_value::{Columns, Text};
 

@@ -1,9 +1,9 @@
 // Whether a predicate holds of a row, where its columns are found by their names.
 ghost use Rattle.std.specs.Prelude.{◌≡◌};
 ghost use Rattle.std.specs.Option.{option_copied};
-ghost use Rattle.mql_ast.specs.NamedCells as named;
+ghost use Rattle.mql_ast.specs.Rows as named;
 ghost use Rattle.mql_ast.specs.Trees.{predicate_tree};
-ghost use Rattle.mql_ast.specs.Truths.{is_compared, is_like, is_passed, predicate_truth};
+ghost use Rattle.mql_ast.specs.Rows.{is_compared, is_like, is_passed, predicate_truth};
 
 use crate::conditions::{is_compared, is_like};
 use crate::places::place_of;

@@ -1,7 +1,6 @@
 // What a sum comes to in a row, where its columns are found by their names.
 ghost use Rattle.std.specs.Prelude.{◌≡◌, ◌↔◌, IfOk, IsNone, IsTrue};
-ghost use Rattle.mql_ast.specs.Sums.{meets_no_values, sum_value};
-ghost use Rattle.mql_ast.specs.SumWidths.{CanCompute, HasShares, IsTypedSum};
+ghost use Rattle.mql_ast.specs.Rows.{meets_no_values, sum_value, CanCompute, HasShares, IsTypedSum};
 ghost use Rattle.mql_ast.specs.Trees.{sum_tree};
 
 use crate::bound_sums::BoundExpr;

@@ -3,8 +3,7 @@ use Rattle.std.proofs.Common.{◌≡◌, ℕ, zero, suc, ◌+◌, ◌<◌, List,
 use Rattle.std.proofs.Common.{None, refl, sym, ap, subst, ◌∙◌, add-one, arith}
 use Rattle.std.specs.Option.{option_to_list}
 use Rattle.std.proofs.lemmas.List.{get_or-map, length-map}
-use Rattle.mon_value.specs.Aggregates.{merged_of}
-use Rattle.mon_value.specs.Groups.{column_of, distributions_in}
+use Rattle.mon_value.specs.Groups.{merged_of, column_of, distributions_in}
 use Rattle.mon_value.specs.declared.aggregates.Aggregate.{Aggregate}
 use Rattle.mon_value.specs.declared.aggregates.AggregateKind.{AggregateKind}
 use Rattle.mon_value.specs.declared.aggregates.AggregateKind.TheVariants as kind

@@ -8,11 +8,10 @@ use Rattle.std.proofs.lemmas.List.Elements.{filter_map-append}
 use Rattle.std.proofs.lemmas.List.Sums.{sum_by-cons, sum_by-take-le, get_or-le-sum_by}
 use Rattle.std.proofs.lemmas.Bool.{cond_both}
 use Rattle.std.proofs.lemmas.Option.{same_Some}
-use Rattle.mon_value.specs.Aggregates.{where_any, sum_of, counts_added, counts_of}
-use Rattle.mon_value.specs.Alignments.{CanAdd, CanAddAll, newest_point, values_of}
+use Rattle.mon_value.specs.Groups.{where_any, sum_of, counts_added, counts_of, number_in, counts_in, numbers_in}
+use Rattle.mon_value.specs.Groups.{distributions_in, total_of}
+use Rattle.mon_value.specs.Grids.{CanAdd, CanAddAll, newest_point, values_of, grid_times, time_count, times_back}
 use Rattle.mon_value.specs.Values.{magnitude}
-use Rattle.mon_value.specs.Grids.{grid_times, time_count, times_back}
-use Rattle.mon_value.specs.Groups.{number_in, counts_in, numbers_in, distributions_in, total_of}
 use Rattle.std.specs.Option.{option_or}
 use Rattle.mon_value.specs.declared.grids.Grid.{Grid}
 use Rattle.mon_value.specs.declared.rows.Point.{Point}

@@ -9,11 +9,11 @@ use Rattle.std.proofs.lemmas.Bool.Decides.{Decides-int_eq}
 use Rattle.std.proofs.lemmas.List.{take-append-drop, take_more, length-take-le}
 use Rattle.std.proofs.lemmas.List.Elements.{filter-append}
 use Rattle.std.proofs.lemmas.List.Sums.{sum_by-append, sum_by-cons}
-use Rattle.mon_value.specs.Aggregates.{counts_added, counts_of, merged_of}
-use Rattle.mon_value.specs.Values.{magnitude}
-use Rattle.mon_value.specs.GroupConditions.{CanGroup, rows_at, SumsFit, TakesColumn, TakesType, UnlessCount}
-use Rattle.mon_value.specs.Columns.{FitColumns, HasType}
-use Rattle.mon_value.specs.Groups.{column_of, distributions_in, group_key, group_keys, numbers_in, rows_in}
+use Rattle.mon_value.specs.Groups.{counts_added, counts_of, merged_of, CanGroup, rows_at, SumsFit, TakesColumn}
+use Rattle.mon_value.specs.Groups.{TakesType, UnlessCount, column_of, distributions_in, group_key, group_keys}
+use Rattle.mon_value.specs.Groups.{numbers_in, rows_in}
+use Rattle.mon_value.specs.Values.{magnitude, greatest_sum}
+use Rattle.mon_value.specs.Tables.{FitColumns, HasType}
 use Rattle.mon_value.specs.Same.{same_row}
 use Rattle.mon_value.specs.declared.aggregates.Aggregate.{Aggregate}
 use Rattle.mon_value.specs.declared.aggregates.AggregateKind.{AggregateKind}
@@ -31,7 +31,6 @@ use Rattle.mon_fold.specs.declared.aggregate_parts.AggregatePart.{AggregatePart}
 use Rattle.mon_value.proofs.NumberPartLemmas.{number_within, sums_within, total_within}
 use Rattle.mon_fold.specs.PartialGroups.{CanMergeCounts, CanMergePart, CanMergeParts, CanTakeGroup, part_over}
 use Rattle.mon_fold.specs.PartialGroups.{partial_groups, PartialGroup, parts_over}
-use Rattle.mon_value.specs.Limits.{greatest_sum}
 use Rattle.mon_fold.proofs.AlignmentLemmas.{counts_within, distributions-magnitude, numbers-magnitude}
 use Rattle.mon_fold.proofs.PartialGroupLemmas.{column_of-append, distributions-append, in_parts, numbers-append}
 

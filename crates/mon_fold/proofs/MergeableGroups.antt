@@ -5,10 +5,9 @@ use Rattle.std.proofs.Common.{sym, ap, subst, ◌∙◌, arith}
 use Rattle.std.specs.List.{AllByRecursion, IsDistinct, list_any}
 use Rattle.std.specs.Map.{keys_of, lookup}
 use Rattle.std.proofs.lemmas.List.Elements.{filter-append}
-use Rattle.mon_value.specs.Columns.{FitColumns}
-use Rattle.mon_value.specs.GroupConditions.{CanGroup, rows_at, SumsFit, UnlessCount}
-use Rattle.mon_value.specs.Groups.{group_key, group_keys, rows_in}
-use Rattle.mon_value.specs.Limits.{greatest_sum}
+use Rattle.mon_value.specs.Tables.{FitColumns}
+use Rattle.mon_value.specs.Groups.{CanGroup, rows_at, SumsFit, UnlessCount, group_key, group_keys, rows_in}
+use Rattle.mon_value.specs.Values.{greatest_sum}
 use Rattle.mon_value.specs.Same.{same_row}
 use Rattle.mon_value.specs.declared.aggregates.Aggregate.{Aggregate}
 use Rattle.mon_value.specs.declared.columns.Column.{Column}

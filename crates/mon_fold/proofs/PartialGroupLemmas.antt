@@ -6,9 +6,9 @@ use Rattle.std.specs.List.{cons_option, filter_map}
 use Rattle.std.specs.Option.{option_map}
 use Rattle.std.proofs.lemmas.List.{take_more}
 use Rattle.std.proofs.lemmas.List.Elements.{filter_map-append}
-use Rattle.mon_value.specs.Aggregates.{sum_of, item_count, merged_of, counts_of}
-use Rattle.mon_value.specs.Groups.{aggregate_made, column_of, counts_in, distributions_in, group_key, group_row}
-use Rattle.mon_value.specs.Groups.{group_rows, number_in, numbers_in, rows_by_group}
+use Rattle.mon_value.specs.Groups.{sum_of, item_count, merged_of, counts_of, aggregate_made, column_of, counts_in}
+use Rattle.mon_value.specs.Groups.{distributions_in, group_key, group_row, group_rows, number_in, numbers_in}
+use Rattle.mon_value.specs.Groups.{rows_by_group}
 use Rattle.mon_value.specs.Same.{same_row}
 use Rattle.mon_value.specs.declared.aggregates.Aggregate.{Aggregate}
 use Rattle.mon_value.specs.declared.aggregates.AggregateKind.{AggregateKind}

@@ -8,10 +8,10 @@ use Rattle.std.proofs.lemmas.Int.{ints}
 use Rattle.std.proofs.lemmas.List.{map-append, ext_get_or, length-take-le, length-drop, take-append-drop}
 use Rattle.std.proofs.lemmas.List.Elements.{filter_map-append}
 use Rattle.std.proofs.lemmas.List.Sums.{sum_by-append}
-use Rattle.mon_value.specs.Aggregates.{sum_of, counts_added, counts_of}
-use Rattle.mon_value.specs.Alignments.{CanAdd, CanAddAll, values_of}
+use Rattle.mon_value.specs.Groups.{sum_of, counts_added, counts_of, number_in, counts_in, numbers_in, distributions_in}
+use Rattle.mon_value.specs.Groups.{total_of}
+use Rattle.mon_value.specs.Grids.{CanAdd, CanAddAll, values_of}
 use Rattle.mon_value.specs.Values.{magnitude}
-use Rattle.mon_value.specs.Groups.{number_in, counts_in, numbers_in, distributions_in, total_of}
 use Rattle.mon_value.specs.declared.rows.Point.{Point}
 use Rattle.mon_value.specs.declared.values.Value.{Value}
 use Rattle.mon_value.specs.declared.values.Value.TheVariants as value

@@ -4,9 +4,9 @@ use Rattle.std.specs.Prelude.{is_some, All, codes, slice_get, Option, Some, None
 use Rattle.std.specs.Int.{int_div_euclid, int_min, int_max}
 use Rattle.std.specs.List.{filter_map}
 use Rattle.std.specs.Map.{lookup}
-use Rattle.mon_value.specs.Aggregates.{where_any, sum_of, item_count, least_of, greatest_of, merged_of, counts_added}
+use Rattle.mon_value.specs.Groups.{where_any, sum_of, item_count, least_of, greatest_of, merged_of, counts_added}
 use Rattle.mon_value.specs.Groups.{column_of, numbers_in, distributions_in, rows_by_group}
-use Rattle.mon_value.specs.Limits.{greatest_sum}
+use Rattle.mon_value.specs.Values.{greatest_sum}
 use Rattle.mon_value.specs.Parts.{combined_numbers, IsWithin}
 use Rattle.mon_value.specs.Same.{same_row}
 use Rattle.mon_value.specs.declared.aggregates.Aggregate.{Aggregate}

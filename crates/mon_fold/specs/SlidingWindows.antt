@@ -1,7 +1,7 @@
 -- Windows over the points of a series, by places.
 use Rattle.std.specs.Prelude.{◌≡◌, ◌≤◌, ◌-◌, ℕ, sum_by, length, List, take, drop}
 use Rattle.mon_value.specs.Values.{magnitude}
-use Rattle.mon_value.specs.Alignments.{most_aligned, values_of}
+use Rattle.mon_value.specs.Grids.{most_aligned, values_of}
 use Rattle.mon_value.specs.Groups.{total_of}
 use Rattle.mon_value.specs.declared.rows.Point.{Point}
 use Rattle.mon_fold.specs.declared.sliding.Window.{Window}

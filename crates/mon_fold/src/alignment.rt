@@ -1,7 +1,6 @@
 // Series brought to the times of a grid.
 ghost use Rattle.std.specs.Prelude.{◌≡◌, IfOk, OnOk, ◌++◌, option_map};
-ghost use Rattle.mon_value.specs.Alignments.{aligned_values, CanAlign, newest_point, timed_values};
-ghost use Rattle.mon_value.specs.Grids.{IsLawfulGrid, time_count};
+ghost use Rattle.mon_value.specs.Grids.{aligned_values, CanAlign, newest_point, timed_values, IsLawfulGrid, time_count};
 ghost use Rattle.mon_value.specs.declared.aligners.Aligner.TheVariants.{Delta, NextOlder};
 
 use crate::sliding::{Window, window_at};

@@ -1,7 +1,7 @@
 // The least and the greatest of numbers.
 ghost use Rattle.std.specs.Prelude.{⊤, refl};
 ghost use Rattle.std.specs.Int.{int_min, int_max};
-ghost use Rattle.mon_value.specs.Aggregates.{least_of, greatest_of};
+ghost use Rattle.mon_value.specs.Groups.{least_of, greatest_of};
 ghost use Rattle.mon_value.specs.Parts.{combined_numbers};
 ghost use Rattle.mon_value.proofs.NumberPartLemmas as parts;
 ghost use Rattle.mon_value.proofs.AggregateLemmas as lists;

@@ -1,8 +1,7 @@
 // Rows put into their groups one after another.
 ghost use Rattle.std.specs.Prelude.{◌≡◌, ◌++◌, [], ◌∷◌, slice_get, IfOk, OnOk};
 ghost use Rattle.std.specs.Option.{option_copied};
-ghost use Rattle.mon_value.specs.GroupConditions.{CanGroup};
-ghost use Rattle.mon_value.specs.Groups.{group_key};
+ghost use Rattle.mon_value.specs.Groups.{CanGroup, group_key};
 ghost use Rattle.mon_fold.specs.GroupKeys.{cell_at, cells_seen, key_row, owned_groups};
 ghost use Rattle.mon_fold.specs.PartialGroups.{CanTakeGroup, PartialGroup, partial_groups, parts_over, with_group};
 

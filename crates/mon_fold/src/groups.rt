@@ -1,9 +1,8 @@
 // Rows in groups, and groups from several places together.
 ghost use Rattle.std.specs.Prelude.{◌≡◌, ◌≤◌, ◌++◌, length, map, slice_get, List, ℕ, IfOk, OnOk, OnErr};
 ghost use Rattle.std.specs.List.{filter_map};
-ghost use Rattle.mon_value.specs.GroupConditions.{CanGroup};
-ghost use Rattle.mon_value.specs.Groups.{group_rows};
-ghost use Rattle.mon_value.specs.Limits.{greatest_sum};
+ghost use Rattle.mon_value.specs.Groups.{CanGroup, group_rows};
+ghost use Rattle.mon_value.specs.Values.{greatest_sum};
 ghost use Rattle.mon_value.specs.declared.aggregates.Aggregate.{Aggregate};
 ghost use Rattle.mon_value.specs.declared.columns.Column.{Column};
 ghost use Rattle.mon_value.specs.declared.tables.TimedRow.{TimedRow};

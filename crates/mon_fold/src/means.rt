@@ -2,8 +2,8 @@
 ghost use Rattle.std.specs.Prelude.{◌≤◌, ℤ, pos, ◌+ℤ◌, ◌*ℤ◌, ◌≤ℤ◌, ◌<ℤ◌, List, IfSome, int_lt, Some, None, length};
 ghost use Rattle.std.specs.Prelude.{sum_by, unsigned_abs, if◌then◌else◌};
 ghost use Rattle.std.specs.Int.{int_div_euclid};
-ghost use Rattle.mon_value.specs.Aggregates.{sum_of, item_count, mean_of};
-ghost use Rattle.mon_value.specs.Limits.{greatest_sum};
+ghost use Rattle.mon_value.specs.Groups.{sum_of, item_count, mean_of};
+ghost use Rattle.mon_value.specs.Values.{greatest_sum};
 ghost use Rattle.mon_value.specs.Parts.{IsWithin};
 ghost use Rattle.mon_value.proofs.NumberPartLemmas as parts;
 ghost use Rattle.mon_value.proofs.AggregateLemmas as lists;

@@ -1,8 +1,8 @@
 // Distributions, merged.
 ghost use Rattle.std.specs.Prelude.{◌≡◌, ◌≤◌, ◌||◌, IfOk, length, replicate, sum, sum_by, All, Some, None};
 ghost use Rattle.std.specs.Prelude.{if◌then◌else◌};
-ghost use Rattle.mon_value.specs.Aggregates.{counts_added, counts_of, merged_of};
-ghost use Rattle.mon_value.specs.Limits.{greatest_sum};
+ghost use Rattle.mon_value.specs.Groups.{counts_added, counts_of, merged_of};
+ghost use Rattle.mon_value.specs.Values.{greatest_sum};
 ghost use Rattle.mon_value.specs.Parts.{is_any, IsZero};
 ghost use Rattle.mon_value.proofs.CountsPartLemmas as parts;
 ghost use Rattle.mon_value.proofs.NumberPartLemmas as numbers;

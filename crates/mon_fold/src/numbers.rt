@@ -1,7 +1,7 @@
 // The number of items.
 ghost use Rattle.std.specs.Prelude.{◌≤◌, pos, ◌+ℤ◌, int_lt, Some, None, length, if◌then◌else◌};
-ghost use Rattle.mon_value.specs.Aggregates.{where_any, item_count};
-ghost use Rattle.mon_value.specs.Limits.{greatest_sum};
+ghost use Rattle.mon_value.specs.Groups.{where_any, item_count};
+ghost use Rattle.mon_value.specs.Values.{greatest_sum};
 ghost use Rattle.mon_value.specs.Parts.{IsWithin};
 ghost use Rattle.mon_value.proofs.NumberPartLemmas as parts;
 ghost use Rattle.mon_value.proofs.AggregateLemmas as lists;

@@ -1,7 +1,7 @@
 // The sum of numbers.
 ghost use Rattle.std.specs.Prelude.{◌≤◌, ◌+ℤ◌, IfSome, refl, unsigned_abs, sum_by};
-ghost use Rattle.mon_value.specs.Aggregates.{where_any, sum_of};
-ghost use Rattle.mon_value.specs.Limits.{greatest_sum};
+ghost use Rattle.mon_value.specs.Groups.{where_any, sum_of};
+ghost use Rattle.mon_value.specs.Values.{greatest_sum};
 ghost use Rattle.mon_value.specs.Parts.{combined_numbers, IsWithin};
 ghost use Rattle.mon_value.proofs.NumberPartLemmas as parts;
 ghost use Rattle.mon_value.proofs.AggregateLemmas as lists;

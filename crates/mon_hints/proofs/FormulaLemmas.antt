@@ -4,8 +4,7 @@ use Rattle.std.proofs.lemmas.Bool.{and_parts, and_from, or_cases, or_left, or_ri
 use Rattle.std.specs.declared.vec.Vec.{Vec}
 use Rattle.std.specs.declared.alloc.Global.{Global}
 use Rattle.mon_hints.specs.Formulas.{FormulaTree, All, Bucket, And, Or, FormulaTrees, NoFormula, Then, formulas, holds}
-use Rattle.mon_hints.specs.Formulas.{all_hold, any_holds, formula_tree, row_trees}
-use Rattle.mon_hints.specs.Listings.{AreAmong}
+use Rattle.mon_hints.specs.Formulas.{all_hold, any_holds, formula_tree, row_trees, AreAmong}
 use Rattle.mon_hints.specs.declared.formulas.Formula.{Formula, Row_of-Formula, end_of-Formula, more_of-Formula}
 use Rattle.mon_hints.specs.declared.formulas.Formula.{items-the_row-Formula, items_hidden-the_row-Formula-0}
 use Rattle.mon_hints.specs.declared.formulas.Formula.TheBlock.{hidden-the_row-Formula-0}

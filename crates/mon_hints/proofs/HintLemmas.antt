@@ -8,9 +8,8 @@ use Rattle.mon_value.specs.declared.schemas.MetricSchema.{MetricSchema}
 use Rattle.mon_value.specs.declared.schemas.TargetSchema.{TargetSchema}
 use Rattle.mon_value.specs.declared.values.FieldValue.{FieldValue}
 use Rattle.mon_hints.specs.BucketSets.{no_bucket, with_bucket, with_buckets}
-use Rattle.mon_hints.specs.Excerpts.{value_excerpts}
-use Rattle.mon_hints.specs.Fingerprints.{bucket_of, fingerprint_of, with_byte, with_bytes}
-use Rattle.mon_hints.specs.Hints.{field_buckets, series_buckets, value_buckets}
+use Rattle.mon_hints.specs.Hints.{value_excerpts, bucket_of, fingerprint_of, with_byte, with_bytes, field_buckets}
+use Rattle.mon_hints.specs.Hints.{series_buckets, value_buckets}
 use Rattle.mon_hints.specs.Labels.{bucket_behind, buckets_behind, buckets_of_pairs, with_label}
 use Rattle.mon_hints.specs.declared.fingerprints.TheConstants.{START}
 

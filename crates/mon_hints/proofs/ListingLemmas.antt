@@ -13,7 +13,7 @@ use Rattle.std.proofs.lemmas.List.Sorted.{list_any-IsPermutation}
 use Rattle.std.proofs.lemmas.Map.Keys.{IsStrictlyIncreasing-dedup}
 use Rattle.mon_hints.proofs.TruthLemmas.{and_false, or_false, or_once}
 use Rattle.mon_hints.specs.BucketSets.{HasNone, IsNext}
-use Rattle.mon_hints.specs.Listings.{IsListing, is_among}
+use Rattle.mon_hints.specs.Formulas.{IsListing, is_among}
 
 -- ---- one more
 

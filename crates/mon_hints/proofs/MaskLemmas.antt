@@ -5,7 +5,7 @@ use Rattle.std.specs.Prelude.{bit_and, bit_or}
 use Rattle.std.specs.Int.{bit_at}
 use Rattle.std.proofs.lemmas.Nat.Bits.{bit_at-lt, bit_at-zero, bit_at_and, bit_at_ones, bit_at_or}
 use Rattle.mon_hints.proofs.TruthLemmas.{and_turned, or_false, or_turned}
-use Rattle.mon_hints.specs.Words.{IsMask, has_bit}
+use Rattle.mon_hints.specs.Hints.{IsMask, has_bit}
 
 both_bits : (m n : ℕ) → m < 2 → n < 2 → (min m n == 1) ≡ ((m == 1) && (n == 1))
 both_bits zero zero h k = refl

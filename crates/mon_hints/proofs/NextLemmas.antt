@@ -8,7 +8,7 @@ use Rattle.std.proofs.lemmas.Nat.{and_le_l}
 use Rattle.std.proofs.lemmas.Nat.Bits.{bit_at-lt, bit_at-trailing_zeros, bit_at-zero, bit_at_and, bit_at_mask_below}
 use Rattle.std.proofs.lemmas.Nat.Bits.{bit_at_mask_inside, ones_shl}
 use Rattle.mon_hints.specs.BucketSets.{IsNext}
-use Rattle.mon_hints.specs.Words.{has_bit}
+use Rattle.mon_hints.specs.Hints.{has_bit}
 
 bit_cleared : (word bit : ℕ) → bit_at word bit ≡ 0 → has_bit word bit ≡ false
 bit_cleared word bit e = ap (λ b. b == 1) e

@@ -7,10 +7,9 @@ use Rattle.std.proofs.lemmas.Bool.{and_parts, and_from, or_cases, or_left, or_ri
 use Rattle.std.proofs.lemmas.List.{take-append-drop, append_assoc}
 use Rattle.std.proofs.lemmas.List.Folds.{list_all-append}
 use Rattle.mon_value.proofs.SameLemmas.{same_text-Decides}
-use Rattle.mon_value.specs.Patterns.{IsMatch, last_piece, next_piece, holds_behind, is_match}
-use Rattle.mon_value.specs.Same.{same_text}
-use Rattle.mon_hints.specs.Excerpts.{are_among, back, with_front_marks, with_back_marks, front, pattern_excerpts}
-use Rattle.mon_hints.specs.Excerpts.{text_excerpts, windows}
+use Rattle.mon_value.specs.Same.{IsMatch, last_piece, next_piece, holds_behind, is_match, same_text}
+use Rattle.mon_hints.specs.Hints.{are_among, back, with_front_marks, with_back_marks, front, pattern_excerpts}
+use Rattle.mon_hints.specs.Hints.{text_excerpts, windows}
 use Rattle.mon_hints.proofs.WindowLemmas.{Pass, pass_back, pass_front, pass_tail}
 
 -- every excerpt passes, of pieces of which the first has these marks in front of it

@@ -9,8 +9,8 @@ use Rattle.std.proofs.lemmas.Nat.{div-add-mod', div_below, mod_below}
 use Rattle.std.proofs.lemmas.Nat.Bits.{bit_at_set_same, bit_at_set_other, bit_at-zero}
 use Rattle.mon_hints.proofs.TruthLemmas.{or_exchanged, or_false}
 use Rattle.mon_hints.specs.BucketSets.{is_set, no_bucket, with_bucket, with_buckets}
-use Rattle.mon_hints.specs.Listings.{is_among}
-use Rattle.mon_hints.specs.Words.{has_bit}
+use Rattle.mon_hints.specs.Formulas.{is_among}
+use Rattle.mon_hints.specs.Hints.{has_bit}
 
 -- ---- which buckets a set has
 

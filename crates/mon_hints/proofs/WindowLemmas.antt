@@ -2,7 +2,7 @@
 use Rattle.std.proofs.Common.{◌≡◌, ℕ, ◌<◌, Bool, true, List, [], ◌∷◌, ◌++◌, length, refl, arith}
 use Rattle.std.specs.List.{list_all}
 use Rattle.std.proofs.lemmas.Bool.{and_parts, and_from}
-use Rattle.mon_hints.specs.Excerpts.{windows}
+use Rattle.mon_hints.specs.Hints.{windows}
 
 -- every window passes
 abbrev pub Pass : (List ℕ → Bool) → List ℕ → Type 0

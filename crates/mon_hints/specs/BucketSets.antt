@@ -1,6 +1,6 @@
 -- Sets of buckets, and how one is kept: a bit for each bucket.
 use Rattle.std.specs.Prelude.{◌≡◌, ℕ, ◌/◌, ◌%◌, ◌<◌, ◌≤◌, ◌==◌, ◌||◌, Bool, true, false, List, fold, get_or}
-use Rattle.mon_hints.specs.Words.{has_bit}
+use Rattle.mon_hints.specs.Hints.{has_bit}
 
 -- whether a bucket's bit is set
 abbrev pub is_set : List ℕ → ℕ → Bool

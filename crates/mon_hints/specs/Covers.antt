@@ -1,6 +1,6 @@
 -- Which bits of the hint words are known, and whether they lead to all that a leaf has.
 use Rattle.std.specs.Prelude.{ℕ, ◌≡◌, ◌||◌, ◌&&◌, Bool, true, nat_eq, List}
-use Rattle.mon_hints.specs.Listings.{is_among}
+use Rattle.mon_hints.specs.Formulas.{is_among}
 use Rattle.mon_value.specs.declared.positions.Leaf.{Leaf}
 use Rattle.mon_value.specs.declared.positions.Zone.{Zone}
 

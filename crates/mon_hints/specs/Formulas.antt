@@ -1,8 +1,26 @@
 -- Formulas: which buckets a series must have.
-use Rattle.std.specs.Prelude.{ℕ, Bool, true, false, ◌&&◌, ◌||◌, List, [], ◌∷◌, ◌++◌}
-use Rattle.mon_hints.specs.Listings.{is_among}
+use Rattle.std.specs.Prelude.{◌≡◌, ℕ, ◌==◌, Bool, true, List, false, ◌&&◌, ◌||◌, [], ◌∷◌, ◌++◌}
+use Rattle.std.specs.List.{list_any}
+use Rattle.std.specs.List.Sorted.{IsStrictlyIncreasing}
 use Rattle.mon_hints.specs.declared.formulas.Formula.{Formula, Row_of-Formula, end_of-Formula, more_of-Formula}
 use Rattle.mon_hints.specs.declared.formulas.Formula.TheVariants as formula
+
+-- Buckets listed: rising, each once.
+
+-- whether a number is in a list
+abbrev pub is_among : ℕ → List ℕ → Bool
+is_among n numbers = list_any (λ other. n == other) numbers
+
+-- whatever is in a list is in another one
+abbrev pub AreAmong : List ℕ → List ℕ → Type 0
+AreAmong some others = (n : ℕ) → is_among n some ≡ true → is_among n others ≡ true
+
+-- the listing of some buckets has just these, rising, each once
+pub record IsListing (buckets listed : List ℕ) : Type 0 where
+  pub rising : IsStrictlyIncreasing listed
+  pub same : (bucket : ℕ) → is_among bucket listed ≡ is_among bucket buckets
+
+-- Formulas: which buckets a series must have.
 
 -- a formula, apart from where it lies in memory, and formulas in order
 mutual

@@ -3,8 +3,7 @@ use Rattle.std.specs.Prelude.{ℕ, ◌%◌, List, map}
 use Rattle.std.specs.List.{flat_map}
 use Rattle.mon_value.specs.declared.schemas.Field.{Field}
 use Rattle.mon_value.specs.declared.values.FieldValue.{FieldValue}
-use Rattle.mon_hints.specs.Excerpts.{value_excerpts}
-use Rattle.mon_hints.specs.Fingerprints.{with_byte, with_bytes}
+use Rattle.mon_hints.specs.Hints.{value_excerpts, with_byte, with_bytes}
 
 -- a label: a text, and the zero behind it
 abbrev pub with_label : ℕ → List ℕ → ℕ

@@ -1,11 +1,6 @@
 pub mod BucketSets
 pub mod Covers
-pub mod Excerpts
-pub mod Fingerprints
 pub mod Formulas
 pub mod Hints
-pub mod HistoryBuckets
 pub mod Labels
-pub mod Listings
 pub mod Places
-pub mod Words

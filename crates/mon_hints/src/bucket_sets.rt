@@ -1,7 +1,7 @@
 // Sets of buckets.
 ghost use Rattle.std.specs.Prelude.{◌≡◌, ℕ, ◌<◌, ◌≤◌, false, IfSome, IfNone};
 ghost use Rattle.mon_hints.specs.BucketSets.{HasNone, IsNext, is_set, no_bucket, with_bucket};
-ghost use Rattle.mon_hints.specs.Words.{has_bit};
+ghost use Rattle.mon_hints.specs.Hints.{has_bit};
 
 use mon_value::MOST_BUCKETS;
 

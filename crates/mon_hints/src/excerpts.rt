@@ -1,7 +1,7 @@
 // What is looked for in a value.
 ghost use Rattle.std.specs.Prelude.{◌≡◌, [], ◌∷◌, ◌++◌, IfOk, OnOk};
 ghost use Rattle.mon_value.specs.Values.{truth_text};
-ghost use Rattle.mon_hints.specs.Excerpts.{pattern_excerpts, value_excerpts, windows};
+ghost use Rattle.mon_hints.specs.Hints.{pattern_excerpts, value_excerpts, windows};
 
 use itoa::Buffer;
 use mon_value::{FieldValue, ListOf, OutOfMemory, Texts};

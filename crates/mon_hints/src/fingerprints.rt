@@ -1,6 +1,6 @@
 // The number that stands for an excerpt of a field: 64-bit FNV-1a.
 ghost use Rattle.std.specs.Prelude.{◌≡◌, ◌<◌, ◌%◌};
-ghost use Rattle.mon_hints.specs.Fingerprints as spec;
+ghost use Rattle.mon_hints.specs.Hints as spec;
 ghost use Rattle.mon_hints.specs.Labels.{with_label};
 
 use mon_value::ListOf;

@@ -1,7 +1,6 @@
 // Formulas over buckets.
 ghost use Rattle.std.specs.Prelude.{◌≡◌, ◌++◌, map, IfOk, OnOk};
-ghost use Rattle.mon_hints.specs.Formulas.{formula_tree, formulas, named_buckets, all_named};
-ghost use Rattle.mon_hints.specs.Listings.{IsListing};
+ghost use Rattle.mon_hints.specs.Formulas.{formula_tree, formulas, named_buckets, all_named, IsListing};
 
 use crate::fingerprints::Buckets;
 use mon_value::OutOfMemory;

@@ -2,10 +2,9 @@
 ghost use Rattle.std.specs.Prelude.{◌≡◌, ◌<◌, ◌≤◌, IfOk, IfSome, IfNone};
 ghost use Rattle.std.specs.List.{zip};
 ghost use Rattle.mon_hints.specs.BucketSets.{HasNone, IsNext, is_set, no_bucket, with_bucket, with_buckets};
-ghost use Rattle.mon_hints.specs.Excerpts.{text_excerpts, value_excerpts};
-ghost use Rattle.mon_hints.specs.Hints.{series_buckets};
+ghost use Rattle.mon_hints.specs.Hints.{text_excerpts, value_excerpts, series_buckets};
 ghost use Rattle.mon_hints.specs.Labels.{bucket_behind, buckets_behind, buckets_of_pairs};
-ghost use Rattle.mon_hints.specs.Listings.{IsListing, is_among};
+ghost use Rattle.mon_hints.specs.Formulas.{IsListing, is_among};
 
 use crate::bucket_sets::BucketSet;
 use crate::excerpts::{BACK_MARK, FRONT_MARK, truth_bytes};

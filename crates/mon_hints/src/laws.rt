@@ -1,10 +1,9 @@
 // What hints promise, as laws of the definitions.
 ghost use Rattle.std.specs.Prelude.{◌≡◌, ℕ, Bool, true, List};
 ghost use Rattle.std.specs.List.{list_all};
-ghost use Rattle.mon_value.specs.Patterns.{IsMatch, is_match};
-ghost use Rattle.mon_hints.specs.Excerpts.{are_among, pattern_excerpts, text_excerpts};
-ghost use Rattle.mon_hints.specs.Formulas.{FormulaTree, holds};
-ghost use Rattle.mon_hints.specs.Listings.{AreAmong};
+ghost use Rattle.mon_value.specs.Same.{IsMatch, is_match};
+ghost use Rattle.mon_hints.specs.Hints.{are_among, pattern_excerpts, text_excerpts};
+ghost use Rattle.mon_hints.specs.Formulas.{FormulaTree, holds, AreAmong};
 
 /// A formula that holds of some buckets holds of more buckets too.
 pub fn formulas_stay_true()

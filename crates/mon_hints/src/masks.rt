@@ -1,9 +1,8 @@
 // Which of 64 children a formula holds of.
 ghost use Rattle.std.specs.Prelude.{◌≡◌, get_or, map, IsTrue};
 ghost use Rattle.std.specs.List.Sorted.{IsStrictlyIncreasing};
-ghost use Rattle.mon_hints.specs.Formulas.{formula_tree, formulas, holds, all_hold, any_holds};
-ghost use Rattle.mon_hints.specs.Listings.{is_among};
-ghost use Rattle.mon_hints.specs.Words.{buckets_of_child, IsMask};
+ghost use Rattle.mon_hints.specs.Formulas.{formula_tree, formulas, holds, all_hold, any_holds, is_among};
+ghost use Rattle.mon_hints.specs.Hints.{buckets_of_child, IsMask};
 
 use crate::fingerprints::Buckets;
 use crate::formulas::Formula;

@@ -9,8 +9,7 @@ use Rattle.mon_value.specs.declared.tables.TimedRow.{TimedRow}
 use Rattle.mql_types.proofs.FetchColumnLemmas.{fetches_have_columns}
 use Rattle.mql_types.proofs.QueryLaws.{typed_evaluable}
 use Rattle.mql_types.proofs.TypedGridLemmas.{typed_grid}
-use Rattle.mql_types.specs.Loads.{load}
-use Rattle.mql_types.specs.Meaning.{grid_of, meaning}
+use Rattle.mql_types.specs.Meaning.{load, grid_of, meaning}
 use Rattle.mql_types.specs.Nodes.{TypedTree, columns_of}
 use Rattle.mon_meaning.specs.Central.{IsAsked, IsMeant, IsPartAsked, IsRefusedBy}
 use Rattle.mon_meaning.specs.Counts.{TellsOver}

@@ -5,18 +5,16 @@ use Rattle.std.proofs.Common.{refl, sym, ap, subst, ◌∙◌, arith}
 use Rattle.std.specs.List.{AllByRecursion, filter, flat_map, sum_by}
 use Rattle.std.proofs.lemmas.List.Elements.{filter_agree}
 use Rattle.std.proofs.lemmas.List.Sums.{sum_by-cons}
-use Rattle.mon_value.specs.Alignments.{CanAlign, aligned_values}
-use Rattle.mon_value.specs.Grids.{IsLawfulGrid}
-use Rattle.mon_value.specs.SeriesRows.{cells_of, row_of}
+use Rattle.mon_value.specs.Grids.{CanAlign, aligned_values, IsLawfulGrid}
+use Rattle.mon_value.specs.Order.{cells_of, row_of}
 use Rattle.mon_value.specs.declared.aligners.Aligner.{Aligner}
 use Rattle.mon_value.specs.declared.grids.Grid.{Grid}
 use Rattle.mon_value.specs.declared.rows.Point.{Point}
 use Rattle.mon_value.specs.declared.rows.SeriesKey.{SeriesKey}
 use Rattle.mon_value.specs.declared.values.Value.{Value}
 use Rattle.mon_value.proofs.SameLemmas.{both}
-use Rattle.mql_ast.specs.Truths.{predicate_truth}
-use Rattle.mql_types.specs.Loads.{lets_in, meets, names_keys, series_cells}
-use Rattle.mql_types.specs.Meaning.{is_fetched}
+use Rattle.mql_ast.specs.Rows.{predicate_truth}
+use Rattle.mql_types.specs.Meaning.{lets_in, meets, names_keys, series_cells, is_fetched}
 use Rattle.mql_types.specs.Nodes as node
 use Rattle.mql_types.specs.Nodes.{NodeTree}
 use Rattle.mon_meaning.specs.within.FetchViews.{FetchView, FetchesNothing, IsFetchOf, all_filters_hold, is_fetch_met}

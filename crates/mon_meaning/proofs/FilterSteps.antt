@@ -3,13 +3,13 @@ use Rattle.std.proofs.Common.{◌≡◌, Bool, true, false, ◌&&◌, ◌||◌, 
 use Rattle.std.proofs.lemmas.List.Folds.{list_all-append}
 use Rattle.mon_expr.specs.BoundPredicates.{IsBoundPredicate, bound_truth}
 use Rattle.mon_expr.specs.declared.condition_lists.BoundPredicate.{BoundPredicate}
-use Rattle.mon_value.specs.SeriesRows.{cells_of}
+use Rattle.mon_value.specs.Order.{cells_of}
 use Rattle.mon_value.specs.declared.columns.Column.{Column}
 use Rattle.mon_value.specs.declared.rows.SeriesKey.{SeriesKey}
 use Rattle.mon_value.specs.declared.values.Value.{Value}
 use Rattle.mql_ast.specs.Trees.{PredicateTree}
-use Rattle.mql_ast.specs.Truths.{predicate_truth}
-use Rattle.mql_types.specs.Loads.{meets, names_keys, series_cells}
+use Rattle.mql_ast.specs.Rows.{predicate_truth}
+use Rattle.mql_types.specs.Meaning.{meets, names_keys, series_cells}
 use Rattle.mql_types.specs.Nodes as node
 use Rattle.mql_types.specs.Nodes.{NodeTree}
 use Rattle.mql_types.specs.declared.nodes.NodeInfo.{NodeInfo}

@@ -7,12 +7,11 @@ use Rattle.std.specs.Prelude.{if◌then◌else◌}
 use Rattle.mon_expr.proofs.NoValueLemmas.{none_exactly}
 use Rattle.mon_expr.specs.BoundSums.{CanEvaluate, IsBoundExpr}
 use Rattle.mon_expr.specs.declared.bound_sums.BoundExpr.{BoundExpr}
-use Rattle.mon_value.specs.Joins.{Named}
+use Rattle.mon_value.specs.Tables.{Named}
 use Rattle.mon_value.specs.declared.columns.Column.{Column}
 use Rattle.mon_value.specs.declared.tables.TimedRow.{TimedRow}
 use Rattle.mon_value.specs.declared.values.Value.{Value}
-use Rattle.mql_ast.specs.Sums.{meets_no_values, sum_value}
-use Rattle.mql_ast.specs.SumWidths.{CanCompute, HasShares, IsTypedSum}
+use Rattle.mql_ast.specs.Rows.{meets_no_values, sum_value, CanCompute, HasShares, IsTypedSum}
 use Rattle.mql_ast.specs.Trees.{ItemTree}
 use Rattle.mql_types.specs.Meaning.{key_cells, value_row}
 use Rattle.mon_meaning.specs.within.Items.{AreBound, CanMake, all_values, row_made, with_value}

@@ -5,7 +5,7 @@ use Rattle.std.specs.List.{filter}
 use Rattle.std.proofs.lemmas.List.{take_more}
 use Rattle.std.proofs.lemmas.List.Elements.{filter-append}
 use Rattle.mon_expr.specs.declared.condition_lists.BoundPredicate.{BoundPredicate}
-use Rattle.mon_value.specs.SeriesRows.{cells_of}
+use Rattle.mon_value.specs.Order.{cells_of}
 use Rattle.mon_value.specs.declared.rows.Point.{Point}
 use Rattle.mon_value.specs.declared.rows.SeriesKey.{SeriesKey}
 use Rattle.mon_meaning.specs.within.FetchViews.{FetchView, all_filters_hold, keeps, points_kept}

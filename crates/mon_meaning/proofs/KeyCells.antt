@@ -5,9 +5,8 @@ use Rattle.std.specs.Prelude.{slice_get}
 use Rattle.std.specs.Option.{option_map_or}
 use Rattle.std.proofs.lemmas.List.{length-map}
 use Rattle.mon_value.proofs.SameLemmas.{both, same_text-Decides}
-use Rattle.mon_value.specs.Order.{field_as_value}
+use Rattle.mon_value.specs.Order.{field_as_value, cells_of}
 use Rattle.mon_value.specs.Same.{same_text}
-use Rattle.mon_value.specs.SeriesRows.{cells_of}
 use Rattle.mon_value.specs.declared.columns.Column.{Column}
 use Rattle.mon_value.specs.declared.rows.Row.{Row}
 use Rattle.mon_value.specs.declared.rows.SeriesKey.{SeriesKey}
@@ -17,13 +16,12 @@ use Rattle.mon_value.specs.declared.schemas.TargetSchema.{TargetSchema}
 use Rattle.mon_value.specs.declared.values.FieldValue.{FieldValue}
 use Rattle.mon_value.specs.declared.values.Value.{Value}
 use Rattle.mon_schema.specs.Fits.{field_fits, fields_fit, fits, fits_both, times_fit, value_fits}
-use Rattle.mon_schema.specs.SchemaLists.{SchemaLists, metric_named, target_named}
-use Rattle.mql_ast.specs.NamedCells.{place_of}
+use Rattle.mon_schema.specs.Names.{SchemaLists, metric_named, target_named}
+use Rattle.mql_ast.specs.Rows.{place_of, is_compared, is_like, is_passed, predicate_truth}
 use Rattle.mql_ast.specs.Trees as tree
 use Rattle.mql_ast.specs.Trees.{PredicateTree}
-use Rattle.mql_ast.specs.Truths.{is_compared, is_like, is_passed, predicate_truth}
 use Rattle.mql_types.specs.Fetches.{fetch_columns, key_column, target_columns, value_column}
-use Rattle.mql_types.specs.Loads.{is_key_name, names_keys, series_cells}
+use Rattle.mql_types.specs.Meaning.{is_key_name, names_keys, series_cells}
 use Rattle.mql_types.specs.Nodes as node
 use Rattle.mql_types.specs.Nodes.{NodeTree, columns_of}
 use Rattle.mql_types.specs.Plans.{HasFetchColumns}

@@ -11,7 +11,7 @@ use Rattle.std.proofs.lemmas.List.Sums.{sum_by-cons}
 use Rattle.mon_value.proofs.KeyedLemmas as keyed
 use Rattle.mon_value.proofs.PermutationLemmas.{along_permutation, filter-permutation, flat_map-permutation}
 use Rattle.mon_value.proofs.PermutationLemmas.{front_exchanged}
-use Rattle.mon_value.specs.Keyed.{items_with, keys_of}
+use Rattle.mon_value.specs.Same.{items_with, keys_of}
 use Rattle.mon_meaning.proofs.FilterLemmas.{filter_swap, filter_twice}
 
 module _ {K A : Type 0} (same : K → K → Bool) (decides : (a b : K) → Decides (same a b) (a ≡ b)) (key_of : A → K) where

@@ -9,7 +9,7 @@ use Rattle.mon_value.proofs.PermutationLemmas.{filter-permutation, flat_map-perm
 use Rattle.mon_value.proofs.SameLemmas.{same_series-Decides}
 use Rattle.mon_value.proofs.SourceLemmas.{has_series}
 use Rattle.mon_value.specs.Same.{same_series}
-use Rattle.mon_value.specs.Sources.{points_by_series, points_of, rows_of}
+use Rattle.mon_value.specs.LeafHistories.{points_by_series, points_of, rows_of}
 use Rattle.mon_value.specs.declared.grids.Grid.{Grid}
 use Rattle.mon_value.specs.declared.refusals.Refusal.{Refusal}
 use Rattle.mon_value.specs.declared.refusals.Refusal.TheVariants as refusal
@@ -18,9 +18,8 @@ use Rattle.mon_value.specs.declared.rows.Row.{Row}
 use Rattle.mon_value.specs.declared.rows.SeriesKey.{SeriesKey}
 use Rattle.mon_value.specs.declared.tables.Table.{Table}
 use Rattle.mon_value.specs.declared.tables.TimedRow.{TimedRow}
-use Rattle.mql_ast.specs.Truths.{predicate_truth}
-use Rattle.mql_types.specs.Loads.{load}
-use Rattle.mql_types.specs.Meaning.{grid_of, meaning, value_row}
+use Rattle.mql_ast.specs.Rows.{predicate_truth}
+use Rattle.mql_types.specs.Meaning.{load, grid_of, meaning, value_row}
 use Rattle.mql_types.specs.Nodes as node
 use Rattle.mql_types.specs.Nodes.{NodeTree, TypedTree, columns_of}
 use Rattle.mon_meaning.specs.Central.{IsAnswer, IsRefusedBy}

@@ -8,7 +8,7 @@ use Rattle.std.proofs.lemmas.List.Sums.{sum_by-cons}
 use Rattle.mon_series.proofs.MetricLemmas.{keys_in, keys_of_groups}
 use Rattle.mon_series.specs.MetricNumbers.{metric_numbers, numbers_from}
 use Rattle.mon_value.specs.Same.{same_text}
-use Rattle.mon_value.specs.Sources.{points_by_series, points_of, series_of}
+use Rattle.mon_value.specs.LeafHistories.{points_by_series, points_of, series_of}
 use Rattle.mon_value.specs.declared.aligners.Aligner.{Aligner}
 use Rattle.mon_value.specs.declared.grids.Grid.{Grid}
 use Rattle.mon_value.specs.declared.rows.Row.{Row}

@@ -16,16 +16,12 @@ use Rattle.mon_value.proofs.PermutationLemmas.{filter-permutation, flat_map-alik
 use Rattle.mon_value.proofs.RowOrderLemmas.{row_exact, row_total}
 use Rattle.mon_value.proofs.SameLemmas.{same_row-Decides}
 use Rattle.mon_value.proofs.SortingLemmas.{sorted_list-alike}
-use Rattle.mon_value.specs.Aggregates.{sum_of}
-use Rattle.mon_value.specs.Columns.{FitColumns}
-use Rattle.mon_value.specs.GroupConditions.{CanGroup, SumsFit, UnlessCount, rows_at}
-use Rattle.mon_value.specs.Groups.{aggregate_made, cells_at, column_of, counts_in, group_key, group_keys, group_row}
-use Rattle.mon_value.specs.Groups.{group_rows, number_in, numbers_in, rows_in}
-use Rattle.mon_value.specs.Joins.{is_pair, pair_of, pairs_of}
-use Rattle.mon_value.specs.Order.{TellsApart, row_cmp, value_cmp}
+use Rattle.mon_value.specs.Groups.{sum_of, CanGroup, SumsFit, UnlessCount, rows_at, aggregate_made, cells_at, column_of}
+use Rattle.mon_value.specs.Groups.{counts_in, group_key, group_keys, group_row, group_rows, number_in, numbers_in}
+use Rattle.mon_value.specs.Groups.{rows_in, rank_cmp, top_rows}
+use Rattle.mon_value.specs.Tables.{FitColumns, is_pair, pair_of, pairs_of}
+use Rattle.mon_value.specs.Order.{TellsApart, row_cmp, value_cmp, sorted_list}
 use Rattle.mon_value.specs.Same.{same_row}
-use Rattle.mon_value.specs.Sorting.{sorted_list}
-use Rattle.mon_value.specs.Tops.{rank_cmp, top_rows}
 use Rattle.mon_value.specs.Values.{magnitude}
 use Rattle.mon_value.specs.declared.aggregates.Aggregate.{Aggregate}
 use Rattle.mon_value.specs.declared.aggregates.AggregateKind.{AggregateKind}

@@ -1,12 +1,11 @@
 -- What a part of a tree means over rows is what it is evaluated to over their series.
 use Rattle.std.proofs.Common.{◌≡◌, List, sym, ap, subst, ◌∙◌}
 use Rattle.std.specs.Prelude.{IfOk, IsPermutation, Result, Ok, Err}
-use Rattle.mon_value.specs.Sources.{points_by_series}
+use Rattle.mon_value.specs.LeafHistories.{points_by_series}
 use Rattle.mon_value.specs.declared.grids.Grid.{Grid}
 use Rattle.mon_value.specs.declared.rows.Row.{Row}
 use Rattle.mon_value.specs.declared.tables.TimedRow.{TimedRow}
-use Rattle.mql_types.specs.Loads.{load_of}
-use Rattle.mql_types.specs.Meaning.{rows_meant}
+use Rattle.mql_types.specs.Meaning.{load_of, rows_meant}
 use Rattle.mql_types.specs.Nodes.{NodeTree}
 use Rattle.mon_meaning.specs.Central.{IsPartAsked}
 use Rattle.mon_meaning.specs.within.Readiness.{IsNodeReady}

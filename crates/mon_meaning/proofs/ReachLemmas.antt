@@ -6,16 +6,14 @@ use Rattle.std.specs.List.{AllByRecursion, filter, flat_map}
 use Rattle.std.proofs.lemmas.Int.{ints}
 use Rattle.std.proofs.lemmas.List.Elements.{filter_agree}
 use Rattle.mon_fold.proofs.AlignmentLemmas.{alike_filtered}
-use Rattle.mon_value.specs.Alignments.{CanAddUnder, CanAlign, SumFits, aligned_values, seconds_of, timed_values}
-use Rattle.mon_value.specs.Alignments.{value_at}
-use Rattle.mon_value.specs.Alignments.{value_made}
-use Rattle.mon_value.specs.Grids.{IsLawfulGrid, grid_times, least_time, time_count, times_back}
-use Rattle.mon_value.specs.Windows.{ends_within, window_of}
+use Rattle.mon_value.specs.Grids.{CanAddUnder, CanAlign, SumFits, aligned_values, seconds_of, timed_values, value_at}
+use Rattle.mon_value.specs.Grids.{value_made, IsLawfulGrid, grid_times, least_time, time_count, times_back, ends_within}
+use Rattle.mon_value.specs.Grids.{window_of}
 use Rattle.mon_value.specs.declared.aligners.Aligner.{Aligner}
 use Rattle.mon_value.specs.declared.aligners.Aligner.TheVariants as aligner
 use Rattle.mon_value.specs.declared.grids.Grid.{Grid}
 use Rattle.mon_value.specs.declared.rows.Point.{Point}
-use Rattle.mql_types.specs.Loads.{is_in_reach}
+use Rattle.mql_types.specs.Meaning.{is_in_reach}
 use Rattle.mon_meaning.specs.within.Reach.{points_within_reach}
 use Rattle.mon_meaning.proofs.FilterLemmas.{filter_swap, filter_twice}
 

@@ -4,10 +4,9 @@ use Rattle.std.proofs.Common.{subst, ◌∙◌, arith}
 use Rattle.std.specs.List.{AllByRecursion, filter}
 use Rattle.mon_value.proofs.KeyedLemmas as keyed
 use Rattle.mon_value.proofs.SameLemmas.{same_series-Decides}
-use Rattle.mon_value.specs.Alignments.{CanAddUnder, CanAlign, SumFits, seconds_of}
-use Rattle.mon_value.specs.Grids.{IsDuration, IsLawfulGrid, grid_times}
+use Rattle.mon_value.specs.Grids.{CanAddUnder, CanAlign, SumFits, seconds_of, IsDuration, IsLawfulGrid, grid_times}
 use Rattle.mon_value.specs.Same.{same_series}
-use Rattle.mon_value.specs.Sources.{key_of_row, points_by_series, points_of, series_of}
+use Rattle.mon_value.specs.LeafHistories.{key_of_row, points_by_series, points_of, series_of}
 use Rattle.mon_value.specs.declared.aligners.Aligner.{Aligner}
 use Rattle.mon_value.specs.declared.aligners.Aligner.TheVariants as aligner
 use Rattle.mon_value.specs.declared.grids.Grid.{Grid}
@@ -16,8 +15,8 @@ use Rattle.mon_value.specs.declared.rows.Row.{Row}
 use Rattle.mon_value.specs.declared.rows.SeriesKey.{SeriesKey}
 use Rattle.mon_value.specs.declared.tables.TimedRow.{TimedRow}
 use Rattle.mon_schema.specs.Fits.{fits}
-use Rattle.mon_schema.specs.SchemaLists.{SchemaLists}
-use Rattle.mql_ast.specs.SumWidths.{CanCompute}
+use Rattle.mon_schema.specs.Names.{SchemaLists}
+use Rattle.mql_ast.specs.Rows.{CanCompute}
 use Rattle.mql_types.specs.Meaning.{points_meant, rows_meant}
 use Rattle.mql_types.specs.Nodes as node
 use Rattle.mql_types.specs.Nodes.{NodeTree, columns_of}

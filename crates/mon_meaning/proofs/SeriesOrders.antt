@@ -8,12 +8,10 @@ use Rattle.std.proofs.lemmas.List.Sorted.{IsPermutation-append, IsPermutation-re
 use Rattle.std.proofs.lemmas.List.Sums.{sum_by-cons}
 use Rattle.mon_value.proofs.PermutationLemmas.{filter-permutation}
 use Rattle.mon_value.proofs.SameLemmas.{same_series-Decides}
-use Rattle.mon_value.specs.Alignments.{aligned_values, timed_values, value_at}
-use Rattle.mon_value.specs.Grids.{grid_times}
-use Rattle.mon_value.specs.Keyed.{items_with}
-use Rattle.mon_value.specs.Same.{same_series}
-use Rattle.mon_value.specs.SeriesRows.{row_of}
-use Rattle.mon_value.specs.Sources.{key_of_row, points_by_series, points_of, rows_of, series_of}
+use Rattle.mon_value.specs.Grids.{aligned_values, timed_values, value_at, grid_times}
+use Rattle.mon_value.specs.Same.{items_with, same_series}
+use Rattle.mon_value.specs.Order.{row_of}
+use Rattle.mon_value.specs.LeafHistories.{key_of_row, points_by_series, points_of, rows_of, series_of}
 use Rattle.mon_value.specs.declared.aligners.Aligner.{Aligner}
 use Rattle.mon_value.specs.declared.aligners.Aligner.TheVariants as aligner
 use Rattle.mon_value.specs.declared.grids.Grid.{Grid}
@@ -21,12 +19,11 @@ use Rattle.mon_value.specs.declared.rows.Point.{Point}
 use Rattle.mon_value.specs.declared.rows.Row.{Row}
 use Rattle.mon_value.specs.declared.rows.SeriesKey.{SeriesKey}
 use Rattle.mon_value.specs.declared.tables.TimedRow.{TimedRow}
-use Rattle.mql_ast.specs.Truths.{predicate_truth}
-use Rattle.mql_types.specs.Loads.{is_reached, load_of, meets, points_reached}
-use Rattle.mql_types.specs.Meaning.{aligned_rows, is_point_kept, points_meant, rows_meant, value_row}
+use Rattle.mql_ast.specs.Rows.{predicate_truth}
+use Rattle.mql_types.specs.Meaning.{is_reached, load_of, meets, points_reached, aligned_rows, is_point_kept}
+use Rattle.mql_types.specs.Meaning.{points_meant, rows_meant, value_row, is_in_reach}
 use Rattle.mql_types.specs.Nodes as node
 use Rattle.mql_types.specs.Nodes.{NodeTree, columns_of}
-use Rattle.mql_types.specs.Loads.{is_in_reach}
 use Rattle.mon_meaning.specs.within.Reach.{points_within_reach}
 use Rattle.mon_meaning.specs.within.SeriesMeaning.{SeriesGroup, align_load, flows, load_by_series, points_flowing}
 use Rattle.mon_meaning.specs.within.SeriesMeaning.{reach_count, rows_by_series, series_rows}

@@ -10,11 +10,10 @@ use Rattle.std.specs.List.Sorted.{IsSortedBy}
 use Rattle.std.proofs.lemmas.Fn.{always_returns_same}
 use Rattle.std.proofs.lemmas.List.MinMax.{ranks_by}
 use Rattle.mon_value.proofs.GroupLemmas.{merged_rows, own_group, rows_by_group-push}
-use Rattle.mon_value.specs.Groups.{rows_by_group}
+use Rattle.mon_value.specs.Groups.{rows_by_group, rank_cmp}
 use Rattle.mon_value.proofs.SortingLemmas.{sorted_list-sorted}
 use Rattle.mon_value.specs.Same.{same_row}
-use Rattle.mon_value.specs.Sorting.{sorted_list}
-use Rattle.mon_value.specs.Tops.{rank_cmp}
+use Rattle.mon_value.specs.Order.{sorted_list}
 use Rattle.mon_value.specs.declared.tables.TimedRow.{TimedRow}
 use Rattle.mon_meaning.proofs.OperationOrders.{rank_exact, rank_total}
 use denote.Param.Members.{Mut}

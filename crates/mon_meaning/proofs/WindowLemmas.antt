@@ -8,10 +8,9 @@ use Rattle.std.proofs.Math.Nat.{mul_comm}
 use Rattle.std.proofs.lemmas.Bool.{cond_both}
 use Rattle.std.proofs.lemmas.Int.{ints}
 use Rattle.mon_series.specs.Splits.{points_until}
-use Rattle.mon_value.specs.Sources.{last_end}
-use Rattle.mon_value.specs.Grids.{IsLawfulGrid, least_time}
+use Rattle.mon_value.specs.LeafHistories.{last_end}
+use Rattle.mon_value.specs.Grids.{IsLawfulGrid, least_time, EndsRise}
 use Rattle.mon_value.specs.declared.limits.TheConstants.{LONGEST_DURATION}
-use Rattle.mon_value.specs.Windows.{EndsRise}
 use Rattle.mon_value.specs.declared.grids.Grid.{Grid}
 use Rattle.mon_value.specs.declared.rows.Point.{Point}
 

@@ -1,13 +1,13 @@
 -- What pieces are made of, and what is counted of them.
 use Rattle.std.specs.Prelude.{ℕ, List, length, sum_by}
-use Rattle.mon_value.specs.GroupConditions.{CanGroup}
+use Rattle.mon_value.specs.Groups.{CanGroup}
 use Rattle.mon_value.specs.declared.columns.Column.{Column}
 use Rattle.mon_value.specs.declared.grids.Grid.{Grid}
 use Rattle.mon_value.specs.declared.rows.Row.{Row}
 use Rattle.mon_value.specs.declared.tables.TimedRow.{TimedRow}
 use Rattle.mql_types.specs.Meaning.{rows_meant}
-use Rattle.mql_types.specs.Pieces as up
-use Rattle.mql_types.specs.Pieces.{PartUse, TopPart, sent_of}
+use Rattle.mql_types.specs.Levels as up
+use Rattle.mql_types.specs.Levels.{PartUse, TopPart, sent_of}
 use Rattle.mon_fold.specs.declared.answers.Piece.{Piece}
 use Rattle.mon_fold.specs.declared.answers.Piece.TheVariants as piece
 

@@ -1,4 +1,3 @@
-pub mod ApartTargets
 pub mod Central
 pub mod Counts
 pub mod LeafAnswers

@@ -1,15 +1,11 @@
 -- What an operation makes of the rows that flow into it, and what it asks of them.
 use Rattle.std.specs.Prelude.{ℕ, List, ◌++◌, filter, length}
 use Rattle.std.specs.List.{AllByRecursion, filter_map, flat_map}
-use Rattle.mon_value.specs.Columns.{IsWhole}
-use Rattle.mon_value.specs.GroupConditions.{CanGroup}
-use Rattle.mon_value.specs.Groups.{group_rows}
-use Rattle.mon_value.specs.Joins.{pairs_of}
-use Rattle.mon_value.specs.Tops.{top_rows}
+use Rattle.mon_value.specs.Tables.{IsWhole, pairs_of}
+use Rattle.mon_value.specs.Groups.{CanGroup, group_rows, top_rows}
 use Rattle.mon_value.specs.declared.tables.TimedRow.{TimedRow}
-use Rattle.mql_ast.specs.SumWidths.{CanCompute, HasShares, IsTypedSum}
+use Rattle.mql_ast.specs.Rows.{CanCompute, HasShares, IsTypedSum, predicate_truth}
 use Rattle.mql_ast.specs.Trees.{ItemTree}
-use Rattle.mql_ast.specs.Truths.{predicate_truth}
 use Rattle.mql_types.specs.Meaning.{value_row}
 use Rattle.mql_types.specs.Nodes as node
 use Rattle.mql_types.specs.Nodes.{NodeTree, columns_of}

@@ -1,13 +1,31 @@
--- Slots of a leaf whose rows can be read together.
-use Rattle.std.specs.Prelude.{◌≡◌, true, List, map}
-use Rattle.std.specs.List.{AllByRecursion, flat_map}
-use Rattle.mon_meaning.specs.ApartTargets.{AreApart, ShareNoTarget}
+-- Rows that share no target, and slots of a leaf whose rows can be read together.
+use Rattle.std.specs.Prelude.{◌≡◌, Bool, false, List, [], ◌∷◌, true, map}
+use Rattle.std.specs.List.{AllByRecursion, list_any, flat_map}
+use Rattle.mon_value.specs.Same.{same_target}
+use Rattle.mon_value.specs.declared.rows.Row.{Row}
+use Rattle.mon_value.specs.declared.rows.Target.{Target}
 use Rattle.mon_value.specs.LeafHistories.{is_opened, replica_rows}
 use Rattle.mon_value.specs.declared.histories.Entry.{Entry}
 use Rattle.mon_value.specs.declared.positions.RangeSlot.{RangeSlot}
-use Rattle.mon_value.specs.declared.rows.Row.{Row}
 use Rattle.mql_types.specs.Nodes.{TypedTree}
 use Rattle.mql_types.specs.Soundness.{IsTyped}
+
+-- Rows that share no target.
+
+-- whether a target has a row
+abbrev pub has_target : List Row → Target → Bool
+has_target rows target = list_any (λ row. same_target row.key.target target) rows
+
+-- no target has rows on both sides
+abbrev pub ShareNoTarget : List Row → List Row → Type 0
+ShareNoTarget rows others = AllByRecursion (λ row. has_target others row.key.target ≡ false) rows
+
+-- each two of some children share nothing
+abbrev pub AreApart : (List Row → List Row → Type 0) → List (List Row) → Type 0
+AreApart Apart [] = Unit {0}
+AreApart Apart (child ∷ children) = AllByRecursion (Apart child) children × AreApart Apart children
+
+-- Slots of a leaf whose rows can be read together.
 
 -- each was opened in the leaf's history
 abbrev pub AreOpened : List Entry → List RangeSlot → Type 0

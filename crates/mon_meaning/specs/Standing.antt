@@ -1,7 +1,7 @@
 -- What a piece stands for: the rows of a part, and what of them goes up. The rows are a bag.
 use Rattle.std.specs.Prelude.{◌≡◌, ℕ, List, [], ◌∷◌}
 use Rattle.std.specs.List.Sorted.{IsPermutation}
-use Rattle.mon_value.specs.Tops.{top_rows}
+use Rattle.mon_value.specs.Groups.{top_rows}
 use Rattle.mon_value.specs.declared.aggregates.Aggregate.{Aggregate}
 use Rattle.mon_value.specs.declared.columns.Column.{Column}
 use Rattle.mon_value.specs.declared.grids.Grid.{Grid}
@@ -9,8 +9,8 @@ use Rattle.mon_value.specs.declared.rows.Row.{Row}
 use Rattle.mon_value.specs.declared.tables.Table.{Table}
 use Rattle.mon_value.specs.declared.tables.TimedRow.{TimedRow}
 use Rattle.mql_types.specs.Nodes.{columns_of}
-use Rattle.mql_types.specs.Pieces as up
-use Rattle.mql_types.specs.Pieces.{PieceMeant, TopPart, piece_meant}
+use Rattle.mql_types.specs.Levels as up
+use Rattle.mql_types.specs.Levels.{PieceMeant, TopPart, piece_meant}
 use Rattle.mon_fold.specs.PartialGroups.{GroupsSoFar, parts_of}
 use Rattle.mon_fold.specs.declared.answers.Piece.{Piece}
 use Rattle.mon_fold.specs.declared.answers.Piece.TheVariants as piece

@@ -1,9 +1,8 @@
 -- The parts of a tree of which pieces go up, as the code has them.
 use Rattle.std.specs.Prelude.{Bool, true, List, map}
-use Rattle.mql_types.specs.Levels.{is_leaf}
+use Rattle.mql_types.specs.Levels.{is_leaf, PartUse, in_zone}
 use Rattle.mql_types.specs.Nodes.{node_tree}
-use Rattle.mql_types.specs.Pieces as spec
-use Rattle.mql_types.specs.Pieces.{PartUse, in_zone}
+use Rattle.mql_types.specs.Levels as spec
 use Rattle.mql_types.specs.declared.levels.Level.{Level}
 use Rattle.mql_types.specs.declared.levels.Level.TheVariants as level
 use Rattle.mon_meaning.specs.declared.parts_up.GoesUp.{GoesUp}

@@ -1,11 +1,11 @@
 // Points brought to the times of a grid, as rows.
 ghost use Rattle.std.specs.Prelude.{◌≡◌, ◌+◌, ◌++◌, filter, length, map, sum_by, IfErr, IfOk, OnOk};
 ghost use Rattle.std.specs.List.{AllByRecursion, flat_map};
-ghost use Rattle.mon_value.specs.Alignments.{aligned_values};
-ghost use Rattle.mon_value.specs.Alignments as alignment;
+ghost use Rattle.mon_value.specs.Grids.{aligned_values};
+ghost use Rattle.mon_value.specs.Grids as alignment;
 ghost use Rattle.mon_value.specs.Grids as grids;
-ghost use Rattle.mon_value.specs.SeriesRows.{row_of};
-ghost use Rattle.mon_value.specs.Sources.{points_by_series};
+ghost use Rattle.mon_value.specs.Order.{row_of};
+ghost use Rattle.mon_value.specs.LeafHistories.{points_by_series};
 ghost use Rattle.mql_types.specs.Nodes.{node_tree};
 ghost use Rattle.mon_meaning.specs.Central.{all_held};
 ghost use Rattle.mon_meaning.specs.Counts.{TellsOver};

@@ -1,6 +1,6 @@
 // The central evaluation of a query.
 ghost use Rattle.std.specs.Prelude.{◌≡◌, ◌≤◌, ◌^◌, ◌≤ℤ◌, pos};
-ghost use Rattle.mon_value.specs.Sources.{IsSource};
+ghost use Rattle.mon_value.specs.LeafHistories.{IsSource};
 ghost use Rattle.mon_value.specs.declared.limits.TheConstants.{ROW_BITS};
 ghost use Rattle.mql_types.specs.Meaning as meant;
 ghost use Rattle.mql_types.specs.Nodes.{typed_tree};

@@ -1,7 +1,7 @@
 // What flows into an alignment: a fetch, less what its filters drop.
 ghost use Rattle.std.specs.Prelude.{◌≡◌, ◌++◌, ◌∷◌, [], map, true, IfOk, OnOk};
 ghost use Rattle.mon_value.specs.Order.{field_as_value};
-ghost use Rattle.mql_types.specs.Loads as loads;
+ghost use Rattle.mql_types.specs.Meaning as loads;
 ghost use Rattle.mql_types.specs.Meaning.{is_fetched};
 ghost use Rattle.mql_types.specs.Nodes.{node_tree};
 ghost use Rattle.mon_meaning.specs.within.FetchViews.{all_filters_hold, is_fetch_met, IsFetchFound};

@@ -1,10 +1,10 @@
 // The points of a series that an alignment may see.
 ghost use Rattle.std.specs.Prelude.{◌≡◌, ◌≤◌, ◌-ℤ◌, ◌<ℤ◌, ◌≤ℤ◌, ◌++◌, ◌∷◌, [], cond, length, neg_ℤ, IfOk, IfSome, OnOk};
 ghost use Rattle.mon_series.specs.Splits.{points_until};
-ghost use Rattle.mon_value.specs.Alignments as alignment;
+ghost use Rattle.mon_value.specs.Grids as alignment;
 ghost use Rattle.mon_value.specs.Grids as grids;
-ghost use Rattle.mon_value.specs.Sources.{last_end};
-ghost use Rattle.mon_value.specs.Windows.{EndsRise};
+ghost use Rattle.mon_value.specs.LeafHistories.{last_end};
+ghost use Rattle.mon_value.specs.Grids.{EndsRise};
 ghost use Rattle.mon_meaning.specs.within.FetchViews.{points_kept};
 ghost use Rattle.mon_meaning.specs.within.Reach.{points_within_reach};
 

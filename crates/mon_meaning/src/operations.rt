@@ -1,11 +1,9 @@
 // Operations on the rows of tables.
 ghost use Rattle.std.specs.Prelude.{◌≡◌, ◌+◌, ◌++◌, filter, length, IfErr, IfOk, OnOk};
-ghost use Rattle.mon_value.specs.Columns.{IsWhole};
-ghost use Rattle.mon_value.specs.GroupConditions.{CanGroup};
-ghost use Rattle.mon_value.specs.Groups.{group_rows};
-ghost use Rattle.mon_value.specs.Joins.{join_of};
+ghost use Rattle.mon_value.specs.Tables.{IsWhole, join_of};
+ghost use Rattle.mon_value.specs.Groups.{CanGroup, group_rows};
 ghost use Rattle.mql_ast.specs.Trees.{predicate_tree};
-ghost use Rattle.mql_ast.specs.Truths.{predicate_truth};
+ghost use Rattle.mql_ast.specs.Rows.{predicate_truth};
 ghost use Rattle.mon_meaning.specs.Counts.{TellsOver};
 
 use crate::meter::{Meter, OverLimit};

@@ -1,10 +1,9 @@
 // A part of a query's tree, over series.
 ghost use Rattle.std.specs.Prelude.{◌≡◌, ◌+◌, List, IfErr, IfOk, OnOk};
 ghost use Rattle.std.specs.List.Sorted.{IsPermutation};
-ghost use Rattle.mon_value.specs.Sources.{points_by_series};
+ghost use Rattle.mon_value.specs.LeafHistories.{points_by_series};
 ghost use Rattle.mon_value.specs.declared.rows.Row.{Row};
-ghost use Rattle.mql_types.specs.Loads.{load_of};
-ghost use Rattle.mql_types.specs.Meaning.{rows_meant};
+ghost use Rattle.mql_types.specs.Meaning.{load_of, rows_meant};
 ghost use Rattle.mql_types.specs.Nodes.{node_tree};
 ghost use Rattle.mon_meaning.specs.Central.{IsPartAsked, all_held};
 ghost use Rattle.mon_meaning.specs.Counts.{TellsOver};

@@ -1,7 +1,7 @@
 // The parts of a tree of which pieces go up.
 ghost use Rattle.std.specs.Prelude.{◌≡◌, ◌<◌, ◌+◌, ◌++◌, ◌∷◌, [], Bool, false, IfOk, OnOk};
 ghost use Rattle.mql_types.specs.Nodes.{level_of, node_tree};
-ghost use Rattle.mql_types.specs.Pieces as spec;
+ghost use Rattle.mql_types.specs.Levels as spec;
 ghost use Rattle.mon_meaning.specs.TopParts.{parts_seen, up_to};
 ghost use Rattle.mql_types.specs.ExplanationParts.{nodes};
 ghost use Rattle.mon_meaning.specs.within.PartsToCome.{part_nodes, parts_left, nodes_left};

@@ -1,6 +1,6 @@
 // One operation of a tree.
 ghost use Rattle.std.specs.Prelude.{◌≡◌, ◌+◌, [], length, IfErr, IfOk, OnOk};
-ghost use Rattle.mon_value.specs.Columns.{IsWhole};
+ghost use Rattle.mon_value.specs.Tables.{IsWhole};
 ghost use Rattle.mql_types.specs.Nodes.{columns_of, node_tree};
 ghost use Rattle.mon_meaning.specs.Operations as meant;
 ghost use Rattle.mon_meaning.specs.Operations.{CanOperate, operation_load};

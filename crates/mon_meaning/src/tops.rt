@@ -3,10 +3,8 @@ ghost use Rattle.std.specs.Prelude.{◌≡◌, [], ◌∷◌, take, IfOk, OnOk};
 ghost use Rattle.std.specs.Cmp.Lexicographic.{slice_cmp};
 ghost use Rattle.std.specs.Option.{option_copied, option_to_list};
 ghost use Rattle.mon_value.proofs.GroupLemmas.{own_group, with_rows};
-ghost use Rattle.mon_value.specs.Groups.{cells_at, rows_by_group};
-ghost use Rattle.mon_value.specs.Order.{value_cmp};
-ghost use Rattle.mon_value.specs.Sorting.{sorted_list};
-ghost use Rattle.mon_value.specs.Tops.{rank_cmp, top_rows};
+ghost use Rattle.mon_value.specs.Groups.{cells_at, rows_by_group, rank_cmp, top_rows};
+ghost use Rattle.mon_value.specs.Order.{value_cmp, sorted_list};
 ghost use Rattle.mon_meaning.specs.within.Times.{groups_at};
 
 use insertion_map::InsertionMap;

@@ -2,7 +2,7 @@
 ghost use Rattle.std.specs.Prelude.{◌≡◌, ◌++◌, ◌∷◌, [], cond, if◌then◌else◌, map, IfOk, OnOk};
 ghost use Rattle.std.specs.List.{AllByRecursion, filter_map};
 ghost use Rattle.mon_expr.specs.BoundSums.{CanEvaluate};
-ghost use Rattle.mql_ast.specs.SumWidths.{CanCompute, HasShares, IsTypedSum};
+ghost use Rattle.mql_ast.specs.Rows.{CanCompute, HasShares, IsTypedSum};
 ghost use Rattle.mql_ast.specs.Trees.{ItemTree, item_tree};
 ghost use Rattle.mql_types.specs.Meaning as spec;
 ghost use Rattle.mql_types.specs.Meaning.{value_row};

@@ -4,7 +4,7 @@ use Rattle.std.proofs.Common.{None, refl, ap, arith, option_map}
 use Rattle.std.specs.Option.{option_zip}
 use Rattle.std.proofs.lemmas.List.{take_more}
 use Rattle.std.proofs.lemmas.Option.{same_Some}
-use Rattle.mon_points.specs.Cells.{count_of, counts_of_texts}
+use Rattle.mon_points.specs.Records.{count_of, counts_of_texts}
 
 abbrev joined : Option ℕ → Option (List ℕ) → Option (List ℕ)
 joined first rest = option_map (λ counts. counts.0 ∷ counts.1) (option_zip first rest)

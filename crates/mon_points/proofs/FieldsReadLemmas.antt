@@ -6,14 +6,13 @@ use Rattle.std.proofs.lemmas.Bool.{cases_lt}
 use Rattle.csv.specs.Records.{field_at}
 use Rattle.mon_value.specs.declared.values.FieldValue.{FieldValue}
 use Rattle.mon_value.specs.declared.schemas.Field.{Field}
-use Rattle.mon_points.specs.Cells.{field_of}
+use Rattle.mon_points.specs.Records.{field_of, fields_read, key_read, point_read, row_read}
 use Rattle.mon_value.specs.declared.schemas.TargetSchema.{TargetSchema}
 use Rattle.mon_value.specs.declared.schemas.MetricSchema.{MetricSchema}
 use Rattle.mon_value.specs.declared.rows.SeriesKey.{SeriesKey}
 use Rattle.mon_value.specs.declared.rows.Point.{Point}
-use Rattle.mon_schema.specs.SchemaLists.{SchemaLists, target_named, metric_named}
+use Rattle.mon_schema.specs.Names.{SchemaLists, target_named, metric_named}
 use Rattle.mon_value.specs.Answers.{◌>>=◌}
-use Rattle.mon_points.specs.Records.{fields_read, key_read, point_read, row_read}
 use Rattle.mon_points.specs.declared.faults.RowFault.{RowFault}
 use Rattle.mon_points.specs.declared.faults.RowFault.TheVariants as fault
 

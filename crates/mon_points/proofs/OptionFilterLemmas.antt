@@ -5,14 +5,14 @@ use Rattle.std.specs.Option.{option_zip}
 use Rattle.std.proofs.lemmas.Bool.{and_parts, false_from_ne_true, false≢true}
 use Rattle.std.proofs.lemmas.Option.{cond_some}
 use Rattle.mon_value.specs.declared.schemas.Kind.{Kind}
-use Rattle.mon_value.specs.Numbers.{number_of}
+use Rattle.mon_value.specs.Values.{number_of}
 use Rattle.mon_value.specs.declared.limits.TheConstants.{NUMBER_BITS}
 use Rattle.mon_value.specs.declared.values.FieldType.TheVariants as type
 use Rattle.mon_value.specs.declared.values.FieldValue.TheVariants as field
 use Rattle.mon_value.specs.declared.values.ValueType.TheVariants as of
 use Rattle.mon_value.specs.declared.values.Value.TheVariants as value
 use Rattle.mon_schema.specs.Fits.{counts_fit, field_fits, is_number, is_start, is_time, times_fit, value_fits}
-use Rattle.mon_points.specs.Cells.{counts_spelled, field_of, int_of, option_filter, times_of, truth_of, value_of}
+use Rattle.mon_points.specs.Records.{counts_spelled, field_of, int_of, option_filter, times_of, truth_of, value_of}
 
 -- it is there, and it passes
 pub option_filter-some : {A : Type 0} (test : A → Bool) (o : Option A) (x : A) → option_filter test o ≡ Some x

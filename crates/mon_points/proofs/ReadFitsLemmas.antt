@@ -7,7 +7,7 @@ use Rattle.std.specs.Str.{is_utf8}
 use Rattle.std.proofs.lemmas.Bool.{and_from}
 use Rattle.csv.specs.Reading.{default_config, records, strip_bom}
 use Rattle.mon_value.specs.Answers.{◌>>=◌}
-use Rattle.mon_value.specs.Numbers.{number_of}
+use Rattle.mon_value.specs.Values.{number_of}
 use Rattle.mon_value.specs.declared.values.FieldValue.{FieldValue}
 use Rattle.mon_value.specs.declared.schemas.Field.{Field}
 use Rattle.mon_value.specs.declared.schemas.TargetSchema.{TargetSchema}
@@ -16,12 +16,11 @@ use Rattle.mon_value.specs.declared.rows.SeriesKey.{SeriesKey}
 use Rattle.mon_value.specs.declared.rows.Point.{Point}
 use Rattle.mon_value.specs.declared.rows.Row.{Row}
 use Rattle.mon_schema.proofs.NamedLemmas.{first_named-name}
-use Rattle.mon_schema.specs.SchemaLists.{SchemaLists, first_named, target_named, metric_named}
+use Rattle.mon_schema.specs.Names.{SchemaLists, first_named, target_named, metric_named}
 use Rattle.mon_schema.specs.Fits.{field_fits, fields_fit, fits, fits_both, times_fit, value_fits}
-use Rattle.mon_points.specs.Cells.{field_in, field_of, times_of, value_in, value_of}
+use Rattle.mon_points.specs.Records.{field_in, field_of, times_of, value_in, value_of, field_cells, fields_read}
+use Rattle.mon_points.specs.Records.{key_read, point_read, read_as, reads_of, record_read, row_read}
 use Rattle.mon_points.specs.Fitting.{ReadFits}
-use Rattle.mon_points.specs.Records.{field_cells, fields_read, key_read, point_read, read_as, reads_of, record_read}
-use Rattle.mon_points.specs.Records.{row_read}
 use Rattle.mon_points.specs.declared.faults.RowFault.{RowFault}
 use Rattle.mon_points.specs.declared.faults.RowFault.TheVariants as fault
 use Rattle.mon_points.specs.declared.records.RowRead.TheVariants as read

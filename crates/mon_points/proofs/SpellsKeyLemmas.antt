@@ -11,9 +11,8 @@ use Rattle.mon_value.specs.declared.schemas.TargetSchema.{TargetSchema}
 use Rattle.mon_value.specs.declared.schemas.MetricSchema.{MetricSchema}
 use Rattle.mon_value.specs.declared.rows.SeriesKey.{SeriesKey}
 use Rattle.mon_value.proofs.SameLemmas.{same_field-Decides, same_text-Decides}
-use Rattle.mon_points.specs.Cells.{field_of}
+use Rattle.mon_points.specs.Records.{field_of, fields_read, key_read}
 use Rattle.mon_points.specs.Keys.{is_value, spells_field, spells_fields, spells_key}
-use Rattle.mon_points.specs.Records.{fields_read, key_read}
 use Rattle.mon_points.proofs.FieldsReadLemmas.{cell_here, item_here}
 
 is_value-some : (o : Option FieldValue) (value : FieldValue) → is_value o value ≡ true → o ≡ Some value

@@ -1,6 +1,6 @@
 -- What is known of each row that is read.
 use Rattle.std.specs.Prelude.{◌≡◌, true}
-use Rattle.mon_schema.specs.SchemaLists.{SchemaLists}
+use Rattle.mon_schema.specs.Names.{SchemaLists}
 use Rattle.mon_schema.specs.Fits.{fits}
 use Rattle.mon_points.specs.declared.records.RowRead.{RowRead}
 use Rattle.mon_points.specs.declared.records.RowRead.TheVariants as read

@@ -7,7 +7,7 @@ use Rattle.mon_value.specs.declared.schemas.Field.{Field}
 use Rattle.mon_value.specs.declared.schemas.TargetSchema.{TargetSchema}
 use Rattle.mon_value.specs.declared.schemas.MetricSchema.{MetricSchema}
 use Rattle.mon_value.specs.declared.rows.SeriesKey.{SeriesKey}
-use Rattle.mon_points.specs.Cells.{field_of}
+use Rattle.mon_points.specs.Records.{field_of}
 
 abbrev pub is_value : Option FieldValue → FieldValue → Bool
 is_value None value = false

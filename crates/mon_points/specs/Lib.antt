@@ -1,5 +1,3 @@
-pub mod Cells
-pub mod FaultTexts
 pub mod Fitting
 pub mod Keys
 pub mod Leading

@@ -1,6 +1,6 @@
 // What the cells of a record spell.
 ghost use Rattle.std.specs.Prelude.{◌≡◌, IfOk};
-ghost use Rattle.mon_points.specs.Cells.{count_of, counts_spelled, field_of, int_of, times_of, truth_of, value_of};
+ghost use Rattle.mon_points.specs.Records.{count_of, counts_spelled, field_of, int_of, times_of, truth_of, value_of};
 ghost use Rattle.mon_points.specs.Keys as spec;
 
 use mon_schema::{counts_fit, text_fits, times_fit};

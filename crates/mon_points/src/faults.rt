@@ -32,7 +32,7 @@ impl TryCopy for RowFault {
 
 impl fmt::Display for RowFault {
     ghost use Rattle.std.specs.Prelude.{Some};
-    ghost use Rattle.mon_points.specs.FaultTexts.{row_fault_text};
+    ghost use Rattle.mon_points.specs.Records.{row_fault_text};
 
     ghost output = { λ fault. Some (row_fault_text fault) };
 

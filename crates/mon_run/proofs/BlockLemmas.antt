@@ -3,8 +3,7 @@ use Rattle.std.proofs.Common.{◌≡◌, ◌∙◌, ◌≤◌, ◌+◌, ℕ, con
 use Rattle.std.proofs.Common.{[], ◌∷◌, ◌++◌, length, refl, sym, ap, subst, arith}
 use Rattle.std.proofs.lemmas.List.{length-append}
 use Rattle.std.specs.List.{AllByRecursion}
-use Rattle.mon_script.specs.Blocks.{AreInBlocks, StandsBefore, cut_block, ends_by}
-use Rattle.mon_script.specs.Places.{mark_of}
+use Rattle.mon_script.specs.Blocks.{AreInBlocks, StandsBefore, cut_block, ends_by, mark_of}
 use Rattle.mon_script.specs.declared.places.Mark.{Mark}
 use Rattle.mon_script.specs.declared.places.Mark.TheVariants as mark
 use Rattle.mon_script.specs.declared.places.TheConstants.{MOST_LINES_OF_BLOCK}

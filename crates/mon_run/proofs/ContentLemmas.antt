@@ -1,7 +1,7 @@
 -- The content under a name, as a search through the files finds it.
 use Rattle.std.proofs.Common.{◌≡◌, ◌∙◌, ap, ℕ, Bool, true, false, cond, List, ◌∷◌, Some}
 use Rattle.mon_value.specs.Same.{same_text}
-use Rattle.mon_run.specs.Folders.{content_in, files_of}
+use Rattle.mon_run.specs.Outside.{content_in, files_of}
 use Rattle.mon_run.specs.declared.outside.memory_folder.MemoryFile.{MemoryFile}
 
 -- the file in front has the name

@@ -5,8 +5,8 @@ use Rattle.std.specs.List.{AllByRecursion}
 use Rattle.std.specs.Prelude.{OnErr, OnOk, Result}
 use Rattle.std.proofs.lemmas.List.{length-map}
 use Rattle.line_runs.specs.declared.lines.LineRan.{LineRan}
-use Rattle.mon_schema.specs.SchemaLists.{SchemaLists}
-use Rattle.mon_script.specs.Places.{mark_of}
+use Rattle.mon_schema.specs.Names.{SchemaLists}
+use Rattle.mon_script.specs.Blocks.{mark_of}
 use Rattle.mon_script.specs.declared.forms.LineForm.{LineForm}
 use Rattle.mon_script.specs.declared.forms.LineForm.TheVariants as form
 use Rattle.mon_script.specs.declared.places.Mark.TheVariants as mark
@@ -19,7 +19,7 @@ use Rattle.part_runs.proofs.TellLemmas.{acting_due}
 use Rattle.run_traces.specs.LineDues.{AreDue, IsDueBy, is_ticked, stands_behind}
 use Rattle.run_traces.specs.declared.traces.LineTrace.{LineTrace}
 use Rattle.run_traces.specs.declared.traces.LineTrace.TheVariants as came
-use Rattle.standing.specs.StandingStates.{StandingState, standing_state}
+use Rattle.standing.specs.DueLists.{StandingState, standing_state}
 
 abbrev Traces : Type 0
 Traces = List LineTrace

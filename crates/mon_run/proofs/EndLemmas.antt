@@ -2,11 +2,8 @@
 use Rattle.std.proofs.Common.{◌≡◌, ◌∙◌, ◌≤◌, inl, inr, ℕ, true, false, List, [], ◌∷◌, ◌++◌, Bool, Result, Ok, Err}
 use Rattle.std.proofs.Common.{IfOk, IfErr, sym, ap, subst, append_assoc, append-nil, arith}
 use Rattle.mon_run.specs.Endings.{CutShort, Did, Follows, LastFailed, Progress, RunIs, Starved}
-use Rattle.mon_run.specs.Faults.{Rose}
-use Rattle.mon_run.specs.Sinks.{SinkState}
-use Rattle.mon_run.specs.Folders.{FolderState, asking}
-use Rattle.mon_run.specs.Steps.{Miss, Plan, Step, Write, ending, plan, plan_behind}
-use Rattle.mon_run.specs.Texts.{read_text}
+use Rattle.mon_run.specs.Steps.{Rose, Miss, Plan, Step, Write, ending, plan, plan_behind, read_text}
+use Rattle.mon_run.specs.Outside.{SinkState, FolderState, asking}
 use Rattle.mon_value.specs.declared.refusals.Refusal.{Refusal}
 use Rattle.mon_value.specs.declared.refusals.Refusal.TheVariants as refusal
 use Rattle.mon_config.specs.declared.faults.ConfigFault.{ConfigFault}

@@ -10,19 +10,17 @@ use Rattle.mon_config.specs.declared.config.Config.{Config}
 use Rattle.mon_script.specs.Scripts.{script_in}
 use Rattle.mon_script.specs.declared.faults.ScriptFault.{ScriptFault}
 use Rattle.mon_script.specs.declared.script.ScriptLine.{ScriptLine}
-use Rattle.mon_topo.specs.HeldHistories.{AreHeld}
-use Rattle.mon_topo.specs.FirstHistories.{first_histories, first_leaf_history, first_range_history}
+use Rattle.mon_topo.specs.HeldHistories.{AreHeld, first_histories, first_leaf_history, first_range_history}
 use Rattle.mon_topo.specs.Zones.{leaves_in, ranges_in}
 use Rattle.mon_topo.specs.declared.zones.ZoneSpec.{ZoneSpec}
 use Rattle.mon_value.specs.Answers.{Withholds}
 use Rattle.mon_value.specs.declared.histories.Histories.{Histories}
 use Rattle.mon_value.specs.declared.refusals.Refusal.{Refusal}
 use Rattle.mon_value.specs.declared.refusals.Refusal.TheVariants as refusal
-use Rattle.mon_run.specs.Endings.{Progress}
-use Rattle.mon_run.specs.Folders.{Files, content_of}
-use Rattle.mon_run.specs.Scripts.{left_plan, lines_plan, parts_plan, script_plan, store_plan}
+use Rattle.mon_run.specs.Endings.{Progress, LinesTell, RunTells, ScriptTells}
+use Rattle.mon_run.specs.Outside.{Files, content_of}
+use Rattle.mon_run.specs.Plans.{left_plan, lines_plan, parts_plan, script_plan, store_plan}
 use Rattle.mon_run.specs.Steps.{Plan, end_status, plan, plan_behind}
-use Rattle.mon_run.specs.Tellings.{LinesTell, RunTells, ScriptTells}
 use Rattle.mon_run.specs.declared.stop.Stop.{Stop}
 use Rattle.mon_run.specs.declared.stop.Stop.TheVariants as stop
 use Rattle.mon_run.specs.within.Lines.{AllRanLines, LinesHalt, LinesRan, ScriptEnds, TextEnds}
@@ -34,12 +32,11 @@ use Rattle.mon_run.proofs.StepLemmas.{did_by, did_none}
 use Rattle.run_theory.specs.Parts.{Part}
 use Rattle.run_traces.specs.Headline.{RunHolds, ScriptHolds}
 use Rattle.run_traces.specs.LineClaims.{AllRan, HaveGrown}
-use Rattle.run_traces.specs.LineDues.{AreDue, asked_parts}
-use Rattle.run_traces.specs.LineStatuses.{is_refused, lines_status}
+use Rattle.run_traces.specs.LineDues.{AreDue, asked_parts, is_refused, lines_status}
 use Rattle.run_traces.specs.LineTexts.{line_text}
 use Rattle.run_traces.specs.RanLines.{RanLine, parts_of, ran_lines}
 use Rattle.run_traces.specs.declared.traces.LineTrace.{LineTrace}
-use Rattle.standing.specs.StandingStates.{standing_state}
+use Rattle.standing.specs.DueLists.{standing_state}
 use Rattle.running_query.proofs.GoingLemmas.{same_fronts}
 
 -- ---- the laws of runs

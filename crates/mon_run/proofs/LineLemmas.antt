@@ -8,8 +8,8 @@ use Rattle.mon_config.specs.declared.config.Config.{Config}
 use Rattle.mon_script.specs.declared.script.ScriptLine.{ScriptLine}
 use Rattle.mon_value.specs.declared.histories.Histories.{Histories}
 use Rattle.mon_run.specs.Endings.{Progress}
-use Rattle.mon_run.specs.Folders.{Files, content_of}
-use Rattle.mon_run.specs.Scripts.{left_plan, lines_plan, part_plan, parts_plan, starved_plan}
+use Rattle.mon_run.specs.Outside.{Files, content_of}
+use Rattle.mon_run.specs.Plans.{left_plan, lines_plan, part_plan, parts_plan, starved_plan}
 use Rattle.mon_run.specs.Steps.{Plan, plan_behind}
 use Rattle.mon_run.specs.declared.stop.Stop.{Stop}
 use Rattle.mon_run.specs.within.Lines.{AllRanLines, LinesHalt, LinesRan, LinesRanTo, LinesStopped, PartCut, PartDone}

@@ -2,15 +2,14 @@
 use Rattle.std.proofs.Common.{◌≡◌, ◌∙◌, ℕ, List, [], ◌∷◌, ◌++◌, length, map, drop, cond, true, Some, None, refl}
 use Rattle.std.proofs.Common.{sym, ap, append_assoc, append-nil, arith}
 use Rattle.std.specs.List.{AllByRecursion}
-use Rattle.mon_script.specs.Blocks.{ends_by}
-use Rattle.mon_script.specs.Places.{mark_of}
+use Rattle.mon_script.specs.Blocks.{ends_by, mark_of}
 use Rattle.mon_script.specs.declared.forms.LineForm.{LineForm}
 use Rattle.mon_script.specs.declared.places.Mark.{Mark}
 use Rattle.mon_script.specs.declared.places.Mark.TheVariants as mark
 use Rattle.mon_script.specs.declared.script.ScriptLine.{ScriptLine}
-use Rattle.mon_run.specs.Folders.{Files}
-use Rattle.mon_run.specs.Scripts.{block_read, block_steps, left_plan, line_read, lines_read, part_plan, parts_plan}
-use Rattle.mon_run.specs.Scripts.{next_read, starved_plan}
+use Rattle.mon_run.specs.Outside.{Files}
+use Rattle.mon_run.specs.Plans.{block_read, block_steps, left_plan, line_read, lines_read, part_plan, parts_plan}
+use Rattle.mon_run.specs.Plans.{next_read, starved_plan}
 use Rattle.mon_run.specs.Steps.{End, Plan, Step, Write}
 use Rattle.mon_run.specs.within.Lines.{StandApart, block_traces, forms_of, writes}
 use Rattle.mon_run.proofs.BlockLemmas.{Acts}

@@ -1,8 +1,8 @@
 -- The reads of a folder, with one more.
 use Rattle.std.proofs.Common.{◌≡◌, ◌∙◌, ◌≤◌, ◌<◌, ◌+◌, ℕ, Bool, true, false, cond, List, [], ◌∷◌, ◌++◌, Result, Err}
 use Rattle.std.proofs.Common.{◌⊎◌, inl, sym, ap, subst, arith}
-use Rattle.mon_run.specs.Faults.{Rose}
-use Rattle.mon_run.specs.Folders.{Asks, asking, failed_reads, last_failed}
+use Rattle.mon_run.specs.Steps.{Rose}
+use Rattle.mon_run.specs.Outside.{Asks, asking, failed_reads, last_failed}
 use Rattle.mon_run.specs.declared.outside.folder.FolderFault.{FolderFault}
 use Rattle.mon_run.specs.declared.outside.folder.FolderFault.TheVariants as fault
 use Rattle.mon_run.specs.declared.outside.folder.Asked.{Asked}

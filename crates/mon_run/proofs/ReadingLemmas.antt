@@ -4,8 +4,8 @@ use Rattle.mon_script.specs.declared.forms.LineForm.{LineForm}
 use Rattle.mon_script.specs.declared.forms.LineForm.TheVariants as form
 use Rattle.mon_script.specs.declared.script.ScriptLine.{ScriptLine}
 use Rattle.mon_run.specs.Endings.{Did, Progress, Starved}
-use Rattle.mon_run.specs.Folders.{Files, Told, content_of}
-use Rattle.mon_run.specs.Scripts.{line_read, lines_read}
+use Rattle.mon_run.specs.Outside.{Files, Told, content_of}
+use Rattle.mon_run.specs.Plans.{line_read, lines_read}
 use Rattle.mon_run.specs.Steps.{Ask, Plan, Step, Write, plan_behind}
 use Rattle.mon_run.specs.declared.stop.Stop.{Stop}
 use Rattle.mon_run.specs.declared.stop.Stop.TheVariants as stop

@@ -9,14 +9,12 @@ use Rattle.mon_value.specs.declared.refusals.Refusal.TheVariants as refusal
 use Rattle.mon_config.specs.Configs.{config_in}
 use Rattle.mon_config.specs.declared.config.Config.{Config}
 use Rattle.mon_config.specs.declared.faults.ConfigFault.{ConfigFault}
-use Rattle.mon_run.specs.Endings.{CutShort, Did, Progress, Starved}
-use Rattle.mon_run.specs.Faults.{Rose}
-use Rattle.mon_run.specs.Folders.{Files, Told, content_of}
+use Rattle.mon_run.specs.Endings.{CutShort, Did, Progress, Starved, CommandTells, RunTells, ScriptTells, seen_by}
+use Rattle.mon_run.specs.Steps.{Rose, Ask, Plan, Step, Write, ending, is_too_long, plan, plan_behind, read_plan}
+use Rattle.mon_run.specs.Steps.{too_long_text}
+use Rattle.mon_run.specs.Outside.{Files, Told, content_of}
 use Rattle.mon_run.specs.Plans.{Came, Command, IsRunWoven, IsWovenBy, came, command_of, command_plan, config_plan}
 use Rattle.mon_run.specs.Plans.{file_plan, made_number, made_plan, number_plan, schedule_end, schedule_plan}
-use Rattle.mon_run.specs.Steps.{Ask, Plan, Step, Write, ending, is_too_long, plan, plan_behind, read_plan}
-use Rattle.mon_run.specs.Tellings.{CommandTells, RunTells, ScriptTells, seen_by}
-use Rattle.mon_run.specs.Texts.{too_long_text}
 use Rattle.mon_run.specs.declared.runs.Run.{Run}
 use Rattle.mon_run.specs.declared.stop.Stop.{Stop}
 use Rattle.mon_run.specs.declared.stop.Stop.TheVariants as stop

@@ -9,9 +9,8 @@ use Rattle.mon_script.specs.declared.forms.LineForm.{LineForm}
 use Rattle.mon_script.specs.declared.script.ScriptLine.{ScriptLine}
 use Rattle.mon_value.specs.declared.histories.Histories.{Histories}
 use Rattle.mon_run.specs.Endings.{Did, Progress, end_in, read_in, text_of_step}
-use Rattle.mon_run.specs.Folders.{Files, FolderState, Told, content_of}
-use Rattle.mon_run.specs.Scripts.{left_plan, line_read, lines_read, part_plan, starved_plan}
-use Rattle.mon_run.specs.Sinks.{SinkState, written_then}
+use Rattle.mon_run.specs.Outside.{Files, FolderState, Told, content_of, SinkState, written_then}
+use Rattle.mon_run.specs.Plans.{left_plan, line_read, lines_read, part_plan, starved_plan}
 use Rattle.mon_run.specs.Steps.{End, Plan, Step, Write, plan_behind}
 use Rattle.mon_run.specs.declared.outside.folder.Asked.{Asked}
 use Rattle.mon_run.specs.declared.stop.Stop.{Stop}

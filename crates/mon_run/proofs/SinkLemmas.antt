@@ -2,7 +2,7 @@
 use Rattle.std.proofs.Common.{◌≡◌, ◌∙◌, ℕ, List, [], ◌++◌, Option, Some, None, take, drop, refl, sym, ap, append_assoc}
 use Rattle.std.proofs.Common.{append-nil}
 use Rattle.std.proofs.lemmas.List.{take-append-drop}
-use Rattle.mon_run.specs.Sinks.{SinkState, Takes, written_then}
+use Rattle.mon_run.specs.Outside.{SinkState, Takes, written_then}
 
 -- ---- texts behind texts
 

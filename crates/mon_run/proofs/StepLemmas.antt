@@ -4,10 +4,9 @@ use Rattle.std.proofs.Common.{append_assoc, append-nil}
 use Rattle.std.specs.List.{flat_map}
 use Rattle.std.proofs.lemmas.Grind.{flat_map-append}
 use Rattle.mon_run.specs.Endings.{CutShort, Did, Progress, Starved, end_in, read_in, text_of_step}
-use Rattle.mon_run.specs.Folders.{Files}
-use Rattle.mon_run.specs.Sinks.{written_then}
+use Rattle.mon_run.specs.Outside.{Files, written_then}
 use Rattle.mon_run.specs.Steps.{Ask, Miss, Plan, Step, Write, ending, is_too_long, plan, plan_behind, read_plan}
-use Rattle.mon_run.specs.Texts.{too_long_text}
+use Rattle.mon_run.specs.Steps.{too_long_text}
 use Rattle.mon_run.specs.declared.stop.Stop.{Stop}
 use Rattle.mon_run.specs.declared.stop.Stop.TheVariants as stop
 use Rattle.mon_run.proofs.SinkLemmas.{nothing_written, written_both}

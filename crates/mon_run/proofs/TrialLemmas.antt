@@ -3,14 +3,12 @@ use Rattle.std.proofs.Common.{◌≡◌, ◌∙◌, ◌==◌, ℕ, true, false, 
 use Rattle.std.proofs.Common.{IfSome, inl, inr, refl, sym, ap, subst, append-nil}
 use Rattle.std.proofs.lemmas.Bool.{false≢true}
 use Rattle.std.specs.List.{flat_map}
-use Rattle.mon_run.specs.Endings.{Did, Follows, Progress, Runs, end_in, progress}
-use Rattle.mon_run.specs.Endings.{read_in, text_of_step}
-use Rattle.mon_run.specs.Faults.{Rose}
-use Rattle.mon_run.specs.Folders.{FolderState, Told, calm_folder_state}
+use Rattle.mon_run.specs.Endings.{Did, Follows, Progress, Runs, end_in, progress, read_in, text_of_step, RunTells}
+use Rattle.mon_run.specs.Endings.{seen_by}
+use Rattle.mon_run.specs.Steps.{Rose, End, Plan, Step, ending, plan_behind}
+use Rattle.mon_run.specs.Outside.{FolderState, Told, calm_folder_state, SinkState, Takes, TakesFront, sink_state}
+use Rattle.mon_run.specs.Outside.{written_then}
 use Rattle.mon_run.specs.Plans.{came, run_plan}
-use Rattle.mon_run.specs.Sinks.{SinkState, Takes, TakesFront, sink_state, written_then}
-use Rattle.mon_run.specs.Steps.{End, Plan, Step, ending, plan_behind}
-use Rattle.mon_run.specs.Tellings.{RunTells, seen_by}
 use Rattle.mon_run.specs.Trials.{Tries, made_files, made_words, trial_end, trial_plan, trial_start}
 use Rattle.mon_run.specs.declared.outcome.Outcome.{Outcome}
 use Rattle.mon_run.specs.declared.stop.Stop.TheVariants as stop

@@ -1,11 +1,6 @@
 pub mod Endings
-pub mod Faults
-pub mod Folders
+pub mod Outside
 pub mod Plans
-pub mod Scripts
-pub mod Sinks
 pub mod Steps
-pub mod Tellings
-pub mod Texts
 pub mod Trials
 pub mod within

@@ -3,12 +3,10 @@ use Rattle.std.specs.Prelude.{◌≡◌, ℕ, ◌==◌, ◌||◌, Bool, List, []
 use Rattle.mon_script.specs.Made.{made_config, made_points, made_script}
 use Rattle.mon_value.specs.Same.{same_text}
 use Rattle.mon_value.specs.declared.histories.Histories.{Histories}
-use Rattle.mon_run.specs.Endings.{Follows, Progress, Runs, progress}
-use Rattle.mon_run.specs.Folders.{Files, FolderState, calm_folder_state}
+use Rattle.mon_run.specs.Endings.{Follows, Progress, Runs, progress, RunTells}
+use Rattle.mon_run.specs.Outside.{Files, FolderState, calm_folder_state, SinkState, sink_state}
 use Rattle.mon_run.specs.Plans.{number_in}
-use Rattle.mon_run.specs.Sinks.{SinkState, sink_state}
 use Rattle.mon_run.specs.Steps.{End, Plan, ending, plan, plan_behind}
-use Rattle.mon_run.specs.Tellings.{RunTells}
 use Rattle.run_traces.specs.declared.traces.LineTrace.{LineTrace}
 use Rattle.trials.specs.Summaries.{summary_text}
 

@@ -1,9 +1,8 @@
 // The run of a command: a configuration, and a script with its files of points, or a schedule.
 ghost use Rattle.std.specs.Prelude.{◌≡◌, true, [], map, string_bytes, IfSome};
-ghost use Rattle.mon_run.specs.Endings.{LastFailed, Runs, is_status, progress};
-ghost use Rattle.mon_run.specs.Faults.{Rose};
-ghost use Rattle.mon_run.specs.Folders.{Told};
-ghost use Rattle.mon_run.specs.Tellings.{RunTells, seen_by};
+ghost use Rattle.mon_run.specs.Endings.{LastFailed, Runs, is_status, progress, RunTells, seen_by};
+ghost use Rattle.mon_run.specs.Steps.{Rose};
+ghost use Rattle.mon_run.specs.Outside.{Told};
 
 use crate::outcome::Outcome;
 use crate::outside::{Folder, Sink};

@@ -1,9 +1,8 @@
 // The run of the words behind the program's name.
 ghost use Rattle.std.specs.Prelude.{◌≡◌, true, [], map, string_bytes, IfSome};
-ghost use Rattle.mon_run.specs.Endings.{LastFailed, is_status, progress};
-ghost use Rattle.mon_run.specs.Faults.{Rose};
-ghost use Rattle.mon_run.specs.Folders.{Told};
-ghost use Rattle.mon_run.specs.Tellings.{seen_by};
+ghost use Rattle.mon_run.specs.Endings.{LastFailed, is_status, progress, seen_by};
+ghost use Rattle.mon_run.specs.Steps.{Rose};
+ghost use Rattle.mon_run.specs.Outside.{Told};
 ghost use Rattle.mon_run.specs.Trials.{IsRun, Tell};
 
 use crate::command;

@@ -4,11 +4,10 @@ ghost use Rattle.std.specs.Prelude.{◌⊎◌, true, IfOk, None, OnErr, OnOk, So
 ghost use Rattle.std.specs.List.{AllByRecursion};
 ghost use Rattle.history_book.specs.Seats.{HasEveryNumber};
 ghost use Rattle.line_runs.specs.declared.lines.LineRan.{LineRan as Ran};
-ghost use Rattle.mon_script.specs.Blocks.{AreInBlocks};
+ghost use Rattle.mon_script.specs.Blocks.{AreInBlocks, mark_of};
 ghost use Rattle.mon_script.specs.Lawful.{IsLawfulForm, IsLawfulLine};
-ghost use Rattle.mon_script.specs.Places.{mark_of};
 ghost use Rattle.mon_script.specs.declared.places.Mark.TheVariants.{Acts};
-ghost use Rattle.mon_run.specs.Folders.{Told, content_of};
+ghost use Rattle.mon_run.specs.Outside.{Told, content_of};
 ghost use Rattle.mon_run.specs.Endings.{Did};
 ghost use Rattle.mon_run.specs.within.Blocks.{block_behind as block, left_behind as left};
 ghost use Rattle.mon_run.specs.within.Dues.{AloneDue, BlockDue, DueSoFar, DueTo};

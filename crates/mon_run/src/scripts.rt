@@ -11,9 +11,9 @@ ghost use Rattle.mon_run.specs.within.Dues.{DueSoFar};
 ghost use Rattle.mon_run.specs.within.Lines.{AllRanLines, LinesHalt, ScriptEnds, TextEnds};
 ghost use Rattle.mon_run.specs.within.Stops.{Between, Continues, StopsBetween, noted};
 ghost use Rattle.part_runs.specs.PartsDone.{CanSplit};
-ghost use Rattle.run_traces.specs.LineStatuses.{is_due_refused as due_refuses, is_refused as refuses};
+ghost use Rattle.run_traces.specs.LineDues.{is_due_refused as due_refuses, is_refused as refuses};
 ghost use Rattle.run_traces.specs.declared.traces.DueTrace.{DueTrace as Asked};
-ghost use Rattle.standing.specs.StandingStates.{standing_state};
+ghost use Rattle.standing.specs.DueLists.{standing_state};
 
 use crate::blocks::left_behind;
 use crate::outside::{Folder, Sink};

@@ -1,6 +1,6 @@
 // The text of its own that a run ends with.
 ghost use Rattle.std.specs.Prelude.{◌≡◌, ◌++◌, IfOk, string_bytes};
-ghost use Rattle.mon_run.specs.Texts as spec;
+ghost use Rattle.mon_run.specs.Steps as spec;
 ghost use Rattle.mon_run.specs.within.Stops as stops;
 ghost use Rattle.mon_table.specs.Tables.{newline};
 

@@ -1,12 +1,9 @@
 // Trials: the made input of a number is run from memory, and what is said of that run is written.
 ghost use Rattle.std.specs.Prelude.{◌≡◌, ◌==◌, ◌⊎◌, ◌∷◌, ◌++◌, false, true, [], List, Some, map, IfOk, IfSome, OnOk};
 ghost use Rattle.std.specs.Prelude.{string_bytes};
-ghost use Rattle.mon_run.specs.Endings.{Follows, is_status, progress};
-ghost use Rattle.mon_run.specs.Faults.{Rose};
-ghost use Rattle.mon_run.specs.Folders.{FolderState, files_of};
-ghost use Rattle.mon_run.specs.Sinks.{sink_state};
-ghost use Rattle.mon_run.specs.Steps.{ending};
-ghost use Rattle.mon_run.specs.Tellings.{RunTells, seen_by};
+ghost use Rattle.mon_run.specs.Endings.{Follows, is_status, progress, RunTells, seen_by};
+ghost use Rattle.mon_run.specs.Steps.{Rose, ending};
+ghost use Rattle.mon_run.specs.Outside.{FolderState, files_of, sink_state};
 ghost use Rattle.mon_run.specs.Trials as spec;
 ghost use Rattle.mon_run.specs.within.Tried.{EndsWith, RanMade};
 ghost use Rattle.run_traces.specs.declared.traces.LineTrace.{LineTrace as Came};

@@ -4,11 +4,10 @@ use Rattle.std.proofs.Common.{List, [], ◌∷◌, ◌++◌, refl}
 use Rattle.std.specs.Prelude.{is_some}
 use Rattle.mon_value.specs.declared.schemas.TargetSchema.{TargetSchema}
 use Rattle.mon_value.specs.declared.schemas.MetricSchema.{MetricSchema}
-use Rattle.mon_schema.specs.SchemaLists.{SchemaLists, target_named, metric_named}
+use Rattle.mon_schema.specs.Names.{SchemaLists, target_named, metric_named}
 use Rattle.mon_schema.specs.Faults.{target_fault, metric_fault, is_target_over}
 use Rattle.mon_schema.specs.Faults.{is_target_named, is_target_taken, is_metric_over, is_metric_named, is_metric_taken}
-use Rattle.mon_schema.specs.HeldMetrics.{AreMetricsHeld, IsHeld}
-use Rattle.mon_schema.specs.HeldTargets.{AllTellLocations, TellsLocation}
+use Rattle.mon_schema.specs.Fits.{AreMetricsHeld, IsHeld, AllTellLocations, TellsLocation}
 
 -- a chain of tests that ends without a fault has passed the third
 past_third : {F : Type 0} (a b c : Bool) (f g h rest : Option F) → (f ≡ None → ⊥) → (g ≡ None → ⊥) → (h ≡ None → ⊥)

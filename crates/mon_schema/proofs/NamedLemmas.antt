@@ -8,7 +8,7 @@ use Rattle.std.specs.declared.alloc.Global.{Global}
 use Rattle.std.proofs.lemmas.Option.{same_Some}
 use Rattle.mon_value.specs.Same.{same_text}
 use Rattle.mon_value.proofs.SameLemmas.{same_text-Decides}
-use Rattle.mon_schema.specs.SchemaLists.{first_named}
+use Rattle.mon_schema.specs.Names.{first_named}
 
 -- whether a key is the name
 abbrev is_key : List ℕ → Vec ℕ Global → Bool

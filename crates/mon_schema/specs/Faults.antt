@@ -1,8 +1,8 @@
--- What a schema is refused for, the first fault in order.
+-- What a schema is refused for, the first fault in order, and what that prints as.
 use Rattle.std.specs.Prelude.{ℕ, ℤ, ◌==◌, ◌&&◌, ◌||◌, Bool, true, false, not, nat_le, nat_lt, List, [], ◌∷◌, length}
-use Rattle.std.specs.Prelude.{map, count_by, Option, Some, None, is_some, if◌then◌else◌}
+use Rattle.std.specs.Prelude.{map, count_by, Option, Some, None, is_some, if◌then◌else◌, codes}
 use Rattle.std.specs.List.{list_all, list_any}
-use Rattle.mon_value.specs.Distributions.{bounds_rise}
+use Rattle.mon_value.specs.Groups.{bounds_rise}
 use Rattle.mon_value.specs.Same.{same_text}
 use Rattle.mon_value.specs.declared.values.FieldType.{FieldType}
 use Rattle.mon_value.specs.declared.values.FieldType.TheVariants as of
@@ -13,11 +13,12 @@ use Rattle.mon_value.specs.declared.schemas.Kind.TheVariants as kind
 use Rattle.mon_value.specs.declared.schemas.Field.{Field}
 use Rattle.mon_value.specs.declared.schemas.TargetSchema.{TargetSchema}
 use Rattle.mon_value.specs.declared.schemas.MetricSchema.{MetricSchema}
-use Rattle.mon_schema.specs.Names.{is_name, is_column_name, is_metric_name}
-use Rattle.mon_schema.specs.SchemaLists.{SchemaLists, target_named, metric_named}
+use Rattle.mon_schema.specs.Names.{is_name, is_column_name, is_metric_name, SchemaLists, target_named, metric_named}
 use Rattle.mon_schema.specs.declared.limits.TheConstants.{MOST_BOUNDS, MOST_FIELDS, MOST_METRICS, MOST_TARGETS}
 use Rattle.mon_schema.specs.declared.faults.SchemaFault.{SchemaFault}
 use Rattle.mon_schema.specs.declared.faults.SchemaFault.TheVariants as fault
+
+-- What a schema is refused for, the first fault in order.
 
 -- the same text stands in the list twice
 abbrev pub texts_repeat : List (List ℕ) → Bool
@@ -105,3 +106,14 @@ metric_fault held metric =
     else if not (is_bounded metric.value) then Some fault.BadBounds
     else if not (is_kind_met metric.kind metric.value) then Some fault.BadKind
     else None
+
+-- What a refusal prints as.
+
+abbrev pub schema_fault_text : SchemaFault → List ℕ
+schema_fault_text fault.Duplicate = codes "Duplicate"
+schema_fault_text fault.NoLocation = codes "NoLocation"
+schema_fault_text fault.TwoLocations = codes "TwoLocations"
+schema_fault_text fault.BadName = codes "BadName"
+schema_fault_text fault.BadBounds = codes "BadBounds"
+schema_fault_text fault.TooMany = codes "TooMany"
+schema_fault_text fault.BadKind = codes "BadKind"

@@ -1,8 +1,9 @@
--- Which rows are of schemas that are held.
-use Rattle.std.specs.Prelude.{ℕ, ◌+◌, ◌^◌, ◌==◌, ◌&&◌, ℤ, pos, neg_ℤ, int_le, int_lt, Bool, true, false, nat_le}
-use Rattle.std.specs.Prelude.{nat_lt, List, length, sum, Option, Some, None}
+-- What holds of the schemas that are held, and which rows fit them.
+use Rattle.std.specs.Prelude.{ℕ, ◌+◌, ◌^◌, ◌==◌, ◌&&◌, ℤ, pos, neg_ℤ, int_le, int_lt, Bool, true, false, nat_le, nat_lt}
+use Rattle.std.specs.Prelude.{List, length, sum, Option, Some, None, ◌≡◌, ◌≤◌, count_by}
 use Rattle.std.specs.Cmp.Lexicographic.{pointwise}
 use Rattle.std.specs.Ordering.{int_eq}
+use Rattle.std.specs.List.{AllByRecursion, list_any}
 use Rattle.mon_value.specs.declared.limits.TheConstants.{LONGEST_TEXT, NUMBER_BITS}
 use Rattle.mon_value.specs.declared.values.FieldType.{FieldType}
 use Rattle.mon_value.specs.declared.values.FieldType.TheVariants as of
@@ -18,7 +19,10 @@ use Rattle.mon_value.specs.declared.schemas.Field.{Field}
 use Rattle.mon_value.specs.declared.schemas.TargetSchema.{TargetSchema}
 use Rattle.mon_value.specs.declared.schemas.MetricSchema.{MetricSchema}
 use Rattle.mon_value.specs.declared.rows.Row.{Row}
-use Rattle.mon_schema.specs.SchemaLists.{SchemaLists, target_named, metric_named}
+use Rattle.mon_schema.specs.Names.{SchemaLists, target_named, metric_named}
+use Rattle.mon_schema.specs.Faults.{is_bounded, is_kind_met, is_location}
+
+-- Which rows are of schemas that are held.
 
 -- a whole number of 64 bits, one of which is its sign
 abbrev pub is_number : ℤ → Bool
@@ -85,3 +89,35 @@ fits_both (Some target) None row = false
 abbrev pub fits : SchemaLists → Row → Bool
 fits held row =
     fits_both (target_named row.key.target.schema held.targets) (metric_named row.key.metric held.metrics) row
+
+-- What holds of each metric that schemas hold.
+
+-- each is a number of 64 bits
+abbrev pub AreNumbers : List ℤ → Type 0
+AreNumbers numbers = AllByRecursion (λ z. is_number z ≡ true) numbers
+
+-- the bounds of a distribution are numbers of 64 bits
+abbrev pub HasNumbers : ValueType → Type 0
+HasNumbers type.Int = Unit {0}
+HasNumbers type.Bool = Unit {0}
+HasNumbers type.Text = Unit {0}
+HasNumbers (type.Dist bounds) = AreNumbers bounds
+
+-- a metric as schemas take it
+pub record IsHeld (metric : MetricSchema) : Type 0 where
+  pub numbers : HasNumbers metric.value
+  pub bounded : is_bounded metric.value ≡ true
+  pub met : is_kind_met metric.kind metric.value ≡ true
+
+abbrev pub AreMetricsHeld : List MetricSchema → Type 0
+AreMetricsHeld metrics = AllByRecursion IsHeld metrics
+
+-- What holds of each target schema that schemas hold.
+
+-- a schema that says of each target where it is: one field is marked as the location, and it is a text
+pub record TellsLocation (schema : TargetSchema) : Type 0 where
+  pub once : count_by (λ field. field.location) schema.fields ≤ 1
+  pub some : list_any is_location schema.fields ≡ true
+
+abbrev pub AllTellLocations : List TargetSchema → Type 0
+AllTellLocations targets = AllByRecursion TellsLocation targets

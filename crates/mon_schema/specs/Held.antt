@@ -3,9 +3,8 @@ use Rattle.std.specs.Prelude.{◌≡◌, ℕ, List, map, Vec}
 use Rattle.std.specs.List.{AllByRecursion}
 use Rattle.std.specs.declared.alloc.Global.{Global}
 use Rattle.indexmap.specs.IndexMap.{values}
-use Rattle.mon_schema.specs.HeldMetrics.{AreMetricsHeld}
-use Rattle.mon_schema.specs.HeldTargets.{AllTellLocations}
-use Rattle.mon_schema.specs.SchemaLists.{SchemaLists}
+use Rattle.mon_schema.specs.Fits.{AreMetricsHeld, AllTellLocations}
+use Rattle.mon_schema.specs.Names.{SchemaLists}
 use Rattle.mon_schema.specs.declared.table.Schemas.TheInside.{Inside}
 
 abbrev pub schema_lists : Inside → SchemaLists

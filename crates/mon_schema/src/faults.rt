@@ -30,7 +30,7 @@ impl TryCopy for SchemaFault {
 
 impl fmt::Display for SchemaFault {
     ghost use Rattle.std.specs.Prelude.{Some};
-    ghost use Rattle.mon_schema.specs.FaultTexts.{schema_fault_text};
+    ghost use Rattle.mon_schema.specs.Faults.{schema_fault_text};
 
     ghost output = { λ fault. Some (schema_fault_text fault) };
 

@@ -1,8 +1,8 @@
 // What a metric's kind and type are tested for.
 ghost use Rattle.std.specs.Prelude.{◌≡◌, true};
-ghost use Rattle.mon_value.specs.Distributions as distribution;
+ghost use Rattle.mon_value.specs.Groups as distribution;
 ghost use Rattle.mon_schema.specs.Faults as spec;
-ghost use Rattle.mon_schema.specs.HeldMetrics.{AreNumbers, HasNumbers};
+ghost use Rattle.mon_schema.specs.Fits.{AreNumbers, HasNumbers};
 
 use crate::limits::MOST_BOUNDS;
 use mon_value::{Bounds, Kind, ValueType};

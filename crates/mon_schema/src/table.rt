@@ -28,7 +28,7 @@ pub struct Schemas {
 }
 
 impl Model for Schemas {
-    ghost use Rattle.mon_schema.specs.SchemaLists.{SchemaLists};
+    ghost use Rattle.mon_schema.specs.Names.{SchemaLists};
 
     ghost Value = { SchemaLists };
 
@@ -40,12 +40,9 @@ impl Model for Schemas {
 }
 
 impl Schemas {
-    ghost use Rattle.mon_schema.specs.SchemaLists.{no_schemas, target_named, metric_named};
-    ghost use Rattle.mon_schema.specs.SchemaLists.{with_target, with_metric};
+    ghost use Rattle.mon_schema.specs.Names.{no_schemas, target_named, metric_named, with_target, with_metric};
     ghost use Rattle.mon_schema.specs.Faults.{target_fault, metric_fault};
-    ghost use Rattle.mon_schema.specs.Fits.{fits};
-    ghost use Rattle.mon_schema.specs.HeldMetrics.{AreMetricsHeld, HasNumbers};
-    ghost use Rattle.mon_schema.specs.HeldTargets.{AllTellLocations};
+    ghost use Rattle.mon_schema.specs.Fits.{fits, AreMetricsHeld, HasNumbers, AllTellLocations};
 
     /// No schemas, which take their memory from `alloc` as they are added.
     pub fn new(alloc: Global) -> Schemas

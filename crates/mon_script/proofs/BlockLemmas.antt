@@ -4,10 +4,10 @@ use Rattle.std.proofs.Common.{◌++◌, Result, Ok, Err, refl, sym, ap, subst, a
 use Rattle.std.specs.Prelude.{codes}
 use Rattle.std.specs.List.{list_any}
 use Rattle.std.proofs.lemmas.Bool.Decides.{nat_tests}
-use Rattle.mon_script.specs.Blocks.{AreInBlocks, StandsBefore}
+use Rattle.mon_script.specs.Blocks.{AreInBlocks, StandsBefore, has_end, in_block, mark_of, next_place, one_more}
+use Rattle.mon_script.specs.Blocks.{outside, stand_at}
 use Rattle.mon_script.specs.Forms.{Said, form_of}
 use Rattle.mon_script.specs.Lines.{is_remark}
-use Rattle.mon_script.specs.Places.{has_end, in_block, mark_of, next_place, one_more, outside, stand_at}
 use Rattle.mon_script.specs.Scripts.{lines_read, line_read, numbered, read_as, said_read, script_from}
 use Rattle.mon_script.specs.declared.faults.ScriptFault.{ScriptFault}
 use Rattle.mon_script.specs.declared.faults.ScriptKind.{ScriptKind}

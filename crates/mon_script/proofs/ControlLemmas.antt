@@ -4,12 +4,10 @@ use Rattle.std.proofs.Common.{Err, option_map, refl, sym, subst}
 use Rattle.std.specs.Prelude.{codes}
 use Rattle.std.specs.List.{position_from}
 use Rattle.std.specs.Option.{ok_or}
-use Rattle.mon_script.specs.Controls.{control_form, down_form, leaf_of, on_leaf_form, recover_form, up_form}
-use Rattle.mon_script.specs.Controls.{zoned_form}
+use Rattle.mon_script.specs.Forms.{control_form, down_form, leaf_of, on_leaf_form, recover_form, up_form, zoned_form}
+use Rattle.mon_script.specs.Forms.{has_space, tick_form}
 use Rattle.mon_script.specs.Lawful.{IsLawfulForm}
-use Rattle.mon_script.specs.Lines.{cut_at}
-use Rattle.mon_script.specs.StandingLines.{has_space, tick_form}
-use Rattle.mon_script.specs.Words.{space}
+use Rattle.mon_script.specs.Lines.{cut_at, space}
 use Rattle.mon_script.specs.declared.faults.ScriptKind.{ScriptKind}
 use Rattle.mon_script.specs.declared.faults.ScriptKind.TheVariants as kind
 use Rattle.mon_script.specs.declared.forms.LineForm.{LineForm}
@@ -17,11 +15,10 @@ use Rattle.mon_script.specs.declared.forms.LineForm.TheVariants as form
 use Rattle.mon_script.proofs.StandingLineLemmas.{tick_lawful}
 use Rattle.mon_topo.proofs.SharedZoneLemmas.{shared_zone}
 use Rattle.mon_topo.proofs.PositionLemmas.{found_within}
-use Rattle.mon_topo.specs.SharedZones.{share_zone}
-use Rattle.mon_topo.specs.Zones.{leaf_named, leaves_in, range_named}
+use Rattle.mon_topo.specs.Zones.{share_zone, leaf_named, leaves_in, range_named}
 use Rattle.mon_topo.specs.declared.zones.ZoneSpec.{ZoneSpec}
 use Rattle.mon_value.specs.Answers.{◌>>=◌}
-use Rattle.mon_value.specs.Positions.{leaf_numbered}
+use Rattle.mon_value.specs.Histories.{leaf_numbered}
 use Rattle.mon_value.specs.Same.{same_text}
 use Rattle.mon_value.specs.declared.positions.Leaf.{Leaf}
 use Rattle.mon_value.specs.declared.positions.Range.{Range}

@@ -9,11 +9,10 @@ use Rattle.std.proofs.lemmas.Int.{ints}
 use Rattle.mon_script.specs.Forms.{Said, ask_named, asked_at, asking, form_cut, form_of, said_by}
 use Rattle.mon_script.specs.Forms.{timed}
 use Rattle.mon_script.specs.Lawful.{IsLawfulForm, IsLawfulLine}
-use Rattle.mon_script.specs.Lines.{cut_at, is_remark}
-use Rattle.mon_script.specs.Places.{mark_of, stand_at}
+use Rattle.mon_script.specs.Lines.{cut_at, is_remark, is_file_name, is_moment, moment_of, space}
+use Rattle.mon_script.specs.Blocks.{mark_of, stand_at}
 use Rattle.mon_script.specs.Scripts.{line_read, lines_read, numbered, read_as}
 use Rattle.mon_script.specs.Scripts.{said_read, script_from}
-use Rattle.mon_script.specs.Words.{is_file_name, is_moment, moment_of, space}
 use Rattle.mon_script.specs.declared.faults.ScriptFault.{ScriptFault}
 use Rattle.mon_script.specs.declared.faults.ScriptKind.{ScriptKind}
 use Rattle.mon_script.specs.declared.faults.ScriptKind.TheVariants as kind
@@ -25,7 +24,7 @@ use Rattle.mon_script.specs.declared.script.LineRead.{LineRead}
 use Rattle.mon_script.specs.declared.script.ScriptLine.{ScriptLine}
 use Rattle.mon_topo.specs.declared.zones.ZoneSpec.{ZoneSpec}
 use Rattle.mon_value.specs.Answers.{◌>>=◌}
-use Rattle.mon_value.specs.Numbers.{number_of}
+use Rattle.mon_value.specs.Values.{number_of}
 use Rattle.mon_value.specs.Same.{same_text}
 use Rattle.mon_script.proofs.ControlLemmas.{control_lawful}
 use Rattle.mon_script.proofs.StandingLineLemmas.{moment_lawful, standing_lawful}

@@ -14,10 +14,9 @@ use Rattle.std.proofs.lemmas.Str.Ascii.{IsAscii-from_all}
 use Rattle.mon_schema.specs.Names.{is_name, is_name_byte, is_name_start}
 use Rattle.mon_schema.specs.declared.limits.TheConstants.{LONGEST_NAME}
 use Rattle.mon_script.specs.Lawful.{IsLawfulForm}
-use Rattle.mon_script.specs.Lines.{cut_at}
-use Rattle.mon_script.specs.StandingLines.{has_space, is_period, moment_form, named_form, period_of}
-use Rattle.mon_script.specs.StandingLines.{period_form, standing_form, texts_form, tick_form}
-use Rattle.mon_script.specs.Words.{is_moment, moment_of, space}
+use Rattle.mon_script.specs.Lines.{cut_at, is_moment, moment_of, space}
+use Rattle.mon_script.specs.Forms.{has_space, is_period, moment_form, named_form, period_of, period_form, standing_form}
+use Rattle.mon_script.specs.Forms.{texts_form, tick_form}
 use Rattle.mon_script.specs.declared.faults.ScriptKind.{ScriptKind}
 use Rattle.mon_script.specs.declared.faults.ScriptKind.TheVariants as kind
 use Rattle.mon_script.specs.declared.forms.LineForm.{LineForm}
@@ -25,8 +24,7 @@ use Rattle.mon_script.specs.declared.forms.LineForm.TheVariants as form
 use Rattle.mon_script.specs.declared.standing_lines.TheConstants.{LONGEST_PERIOD}
 use Rattle.mon_topo.specs.declared.zones.ZoneSpec.{ZoneSpec}
 use Rattle.mon_value.specs.Answers.{◌>>=◌}
-use Rattle.mon_value.specs.Numbers.{number_of}
-use Rattle.mon_value.specs.Texts.{text_in}
+use Rattle.mon_value.specs.Values.{number_of, text_in}
 
 -- ---- numbers
 

@@ -1,20 +1,121 @@
--- What a line says by itself, or why it says nothing. Of several reasons the one counts that is told first.
-use Rattle.std.specs.Prelude.{ℕ, ℤ, List, codes, Option, Some, None, Result, Ok, Err, if◌then◌else◌}
+-- What a line says by itself, or why it says nothing. Of several reasons the one counts that is told.
+use Rattle.std.specs.Prelude.{◌==◌, ◌&&◌, ℕ, ℤ, pos, int_le, Bool, not, List, Option, Some, None, Result, Ok, Err}
+use Rattle.std.specs.Prelude.{option_and_then, if◌then◌else◌, codes}
+use Rattle.std.specs.List.{list_any}
 use Rattle.std.specs.Option.{ok_or}
 use Rattle.std.specs.Str.{is_utf8}
-use Rattle.mon_script.specs.Lines.{cut_at}
-use Rattle.mon_script.specs.Words.{is_file_name, moment_of, space}
-use Rattle.mon_topo.specs.declared.zones.ZoneSpec.{ZoneSpec}
+use Rattle.mon_schema.specs.Names.{is_name}
 use Rattle.mon_value.specs.Answers.{◌>>=◌}
+use Rattle.mon_value.specs.Values.{number_of}
+use Rattle.mon_topo.specs.Zones.{share_zone, leaf_named, range_named}
+use Rattle.mon_topo.specs.declared.zones.ZoneSpec.{ZoneSpec}
 use Rattle.mon_value.specs.Same.{same_text}
-use Rattle.mon_script.specs.Controls.{control_form}
-use Rattle.mon_script.specs.StandingLines.{standing_form}
+use Rattle.mon_value.specs.declared.positions.Leaf.{Leaf}
+use Rattle.mon_value.specs.declared.positions.Range.{Range}
+use Rattle.mon_script.specs.Lines.{cut_at, moment_of, space, is_file_name}
 use Rattle.mon_script.specs.declared.faults.ScriptKind.{ScriptKind}
 use Rattle.mon_script.specs.declared.faults.ScriptKind.TheVariants as kind
-use Rattle.mon_script.specs.declared.forms.Ask.{Ask}
-use Rattle.mon_script.specs.declared.forms.Ask.TheVariants as ask
 use Rattle.mon_script.specs.declared.forms.LineForm.{LineForm}
 use Rattle.mon_script.specs.declared.forms.LineForm.TheVariants as form
+use Rattle.mon_script.specs.declared.standing_lines.TheConstants.{LONGEST_PERIOD}
+use Rattle.mon_script.specs.declared.forms.Ask.{Ask}
+use Rattle.mon_script.specs.declared.forms.Ask.TheVariants as ask
+
+-- What a line says by which a query comes to stand, or at which those that are due are asked; or why it says nothing.
+
+abbrev pub has_space : List ℕ → Bool
+has_space = list_any (λ byte. byte == space)
+
+-- ---- standing queries
+
+-- a period is a number from 1 to 1,000,000,000
+abbrev pub is_period : ℤ → Bool
+is_period z = int_le (pos 1) z && int_le z LONGEST_PERIOD
+
+abbrev pub period_of : List ℕ → Option ℤ
+period_of word = option_and_then (λ z. if is_period z then Some z else None) (number_of word)
+
+abbrev pub period_form : List ℕ → List ℕ → List ℕ → Result LineForm ScriptKind
+period_form name word text = do
+  period ← ok_or (period_of word) kind.BadNumber
+  Ok (form.Standing name period text)
+
+-- the text is any text of UTF-8
+abbrev pub texts_form : List ℕ → List ℕ → List ℕ → Result LineForm ScriptKind
+texts_form name period text = if is_utf8 text then period_form name period text else Err kind.BadWord
+
+abbrev pub behind_name : List ℕ → List ℕ → Result LineForm ScriptKind
+behind_name name rest = do
+  words ← ok_or (cut_at space rest) kind.BadWord
+  texts_form name words.0 words.1
+
+abbrev pub named_form : List ℕ → List ℕ → Result LineForm ScriptKind
+named_form name rest = if is_name name then behind_name name rest else Err kind.BadWord
+
+-- `standing` has a name, a period and a text
+abbrev pub standing_form : List ℕ → Result LineForm ScriptKind
+standing_form rest = do
+  words ← ok_or (cut_at space rest) kind.BadWord
+  named_form words.0 words.1
+
+-- ---- ticks
+
+abbrev pub moment_form : Option ℤ → Result LineForm ScriptKind
+moment_form (Some moment) = Ok (form.Tick moment)
+moment_form None = Err kind.BadNumber
+
+-- `tick` has a moment
+abbrev pub tick_form : List ℕ → Result LineForm ScriptKind
+tick_form word = if has_space word then Err kind.BadWord else moment_form (moment_of word)
+
+-- What a line says that takes a leaf down or up, opens a range's replica on a leaf, or asks the standing queries that
+-- are due; or why it says nothing.
+
+-- ---- leaves
+
+-- a word that is a leaf's name
+abbrev pub leaf_of : List ZoneSpec → List ℕ → Result Leaf ScriptKind
+leaf_of zones name = if has_space name then Err kind.BadWord else ok_or (leaf_named zones name) kind.UnknownLeaf
+
+abbrev pub down_form : List ZoneSpec → List ℕ → Result LineForm ScriptKind
+down_form zones name = do
+  leaf ← leaf_of zones name
+  Ok (form.Down leaf)
+
+abbrev pub up_form : List ZoneSpec → List ℕ → Result LineForm ScriptKind
+up_form zones name = do
+  leaf ← leaf_of zones name
+  Ok (form.Up leaf)
+
+-- ---- a range and a leaf
+
+abbrev pub zoned_form : List ZoneSpec → Range → Leaf → Result LineForm ScriptKind
+zoned_form zones range leaf = if share_zone zones range leaf then Ok (form.Recover range leaf) else Err kind.NotInZone
+
+-- the names of a range and of a leaf: a leaf that there isn't is told before a range that there isn't
+abbrev pub on_leaf_form : List ZoneSpec → List ℕ → List ℕ → Result LineForm ScriptKind
+on_leaf_form zones range leaf = do
+  found ← leaf_of zones leaf
+  of ← ok_or (range_named zones range) kind.UnknownRange
+  zoned_form zones of found
+
+-- `recover` has a range's name and that of a leaf in its zone
+abbrev pub recover_form : List ZoneSpec → List ℕ → Result LineForm ScriptKind
+recover_form zones rest = do
+  words ← ok_or (cut_at space rest) kind.BadWord
+  on_leaf_form zones words.0 words.1
+
+-- ---- by the first word
+
+abbrev pub control_form : List ZoneSpec → List ℕ → List ℕ → Result LineForm ScriptKind
+control_form zones word rest =
+    if same_text word (codes "down") then down_form zones rest
+    else if same_text word (codes "up") then up_form zones rest
+    else if same_text word (codes "recover") then recover_form zones rest
+    else if same_text word (codes "tick") then tick_form rest
+    else Err kind.BadWord
+
+-- What a line says by itself, or why it says nothing. Of several reasons the one counts that is told first.
 
 abbrev pub Said : Type 0
 Said = Result LineForm ScriptKind

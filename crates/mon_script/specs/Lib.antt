@@ -1,11 +1,7 @@
 pub mod Blocks
-pub mod Controls
 pub mod Forms
 pub mod Lawful
 pub mod Lines
 pub mod Made
 pub mod MadePlaces
-pub mod Places
 pub mod Scripts
-pub mod StandingLines
-pub mod Words

@@ -1,7 +1,12 @@
--- The lines of a text.
+-- The lines of a text, and the words of a line.
 use Rattle.std.specs.Prelude.{ℕ, ◌==◌, ◌&&◌, Bool, true, false, List, [], ◌∷◌, length, take, drop, Option, Some, None}
-use Rattle.std.specs.Prelude.{option_map, if◌then◌else◌}
+use Rattle.std.specs.Prelude.{option_map, if◌then◌else◌, ℤ, pos, int_le, ◌-◌, ◌^◌, not, nat_lt, option_and_then}
+use Rattle.std.specs.List.{list_any}
+use Rattle.std.specs.Str.{is_utf8}
 use Rattle.mon_value.specs.Same.{same_text}
+use Rattle.mon_value.specs.Values.{number_of}
+
+-- The lines of a text.
 
 abbrev pub line_feed : ℕ
 line_feed = 10
@@ -42,3 +47,19 @@ lines_of (byte ∷ rest) =
 abbrev pub is_remark : List ℕ → Bool
 is_remark [] = true
 is_remark (byte ∷ line) = byte == 35
+
+-- Words of a line.
+
+abbrev pub space : ℕ
+space = 32
+
+-- a moment is a number from 0 to 2 ^ 63 - 1
+abbrev pub is_moment : ℤ → Bool
+is_moment z = int_le (pos 0) z && int_le z (pos (2 ^ 63 - 1))
+
+abbrev pub moment_of : List ℕ → Option ℤ
+moment_of word = option_and_then (λ z. if is_moment z then Some z else None) (number_of word)
+
+-- a file's name has a byte, no space, and is UTF-8
+abbrev pub is_file_name : List ℕ → Bool
+is_file_name name = nat_lt 0 (length name) && (not (list_any (λ byte. byte == space) name) && is_utf8 name)

@@ -5,7 +5,7 @@ use Rattle.mon_script.specs.Lines.{is_remark, lines_of}
 use Rattle.mon_topo.specs.declared.zones.ZoneSpec.{ZoneSpec}
 use Rattle.mon_value.specs.Answers.{◌>>=◌}
 use Rattle.mon_script.specs.Forms.{Said, form_of}
-use Rattle.mon_script.specs.Places.{mark_of, stand_at}
+use Rattle.mon_script.specs.Blocks.{mark_of, stand_at}
 use Rattle.mon_script.specs.declared.faults.ScriptFault.{ScriptFault}
 use Rattle.mon_script.specs.declared.faults.ScriptKind.{ScriptKind}
 use Rattle.mon_script.specs.declared.faults.ScriptKind.TheVariants as kind

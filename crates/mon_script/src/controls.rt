@@ -1,6 +1,6 @@
 // Lines that take a leaf down or up, open a range's replica on a leaf, or ask the standing queries that are due.
 ghost use Rattle.std.specs.Prelude.{◌≡◌};
-ghost use Rattle.mon_script.specs.Controls as spec;
+ghost use Rattle.mon_script.specs.Forms as spec;
 
 use crate::faults::ScriptKind;
 use crate::forms::LineForm;

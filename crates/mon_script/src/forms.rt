@@ -1,6 +1,6 @@
 // What a line says by itself.
 ghost use Rattle.std.specs.Prelude.{◌≡◌, option_map};
-ghost use Rattle.mon_script.specs.Words.{is_file_name};
+ghost use Rattle.mon_script.specs.Lines.{is_file_name};
 ghost use Rattle.mon_value.specs.Answers.{Gives};
 ghost use Rattle.mon_script.specs.Forms as spec;
 

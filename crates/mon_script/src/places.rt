@@ -1,7 +1,7 @@
 // Where a line stands: outside of any block, or in a block behind so many lines.
 ghost use Rattle.std.specs.Prelude.{◌≡◌, ◌≤◌, IfOk};
 ghost use Rattle.mon_script.specs.Lines.{lines_of};
-ghost use Rattle.mon_script.specs.Places as spec;
+ghost use Rattle.mon_script.specs.Blocks as spec;
 
 use crate::faults::ScriptKind;
 use crate::forms::LineForm;

@@ -2,7 +2,7 @@
 ghost use Rattle.std.specs.Prelude.{◌≡◌, true};
 ghost use Rattle.mon_schema.specs.Names.{is_name as named};
 ghost use Rattle.mon_value.specs.Answers.{Gives};
-ghost use Rattle.mon_script.specs.StandingLines as spec;
+ghost use Rattle.mon_script.specs.Forms as spec;
 
 use crate::faults::ScriptKind;
 use crate::forms::LineForm;

@@ -1,6 +1,6 @@
 // Words of a line.
 ghost use Rattle.std.specs.Prelude.{◌≡◌, ◌≤ℤ◌, pos, IfSome};
-ghost use Rattle.mon_script.specs.Words as spec;
+ghost use Rattle.mon_script.specs.Lines as spec;
 
 use mon_value::read_number;
 

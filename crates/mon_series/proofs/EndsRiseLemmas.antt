@@ -7,8 +7,8 @@ use Rattle.std.specs.List.Sorted.{IsPartitionedBy}
 use Rattle.std.proofs.lemmas.Bool.{cases_eq, cond_both}
 use Rattle.std.proofs.lemmas.Int.{ints}
 use Rattle.mon_value.specs.declared.rows.Point.{Point}
-use Rattle.mon_value.specs.Sources.{last_end}
-use Rattle.mon_value.specs.Windows.{EndsRise}
+use Rattle.mon_value.specs.LeafHistories.{last_end}
+use Rattle.mon_value.specs.Grids.{EndsRise}
 
 abbrev EndsAfter : ℤ → List Point → Type 0
 EndsAfter end points = AllByRecursion (λ (later : Point). end <ℤ later.end) points

@@ -9,7 +9,7 @@ use Rattle.mon_value.proofs.SameLemmas.{same_series-Decides}
 use Rattle.mon_value.proofs.SourceLemmas.{has_series, lookup-points_by_series, points_by_series-push, points_found}
 use Rattle.mon_value.proofs.SourceLemmas.{points_missing, with_point}
 use Rattle.mon_value.specs.Same.{same_series}
-use Rattle.mon_value.specs.Sources.{key_of_row, last_end, points_by_series, points_of, rows_of, series_of}
+use Rattle.mon_value.specs.LeafHistories.{key_of_row, last_end, points_by_series, points_of, rows_of, series_of}
 use Rattle.mon_value.specs.declared.rows.Point.{Point}
 use Rattle.mon_value.specs.declared.rows.Row.{Row}
 use Rattle.mon_value.specs.declared.rows.SeriesKey.{SeriesKey}

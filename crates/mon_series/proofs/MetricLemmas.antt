@@ -10,7 +10,7 @@ use Rattle.mon_value.proofs.SameLemmas.{same_series-Decides, same_text-Decides}
 use Rattle.mon_value.proofs.SourceLemmas.{SeriesGroup, has_series, points_by_series-push, with_point}
 use Rattle.mon_value.specs.Rooms.{RoomList}
 use Rattle.mon_value.specs.Same.{same_series, same_text}
-use Rattle.mon_value.specs.Sources.{key_of_row, points_by_series, points_of, rows_of, series_of}
+use Rattle.mon_value.specs.LeafHistories.{key_of_row, points_by_series, points_of, rows_of, series_of}
 use Rattle.mon_value.specs.declared.rows.Point.{Point}
 use Rattle.mon_value.specs.declared.rows.Row.{Row}
 use Rattle.mon_value.specs.declared.rows.SeriesKey.{SeriesKey}

@@ -4,7 +4,7 @@ use Rattle.std.proofs.Common.{IfSome, refl, sym, ap, subst, append_assoc, take-a
 use Rattle.std.specs.List.{AllByRecursion}
 use Rattle.mon_value.proofs.SameLemmas.{same_series-Decides}
 use Rattle.mon_value.specs.Same.{same_series}
-use Rattle.mon_value.specs.Sources.{EndsBefore, IsSource, last_end, points_of, rows_of}
+use Rattle.mon_value.specs.LeafHistories.{EndsBefore, IsSource, last_end, points_of, rows_of}
 use Rattle.mon_value.specs.declared.rows.Point.{Point}
 use Rattle.mon_value.specs.declared.rows.Row.{Row}
 

@@ -2,7 +2,7 @@
 use Rattle.std.proofs.Common.{◌≡◌, ℤ, ◌-ℤ◌, List}
 use Rattle.std.specs.Prelude.{int_le, int_lt}
 use Rattle.mon_value.specs.declared.rows.Point.{Point}
-use Rattle.mon_value.specs.Windows.{window_of}
+use Rattle.mon_value.specs.Grids.{window_of}
 use Rattle.mon_series.proofs.SplitLemmas.{filter_both}
 use Rattle.mon_series.specs.Splits.{points_after, points_until}
 

@@ -1,7 +1,7 @@
 -- The series of a metric.
 use Rattle.std.specs.Prelude.{ℕ, suc, List, [], ◌∷◌, if◌then◌else◌}
 use Rattle.mon_value.specs.Same.{same_text}
-use Rattle.mon_value.specs.Sources.{series_of}
+use Rattle.mon_value.specs.LeafHistories.{series_of}
 use Rattle.mon_value.specs.declared.rows.Row.{Row}
 use Rattle.mon_value.specs.declared.rows.SeriesKey.{SeriesKey}
 

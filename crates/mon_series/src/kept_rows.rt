@@ -2,7 +2,7 @@
 ghost use Rattle.std.specs.Prelude.{◌≡◌, ◌++◌, ◌∷◌, ◌<◌, ◌<ℤ◌, [], length, slice_get, option_map, Some, IfErr, IfNone};
 ghost use Rattle.std.specs.Prelude.{IfOk, IfSome, OnErr, OnOk};
 ghost use Rattle.std.specs.Option.{option_copied};
-ghost use Rattle.mon_value.specs.Sources.{IsSource, last_end, points_by_series, points_of, series_of};
+ghost use Rattle.mon_value.specs.LeafHistories.{IsSource, last_end, points_by_series, points_of, series_of};
 ghost use Rattle.mon_series.specs.MetricNumbers.{metric_numbers};
 ghost use Rattle.mon_series.specs.SeriesMaps.{series_held};
 

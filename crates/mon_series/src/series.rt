@@ -2,9 +2,8 @@
 ghost use Rattle.std.specs.Prelude.{◌≡◌, ◌+◌, ◌-◌, ◌≤◌, ◌<◌, ◌^◌, ◌==◌, ◌-ℤ◌, ◌<ℤ◌, ◌≤ℤ◌, neg_ℤ, [], ◌∷◌, ◌++◌};
 ghost use Rattle.std.specs.Prelude.{length, take, drop, IfOk, IfSome, OnOk};
 ghost use Rattle.mon_series.specs.Splits.{points_after, points_until};
-ghost use Rattle.mon_value.specs.Grids.{IsDuration};
-ghost use Rattle.mon_value.specs.Sources.{last_end};
-ghost use Rattle.mon_value.specs.Windows.{EndsRise, window_of};
+ghost use Rattle.mon_value.specs.Grids.{IsDuration, EndsRise, window_of};
+ghost use Rattle.mon_value.specs.LeafHistories.{last_end};
 
 use crate::kept_point::KeptPoint;
 use mon_value::{LONGEST_DURATION, OutOfMemory, RoomListOf};
@@ -19,7 +18,7 @@ pub struct Series {
 }
 
 impl Model for Series {
-    ghost use Rattle.mon_value.specs.Windows.{EndsRise};
+    ghost use Rattle.mon_value.specs.Grids.{EndsRise};
     ghost use Rattle.mon_series.specs.SeriesPoints.{SeriesPoints};
 
     ghost Value = { SeriesPoints };

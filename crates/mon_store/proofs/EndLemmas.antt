@@ -18,14 +18,12 @@ use Rattle.know.specs.Knowledge.{Knowledge}
 use Rattle.mon_config.specs.declared.config.Config.{Config}
 use Rattle.mon_topo.proofs.FirstLemmas.{HasNoRow, leaf_bare, leaf_count, leaf_is, range_count, range_is}
 use Rattle.mon_topo.proofs.HeldLemmas.{seen_within_itself}
-use Rattle.mon_topo.specs.FirstHistories.{first_histories, first_range_history, opened_before}
-use Rattle.mon_topo.specs.FirstHistories.{openings_from, slot_numbered}
-use Rattle.mon_topo.specs.SeenHistories.{AreWithin}
+use Rattle.mon_topo.specs.HeldHistories.{first_histories, first_range_history, opened_before, openings_from}
+use Rattle.mon_topo.specs.HeldHistories.{slot_numbered, AreWithin}
 use Rattle.mon_topo.specs.Settings.{Setting}
 use Rattle.mon_topo.specs.Zones.{first_replicas, leaves_in, ranges_in}
 use Rattle.mon_topo.specs.declared.zones.ZoneSpec.{ZoneSpec}
-use Rattle.mon_value.specs.Histories.{leaf_history}
-use Rattle.mon_value.specs.Positions.{leaf_numbered, range_numbered}
+use Rattle.mon_value.specs.Histories.{leaf_history, leaf_numbered, range_numbered}
 use Rattle.mon_value.specs.declared.histories.Entry.{Entry}
 use Rattle.mon_value.specs.declared.histories.Histories.{Histories}
 use Rattle.mon_value.specs.declared.histories.RangeEntry.{RangeEntry}

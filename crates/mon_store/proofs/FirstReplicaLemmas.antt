@@ -10,16 +10,14 @@ use Rattle.std.proofs.lemmas.List.Concat.{flat_map-append}
 use Rattle.std.proofs.lemmas.List.Elements.{Contains-append_right}
 use Rattle.mon_topo.proofs.FirstLemmas.{no_acks, here_contains, opening_at, no_acks_yet}
 use Rattle.mon_topo.proofs.FirstOpenings.{open_up_to, replica_there}
-use Rattle.mon_topo.specs.FirstHistories.{first_range_history, opened_before, opened_here, opened_of, opened_up_to}
-use Rattle.mon_topo.specs.FirstHistories.{opening, openings_from, slot_numbered}
-use Rattle.mon_topo.specs.HeldHistories.{BeginsWith, IsBorneOut, IsHeldBy}
+use Rattle.mon_topo.specs.HeldHistories.{first_range_history, opened_before, opened_here, opened_of, opened_up_to}
+use Rattle.mon_topo.specs.HeldHistories.{opening, openings_from, slot_numbered, BeginsWith, IsBorneOut, IsHeldBy}
 use Rattle.mon_topo.specs.RangeHistories.{acknowledged_rows, opened_slots, serving_after}
 use Rattle.mon_topo.specs.Replicas.{HasReplicas}
 use Rattle.mon_topo.specs.Zones.{first_replicas, leaves_in}
 use Rattle.mon_topo.specs.declared.zones.ZoneSpec.{ZoneSpec}
-use Rattle.mon_value.specs.Histories.{leaf_history}
+use Rattle.mon_value.specs.Histories.{leaf_history, leaf_numbered, range_numbered, same_leaf}
 use Rattle.mon_value.specs.LeafHistories.{entry_rows, is_opened, replica_rows, same_replica}
-use Rattle.mon_value.specs.Positions.{leaf_numbered, range_numbered, same_leaf}
 use Rattle.mon_value.specs.declared.histories.Entry.{Entry}
 use Rattle.mon_value.specs.declared.histories.Entry.TheVariants as entry
 use Rattle.mon_value.specs.declared.histories.Histories.{Histories}

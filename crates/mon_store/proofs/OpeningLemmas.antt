@@ -16,12 +16,11 @@ use Rattle.know.specs.Knowledge.{Knowledge}
 use Rattle.leaf_cell.specs.NewLeaves.{NewLeafView, own_history}
 use Rattle.mon_topo.proofs.FirstLemmas.{IsOpen}
 use Rattle.mon_topo.proofs.FirstOpenings.{before_more, open_up_to, up_to_more}
-use Rattle.mon_topo.specs.FirstHistories.{first_range_history, opened_before, opened_here, opened_up_to, opening}
+use Rattle.mon_topo.specs.HeldHistories.{first_range_history, opened_before, opened_here, opened_up_to, opening}
 use Rattle.mon_topo.specs.Zones.{first_replicas, leaves_in}
 use Rattle.mon_topo.specs.declared.zones.ZoneSpec.{ZoneSpec}
-use Rattle.mon_value.specs.Histories.{joined_histories, leaf_history, range_history}
+use Rattle.mon_value.specs.Histories.{joined_histories, leaf_history, range_history, leaf_numbered, range_numbered}
 use Rattle.mon_value.specs.LeafHistories.{is_down, is_opened}
-use Rattle.mon_value.specs.Positions.{leaf_numbered, range_numbered}
 use Rattle.mon_value.specs.declared.histories.Histories.{Histories}
 use Rattle.mon_value.specs.declared.positions.Leaf.{Leaf}
 use Rattle.mon_value.specs.declared.positions.Range.{Range}

@@ -15,8 +15,7 @@ use Rattle.history_book.specs.declared.views.History.TheVariants as of
 use Rattle.history_book.specs.declared.views.Kept.{Kept}
 use Rattle.know.specs.Knowledge.{Knowledge}
 use Rattle.mon_topo.proofs.FrontLemmas.{begins_from, begins_to, behind}
-use Rattle.mon_topo.specs.HeldHistories.{BeginsWith}
-use Rattle.mon_topo.specs.SeenHistories.{AreWithin}
+use Rattle.mon_topo.specs.HeldHistories.{BeginsWith, AreWithin}
 use Rattle.mon_value.specs.Histories.{leaf_history, range_history}
 use Rattle.mon_value.specs.declared.histories.Histories.{Histories}
 use Rattle.mon_store.specs.Passes.{HasSeenItsOwn}

@@ -13,7 +13,7 @@ use Rattle.history_book.specs.declared.views.BookEntry.{BookEntry}
 use Rattle.history_book.specs.declared.views.Kept.{Kept}
 use Rattle.know.specs.Knowledge.{Knowledge, after_numbering, meeting, numbered_knowledge}
 use Rattle.mon_topo.proofs.HeldLemmas.{seen_within_through}
-use Rattle.mon_topo.specs.FirstHistories.{first_histories}
+use Rattle.mon_topo.specs.HeldHistories.{first_histories}
 use Rattle.mon_topo.specs.Settings.{Setting}
 use Rattle.owners.specs.Puts.{number_or, pass_of}
 use Rattle.mon_store.proofs.OwnLemmas.{still_exact, within_front}

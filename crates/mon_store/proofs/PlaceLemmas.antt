@@ -14,7 +14,7 @@ use Rattle.mon_topo.specs.Settings.{Setting, zone_of_leaf}
 use Rattle.mon_topo.specs.Sizes.{AreWithinLimits}
 use Rattle.mon_topo.specs.Zones.{first_leaf, leaf_counts, leaf_zones, leaves_in, no_zone, zone_at}
 use Rattle.mon_topo.specs.declared.zones.ZoneSpec.{ZoneSpec}
-use Rattle.mon_value.specs.Positions.{leaf_numbered, range_numbered, zone_numbered}
+use Rattle.mon_value.specs.Histories.{leaf_numbered, range_numbered, zone_numbered}
 use Rattle.mon_value.specs.declared.positions.Leaf.{Leaf}
 use Rattle.mon_value.specs.declared.positions.Zone.{Zone}
 use Rattle.raise_table.specs.Places as places

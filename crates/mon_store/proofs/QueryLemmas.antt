@@ -6,12 +6,12 @@ use Rattle.history_book.specs.Seats.{IsPurseBorneOut, hand_of, kept_in}
 use Rattle.history_book.specs.declared.views.Kept.{Kept}
 use Rattle.know.specs.Knowledge.{Knowledge}
 use Rattle.know.specs.Sound.{IsSound}
-use Rattle.leaf_store.specs.LeafBuckets.{buckets_by, key_buckets}
+use Rattle.leaf_store.specs.LeafStates.{buckets_by, key_buckets}
 use Rattle.mon_config.specs.declared.config.Config.{Config}
 use Rattle.mon_hints.specs.Hints.{series_buckets}
-use Rattle.mon_schema.specs.SchemaLists.{SchemaLists, metric_named, target_named}
+use Rattle.mon_schema.specs.Names.{SchemaLists, metric_named, target_named}
 use Rattle.mon_topo.proofs.HeldLemmas.{seen_within_through}
-use Rattle.mon_topo.specs.FirstHistories.{first_histories}
+use Rattle.mon_topo.specs.HeldHistories.{first_histories}
 use Rattle.mon_topo.specs.Settings.{Setting}
 use Rattle.mon_topo.specs.Zones.{leaf_counts, ranges_in}
 use Rattle.mon_value.specs.declared.rows.SeriesKey.{SeriesKey}
@@ -20,12 +20,11 @@ use Rattle.mon_value.specs.declared.schemas.TargetSchema.{TargetSchema}
 use Rattle.mql_types.specs.declared.plans.Plan.{Plan}
 use Rattle.owners.specs.Puts.{pass_of}
 use Rattle.query_core.specs.Askings.{IsAskedOf}
-use Rattle.query_core.specs.Settings.{QuerySetting}
+use Rattle.query_core.specs.Rounds.{QuerySetting}
 use Rattle.query_core.specs.declared.answers.Answer.{Answer}
 use Rattle.query_core.specs.declared.answers.RoundFault.{RoundFault}
 use Rattle.query_core.specs.declared.answers.RoundFault.TheVariants as round
-use Rattle.query_texts.specs.Plans.{IsPlanOver, plan_type}
-use Rattle.query_texts.specs.TextTypes.{text_type}
+use Rattle.query_texts.specs.TextTypes.{IsPlanOver, plan_type, text_type}
 use Rattle.raise_table.specs.Tables.{RaiseIdentity}
 use Rattle.running_query.specs.Asking.{IsAskedHere}
 use Rattle.running_query.specs.Ends.{EndsRightly}

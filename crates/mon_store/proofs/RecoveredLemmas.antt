@@ -53,7 +53,7 @@ use Rattle.range_cell.specs.Recoveries.{HasFoundTargetDown, HasNotRecovered, Has
 use Rattle.range_cell.specs.Recoveries.{IsFoundDown, IsLooking, OnTheWay, RanShort, after_copying}
 use Rattle.range_cell.specs.declared.answers.RecoverFault.{RecoverFault}
 use Rattle.range_cell.specs.declared.answers.RecoverFault.TheVariants as fault
-use Rattle.write_core.specs.Openings.{denial_of}
+use Rattle.write_core.specs.Recovering.{denial_of}
 use Rattle.write_core.specs.declared.copies.Denial.TheVariants.{ServesFully, ServesThere, SlotsSpent}
 use Rattle.running_query.proofs.GoingLemmas.{fronts_through}
 

@@ -7,7 +7,7 @@ use Rattle.std.specs.List.{flat_map}
 use Rattle.history_book.specs.Seats.{length_note}
 use Rattle.history_book.specs.declared.views.Kept.{Kept}
 use Rattle.know.specs.Knowledge.{Knowledge}
-use Rattle.mon_config.specs.KeyRanges.{range_of_key}
+use Rattle.mon_config.specs.Configs.{range_of_key}
 use Rattle.mon_config.specs.declared.config.Config.{Config}
 use Rattle.mon_topo.proofs.FrontLemmas.{begins_same}
 use Rattle.mon_topo.specs.RangeHistories.{acknowledged_rows, serving}

@@ -11,8 +11,7 @@ use Rattle.history_book.specs.declared.views.History.TheVariants as of
 use Rattle.history_book.specs.Histories.{AreFronts, with_book_entry}
 use Rattle.mon_topo.proofs.HeldLemmas.{leaf_same, range_same}
 use Rattle.mon_value.proofs.FartherLemmas.{longer_each-get}
-use Rattle.mon_value.specs.Farther.{longer}
-use Rattle.mon_value.specs.Histories.{joined_histories, leaf_history, range_history}
+use Rattle.mon_value.specs.Histories.{longer, joined_histories, leaf_history, range_history}
 use Rattle.mon_value.specs.declared.histories.Entry.{Entry}
 use Rattle.mon_value.specs.declared.histories.Histories.{Histories}
 use Rattle.mon_value.specs.declared.histories.RangeEntry.{RangeEntry}

@@ -15,11 +15,10 @@ use Rattle.history_book.specs.Seats.{first_seat, new_number, times_range}
 use Rattle.know.specs.Knowledge.{Knowledge, from_seats}
 use Rattle.leaf_cell.specs.NewLeaves.{NewLeafView}
 use Rattle.mon_topo.specs.Sights.{no_sight, range_sight, sight_of}
-use Rattle.mon_topo.specs.FirstHistories.{first_range_history}
+use Rattle.mon_topo.specs.HeldHistories.{first_range_history}
 use Rattle.mon_topo.specs.Zones.{leaves_in}
 use Rattle.mon_topo.specs.declared.zones.ZoneSpec.{ZoneSpec}
-use Rattle.mon_value.specs.Histories.{leaf_history, range_history}
-use Rattle.mon_value.specs.Positions.{leaf_numbered, same_range}
+use Rattle.mon_value.specs.Histories.{leaf_history, range_history, leaf_numbered, same_range}
 use Rattle.mon_value.specs.declared.histories.Entry.{Entry}
 use Rattle.mon_value.specs.declared.histories.Histories.{Histories}
 use Rattle.mon_value.specs.declared.histories.RangeEntry.{RangeEntry}

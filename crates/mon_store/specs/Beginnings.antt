@@ -7,7 +7,7 @@ use Rattle.history_book.specs.declared.numbers.TheConstants.{NUMBER_END}
 use Rattle.history_book.specs.declared.views.History.{History}
 use Rattle.know.specs.Knowledge.{Knowledge}
 use Rattle.mon_config.specs.declared.config.Config.{Config}
-use Rattle.mon_topo.specs.FirstHistories.{first_histories}
+use Rattle.mon_topo.specs.HeldHistories.{first_histories}
 use Rattle.mon_store.specs.Writes.{own_entries}
 
 -- It has seen each range opened on its first replicas, which have no rows, and nothing else; these entries are its own;

@@ -10,12 +10,11 @@ use Rattle.history_book.specs.declared.views.History.TheVariants as of
 use Rattle.history_book.specs.declared.views.Kept.{Kept}
 use Rattle.know.specs.Knowledge.{Knowledge}
 use Rattle.leaf_cell.specs.NewLeaves.{HasOpened, NewLeafView, own_history}
-use Rattle.mon_topo.specs.FirstHistories.{first_range_history, opened_up_to}
+use Rattle.mon_topo.specs.HeldHistories.{first_range_history, opened_up_to}
 use Rattle.mon_topo.specs.Zones.{leaves_in}
 use Rattle.mon_topo.specs.declared.zones.ZoneSpec.{ZoneSpec}
-use Rattle.mon_value.specs.Histories.{leaf_history, range_history}
+use Rattle.mon_value.specs.Histories.{leaf_history, range_history, leaf_numbered, range_numbered}
 use Rattle.mon_value.specs.LeafHistories.{is_down, is_opened}
-use Rattle.mon_value.specs.Positions.{leaf_numbered, range_numbered}
 use Rattle.mon_value.specs.declared.histories.Entry.{Entry}
 use Rattle.mon_value.specs.declared.histories.Histories.{Histories}
 use Rattle.mon_value.specs.declared.histories.RangeEntry.{RangeEntry}

@@ -5,8 +5,7 @@ use Rattle.history_book.specs.Seats.{IsPurseBorneOut, hand_of, kept_in}
 use Rattle.history_book.specs.declared.views.History.{History}
 use Rattle.history_book.specs.declared.views.Kept.{Kept}
 use Rattle.know.specs.Knowledge.{Knowledge}
-use Rattle.mon_topo.specs.FirstHistories.{first_histories}
-use Rattle.mon_topo.specs.SeenHistories.{AreWithin}
+use Rattle.mon_topo.specs.HeldHistories.{first_histories, AreWithin}
 use Rattle.mon_topo.specs.Settings.{Setting}
 use Rattle.owners.specs.Puts.{pass_of}
 

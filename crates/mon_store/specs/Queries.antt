@@ -3,8 +3,7 @@ use Rattle.std.specs.Prelude.{◌≡◌, ◌<◌, ◌^◌, ℕ, ℤ, List, lengt
 use Rattle.know.specs.Knowledge.{Knowledge}
 use Rattle.mon_config.specs.Configs.{IsLimited}
 use Rattle.mon_config.specs.declared.config.Config.{Config}
-use Rattle.mon_schema.specs.HeldMetrics.{AreMetricsHeld}
-use Rattle.mon_schema.specs.HeldTargets.{AllTellLocations}
+use Rattle.mon_schema.specs.Fits.{AreMetricsHeld, AllTellLocations}
 use Rattle.mon_store.specs.Stores.{setting_of}
 use Rattle.mon_store.specs.declared.queries.QueryFault.{QueryFault}
 use Rattle.mon_store.specs.declared.queries.QueryFault.TheVariants as fault
@@ -12,16 +11,14 @@ use Rattle.mon_topo.specs.Faults.{AreLawfulZones}
 use Rattle.mon_topo.specs.Replicas.{HasReplicas}
 use Rattle.mon_topo.specs.Settings.{Setting}
 use Rattle.mon_topo.specs.Zones.{ranges_in}
-use Rattle.mon_value.specs.Positions.{range_numbered}
-use Rattle.query_core.specs.Areas.{areas_of}
+use Rattle.mon_value.specs.Histories.{range_numbered}
+use Rattle.query_core.specs.Rounds.{areas_of, QuerySetting}
 use Rattle.query_core.specs.Mixtures.{typed_of}
-use Rattle.query_core.specs.Settings.{QuerySetting}
 use Rattle.query_core.specs.declared.answers.Answer.{Answer}
 use Rattle.query_core.specs.declared.answers.RoundFault.{RoundFault}
 use Rattle.query_core.specs.declared.answers.RoundFault.TheVariants as round
 use Rattle.query_core.specs.declared.areas.Area.{Area}
-use Rattle.query_texts.specs.Plans.{IsPlanOver}
-use Rattle.query_texts.specs.TextTypes.{text_type}
+use Rattle.query_texts.specs.TextTypes.{IsPlanOver, text_type}
 use Rattle.query_texts.specs.declared.faults.TextFault.TheVariants as text_fault
 use Rattle.running_query.specs.Ends.{EndsRightly}
 

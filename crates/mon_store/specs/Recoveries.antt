@@ -23,7 +23,7 @@ use Rattle.owners.specs.Puts.{pass_of}
 use Rattle.range_cell.specs.declared.answers.RecoverFault.{RecoverFault}
 use Rattle.range_cell.specs.declared.answers.RecoverFault.TheVariants as fault
 use Rattle.write_core.specs.CopySteps.{next_slot}
-use Rattle.write_core.specs.Openings.{denial_of}
+use Rattle.write_core.specs.Recovering.{denial_of}
 use Rattle.write_core.specs.declared.copies.Denial.TheVariants.{ServesFully, ServesThere, SlotsSpent}
 use Rattle.mon_store.specs.Writes.{WasFoundSo, new_entries, only_in, own_entries}
 use Rattle.running_query.specs.Ends.{WasFoundDown}

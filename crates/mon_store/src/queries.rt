@@ -10,7 +10,7 @@ ghost use Rattle.mon_store.specs.Queries.{IsEnded, IsQueried, IsServed};
 ghost use Rattle.mon_store.specs.Stores.{setting_of};
 ghost use Rattle.mon_value.specs.declared.limits.TheConstants.{ROW_BITS};
 ghost use Rattle.query_core.specs.Machine.{new_query};
-ghost use Rattle.query_texts.specs.Plans.{IsPlanOver};
+ghost use Rattle.query_texts.specs.TextTypes.{IsPlanOver};
 ghost use Rattle.running_query.specs.Asking.{IsAskedHere};
 ghost use Rattle.running_query.specs.Ends.{EndsRightly};
 ghost use Rattle.running_query.specs.Looks.{GoesOn};

@@ -2,7 +2,7 @@
 ghost use Rattle.std.specs.Prelude.{◌≡◌, ◌<◌, [], length, true, None, Some, IfErr, IfOk, IsErrOf, OnErr};
 ghost use Rattle.history_book.specs.Seats.{IsPurseBorneOut, hand_of};
 ghost use Rattle.know.specs.Sound.{IsSound};
-ghost use Rattle.mon_config.specs.KeyRanges.{range_of_key};
+ghost use Rattle.mon_config.specs.Configs.{range_of_key};
 ghost use Rattle.mon_schema.specs.Fits.{fits};
 ghost use Rattle.mon_topo.specs.HeldHistories.{IsAtHome};
 ghost use Rattle.mon_topo.specs.Zones.{ranges_in};

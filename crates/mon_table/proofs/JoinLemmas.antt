@@ -2,7 +2,7 @@
 use Rattle.std.proofs.Common.{List, IsPermutation}
 use Rattle.std.proofs.lemmas.List.Sorted.{IsPermutation-trans, IsPermutation-map}
 use Rattle.mon_value.proofs.PermutationLemmas.{filter-permutation, flat_map-alike, flat_map-permutation}
-use Rattle.mon_value.specs.Joins.{is_pair, pair_of, pairs_of}
+use Rattle.mon_value.specs.Tables.{is_pair, pair_of, pairs_of}
 use Rattle.mon_value.specs.declared.columns.Column.{Column}
 use Rattle.mon_value.specs.declared.tables.TimedRow.{TimedRow}
 use Rattle.mon_table.specs.Bags.{JoinsAlike}

@@ -6,7 +6,7 @@ use Rattle.std.proofs.Common.{append_assoc, length-append}
 use Rattle.std.proofs.lemmas.List.{set_at}
 use Rattle.std.specs.List.{cons_option, filter_map, slice_get}
 use Rattle.mon_value.proofs.SameLemmas.{same_text-Decides}
-use Rattle.mon_value.specs.Joins.{has_name, right_columns}
+use Rattle.mon_value.specs.Tables.{has_name, right_columns}
 use Rattle.mon_value.specs.Same.{same_text}
 use Rattle.mon_value.specs.declared.columns.Column.{Column}
 use Rattle.mon_table.specs.Places.{left_places_of, marked, own_places, right_places, right_places_of, unmarked}

@@ -5,9 +5,8 @@ use Rattle.std.specs.Cmp.Lexicographic.{pointwise}
 use Rattle.std.specs.List.{AllByRecursion, cons_option, filter, flat_map, list_all, slice_get, zip}
 use Rattle.std.specs.Ordering.{int_eq}
 use Rattle.std.proofs.lemmas.List.Elements.{filter_map-append}
-use Rattle.mon_value.specs.Columns.{IsWhole}
+use Rattle.mon_value.specs.Tables.{IsWhole, Named, cells_agree, has_name, is_pair, join_of, pair_of, pairs_of}
 use Rattle.mon_value.specs.Groups.{cells_at, group_key}
-use Rattle.mon_value.specs.Joins.{Named, cells_agree, has_name, is_pair, join_of, pair_of, pairs_of}
 use Rattle.mon_value.specs.Same.{same_row, same_text, same_value}
 use Rattle.mon_value.specs.declared.columns.Column.{Column}
 use Rattle.mon_value.specs.declared.tables.Table.{Table}

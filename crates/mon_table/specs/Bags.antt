@@ -1,7 +1,7 @@
 -- Tables as bags: the order in which their rows come plays no part.
 use Rattle.std.specs.Prelude.{◌≡◌, ℕ, List}
 use Rattle.std.specs.List.Sorted.{IsPermutation}
-use Rattle.mon_value.specs.Joins.{join_of, union_of}
+use Rattle.mon_value.specs.Tables.{join_of, union_of}
 use Rattle.mon_value.specs.declared.columns.Column.{Column}
 use Rattle.mon_value.specs.declared.tables.Table.{Table}
 use Rattle.mon_value.specs.declared.tables.TimedRow.{TimedRow}

@@ -1,7 +1,7 @@
 -- Where the columns of two tables stand that a join compares, and those that it keeps.
 use Rattle.std.specs.Prelude.{ℕ, ◌+◌, Bool, true, List, [], ◌∷◌, ◌++◌, set, if◌then◌else◌}
 use Rattle.std.specs.List.{flat_map}
-use Rattle.mon_value.specs.Joins.{has_name}
+use Rattle.mon_value.specs.Tables.{has_name}
 use Rattle.mon_value.specs.Same.{same_text}
 use Rattle.mon_value.specs.declared.columns.Column.{Column}
 

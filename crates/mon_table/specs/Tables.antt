@@ -9,7 +9,7 @@ use Rattle.mon_value.specs.Order.{sorted_rows}
 pub use Rattle.mon_value.specs.Values.{value_text}
 use Rattle.mon_value.specs.declared.tables.Table.{Table}
 use Rattle.mon_value.specs.declared.tables.TimedRow.{TimedRow}
-use Rattle.mon_value.specs.Columns.{column_names}
+use Rattle.mon_value.specs.Tables.{column_names}
 
 -- the writer of lines of any number of cells
 abbrev pub line_writer : WriterBuilder

@@ -5,9 +5,8 @@ ghost use Rattle.mon_table.specs.JoinRoom.{over_room, rows_within_room, table_wi
 ghost use Rattle.mon_table.specs.References.{rows_behind};
 ghost use Rattle.mon_table.specs.RightSides.{left_pairs, pair_row, right_side, side_at};
 ghost use Rattle.mon_value.specs.Answers.{AnswersBy, Gives};
-ghost use Rattle.mon_value.specs.Columns.{IsWhole};
+ghost use Rattle.mon_value.specs.Tables.{IsWhole, join_of};
 ghost use Rattle.mon_value.specs.Groups.{cells_at};
-ghost use Rattle.mon_value.specs.Joins.{join_of};
 
 use crate::keys::{cell_at, join_key};
 use crate::places::{Places, joined_columns};

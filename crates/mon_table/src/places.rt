@@ -3,7 +3,7 @@ ghost use Rattle.std.specs.Prelude.{◌≡◌, ◌++◌, false, map, replicate, 
 ghost use Rattle.std.specs.List.{slice_get};
 ghost use Rattle.std.specs.Option.{option_copied};
 ghost use Rattle.mon_table.specs.Places as spec;
-ghost use Rattle.mon_value.specs.Joins.{right_columns};
+ghost use Rattle.mon_value.specs.Tables.{right_columns};
 
 use crate::named::NamedPlaces;
 use mon_value::{Column, Columns, OutOfMemory, Text, TryCopy};

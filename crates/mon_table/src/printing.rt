@@ -4,7 +4,7 @@ ghost use Rattle.csv.specs.Records.{AllText, fields_of, partial_of};
 ghost use Rattle.mon_table.specs.CsvLines.{IsBetweenLines, lines_in};
 ghost use Rattle.mon_table.specs.References.{rows_behind};
 ghost use Rattle.mon_table.specs.Tables as spec;
-ghost use Rattle.mon_value.specs.Columns.{column_names};
+ghost use Rattle.mon_value.specs.Tables.{column_names};
 ghost use Rattle.mon_value.specs.Order.{sorted_rows};
 
 use csv::{ByteRecord, Writer, WriterBuilder};

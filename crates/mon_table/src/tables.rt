@@ -1,7 +1,7 @@
 // Tables as bags of rows, and their order.
 ghost use Rattle.std.specs.Prelude.{◌≡◌, ◌++◌, IfOk};
 ghost use Rattle.mon_table.specs.Tables.{sorted_table};
-ghost use Rattle.mon_value.specs.Joins.{union_of};
+ghost use Rattle.mon_value.specs.Tables.{union_of};
 ghost use Rattle.mon_value.specs.Order.{sorted_rows};
 
 use mon_value::{OutOfMemory, Table, TimedRows};

@@ -17,7 +17,7 @@ use Rattle.mon_value.specs.Order.{field_as_value, field_cmp}
 use Rattle.mon_value.specs.declared.rows.Target.{Target}
 use Rattle.mon_value.specs.declared.values.FieldValue.{FieldValue}
 use Rattle.mon_topo.proofs.PlaceLemmas.{passed}
-use Rattle.mon_topo.specs.Bounds.{bound_at, bound_cmp, is_above, is_bound_below, last_within, target_bound, IsHeldAt}
+use Rattle.mon_topo.specs.Locations.{bound_at, bound_cmp, is_above, is_bound_below, last_within, target_bound, IsHeldAt}
 use Rattle.mon_topo.specs.Faults.{disorder_in, fall_in}
 use Rattle.mon_topo.specs.Zones.{no_range}
 use Rattle.mon_topo.specs.declared.places.Place.TheVariants as place

@@ -18,20 +18,19 @@ use Rattle.mon_value.specs.declared.positions.Leaf.{Leaf}
 use Rattle.mon_value.specs.declared.positions.Range.{Range}
 use Rattle.mon_value.specs.declared.rows.Row.{Row}
 use Rattle.mon_value.proofs.LeafHistoryLemmas.{IsWellFormed-push, down_push, opened_more}
-use Rattle.mon_schema.specs.SchemaLists.{SchemaLists}
+use Rattle.mon_schema.specs.Names.{SchemaLists}
 use Rattle.mon_topo.proofs.PartLemmas.{length-zones_of}
 use Rattle.mon_topo.proofs.RangeHistoryLemmas.{all_at}
-use Rattle.mon_value.specs.Histories.{leaf_history, range_history}
+use Rattle.mon_value.specs.Histories.{leaf_history, range_history, leaf_numbered, range_numbered, same_leaf}
 use Rattle.mon_value.specs.declared.histories.Histories.{Histories}
-use Rattle.mon_topo.specs.HeldHistories.{AreAtHome, AreHeld, BeginsWith, IsBorneOut, IsHeldBy}
+use Rattle.mon_topo.specs.HeldHistories.{AreAtHome, AreHeld, BeginsWith, IsBorneOut, IsHeldBy, first_histories}
+use Rattle.mon_topo.specs.HeldHistories.{first_leaf_history, first_range_history, opened_here, opened_of, opening}
+use Rattle.mon_topo.specs.HeldHistories.{openings_from, slot_numbered}
 use Rattle.mon_topo.specs.RangeHistories as spec
 use Rattle.mon_topo.specs.RangeHistories.{acknowledged_rows, opened_slots}
 use Rattle.mon_topo.specs.Replicas.{HasReplicas}
-use Rattle.mon_value.specs.Positions.{leaf_numbered, range_numbered, same_leaf}
 use Rattle.mon_topo.specs.Zones.{first_replicas, leaves_in, ranges_in}
 use Rattle.mon_topo.specs.declared.zones.ZoneSpec.{ZoneSpec}
-use Rattle.mon_topo.specs.FirstHistories.{first_histories, first_leaf_history, first_range_history, opened_here}
-use Rattle.mon_topo.specs.FirstHistories.{opened_of, opening, openings_from, slot_numbered}
 
 -- ---- a leaf's history
 

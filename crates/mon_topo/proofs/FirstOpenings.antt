@@ -10,7 +10,7 @@ use Rattle.mon_topo.proofs.PartLemmas.{length-zones_of}
 use Rattle.mon_topo.proofs.RangeHistoryLemmas.{all_at}
 use Rattle.mon_topo.specs.RangeHistories.{IsInZoneOf}
 use Rattle.mon_topo.specs.Replicas.{HasReplicas}
-use Rattle.mon_value.specs.Positions.{leaf_numbered, range_numbered, same_leaf}
+use Rattle.mon_value.specs.Histories.{leaf_numbered, range_numbered, same_leaf}
 use Rattle.mon_topo.specs.Zones.{first_replicas, leaves_in}
 use Rattle.mon_topo.specs.declared.zones.ZoneSpec.{ZoneSpec}
 use Rattle.mon_value.specs.declared.histories.Entry.{Entry}
@@ -20,8 +20,8 @@ use Rattle.mon_value.specs.declared.histories.RangeEntry.TheVariants as range_en
 use Rattle.mon_value.specs.declared.positions.Leaf.{Leaf}
 use Rattle.mon_value.specs.declared.positions.Range.{Range}
 use Rattle.mon_topo.proofs.FirstLemmas.{IsOpen, get_contains, next_range, one_next, range_opened}
-use Rattle.mon_topo.specs.FirstHistories.{first_range_history, opened_here, opened_of, opening}
-use Rattle.mon_topo.specs.FirstHistories.{openings_from, slot_numbered, opened_before, opened_up_to}
+use Rattle.mon_topo.specs.HeldHistories.{first_range_history, opened_here, opened_of, opening, openings_from}
+use Rattle.mon_topo.specs.HeldHistories.{slot_numbered, opened_before, opened_up_to}
 
 -- ---- one more
 

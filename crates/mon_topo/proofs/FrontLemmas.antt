@@ -8,7 +8,7 @@ use Rattle.std.proofs.lemmas.List.{take_at, take-append-drop, take_all, take-tak
 use Rattle.std.proofs.lemmas.List.Concat.{flat_map-append}
 use Rattle.std.proofs.lemmas.List.Elements.{Contains-append_left}
 use Rattle.mon_topo.specs.HeldHistories.{BeginsWith}
-use Rattle.mon_value.specs.Farther.{longer}
+use Rattle.mon_value.specs.Histories.{longer}
 
 module _ {X : Type 0} where
   -- what follows the front

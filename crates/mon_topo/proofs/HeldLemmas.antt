@@ -17,17 +17,15 @@ use Rattle.mon_value.specs.declared.positions.Leaf.{Leaf}
 use Rattle.mon_value.specs.declared.positions.Range.{Range}
 use Rattle.mon_value.specs.declared.positions.SlotLeaf.{SlotLeaf}
 use Rattle.mon_value.proofs.LeafHistoryLemmas.{IsWellFormed-push}
-use Rattle.mon_value.specs.Farther.{longer, longer_each}
+use Rattle.mon_value.specs.Histories.{longer, longer_each, joined_histories, leaf_history, range_history, leaf_numbered}
+use Rattle.mon_value.specs.Histories.{range_numbered}
 use Rattle.mon_value.proofs.FartherLemmas.{farther_each-length, longer_each-get}
-use Rattle.mon_schema.specs.SchemaLists.{SchemaLists}
+use Rattle.mon_schema.specs.Names.{SchemaLists}
 use Rattle.mon_value.specs.declared.histories.Histories.{Histories}
-use Rattle.mon_topo.specs.HeldHistories.{AreAtHome, AreHeld, BeginsWith, IsBorneOut, IsHeldBy, IsMissed}
-use Rattle.mon_value.specs.Histories.{joined_histories, leaf_history, range_history}
-use Rattle.mon_topo.specs.HeldHistories.{IsOpened, IsTaken}
+use Rattle.mon_topo.specs.HeldHistories.{AreAtHome, AreHeld, BeginsWith, IsBorneOut, IsHeldBy, IsMissed, IsOpened}
+use Rattle.mon_topo.specs.HeldHistories.{IsTaken, AreWithin, with_leaf_entry, with_range_entry}
 use Rattle.mon_topo.specs.RangeHistories as range
 use Rattle.mon_topo.specs.RangeHistories.{acknowledged_rows, opened_slots, serving}
-use Rattle.mon_topo.specs.SeenHistories.{AreWithin, with_leaf_entry, with_range_entry}
-use Rattle.mon_value.specs.Positions.{leaf_numbered, range_numbered}
 use Rattle.mon_topo.specs.declared.zones.ZoneSpec.{ZoneSpec}
 use Rattle.mon_topo.proofs.FrontLemmas.{begins-flat_map, begins_itself, begins_length, begins_push, begins_same}
 use Rattle.mon_topo.proofs.FrontLemmas.{begins_through, contains_on, longer_by, longer_first, longer_second}

@@ -8,10 +8,10 @@ use Rattle.mon_topo.proofs.BoundLemmas.{has_one, point_found}
 use Rattle.mon_topo.proofs.LawfulLemmas.{few, zone_in_order}
 use Rattle.mon_topo.proofs.SizeLemmas.{parts_so_far}
 use Rattle.mon_topo.proofs.SpanLemmas.{get_or-spans_from}
-use Rattle.mon_topo.specs.Bounds.{is_bound_below, last_within, range_of, HasOneRange}
+use Rattle.mon_topo.specs.Locations.{is_bound_below, last_within, range_of, HasOneRange}
 use Rattle.mon_topo.specs.Faults.{AreLawfulZones}
 use Rattle.mon_topo.specs.Indexed.{spans_from}
-use Rattle.mon_value.specs.Positions.{range_numbered}
+use Rattle.mon_value.specs.Histories.{range_numbered}
 use Rattle.mon_topo.specs.Zones.{first_leaf, first_range, no_zone, ranges_in, zone_at, IsRangeOf}
 use Rattle.mon_topo.specs.declared.spans.ZoneSpan.{ZoneSpan}
 use Rattle.mon_topo.specs.declared.zones.RangeSpec.{RangeSpec}

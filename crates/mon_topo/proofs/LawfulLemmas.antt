@@ -4,8 +4,7 @@ use Rattle.std.proofs.Common.{refl, arith}
 use Rattle.std.proofs.lemmas.Bool.Decides.{nat_tests}
 use Rattle.mon_topo.proofs.BoundLemmas.{in_order, AreInOrder}
 use Rattle.mon_topo.proofs.PlaceLemmas.{first_at-none, none_at, passed}
-use Rattle.mon_topo.specs.Faults.{are_few, disorder, disorder_in_zone, leaves_over, too_many}
-use Rattle.mon_topo.specs.Places.{first_at, place_unless}
+use Rattle.mon_topo.specs.Faults.{are_few, disorder, disorder_in_zone, leaves_over, too_many, first_at, place_unless}
 use Rattle.mon_topo.specs.Sizes.{AreWithinLimits}
 use Rattle.mon_topo.specs.Zones.{leaves_in, no_zone, ranges_in, zone_at}
 use Rattle.mon_topo.specs.declared.limits.TheConstants.{MOST_LEAVES_OF_ZONE}

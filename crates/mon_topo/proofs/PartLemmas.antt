@@ -4,7 +4,7 @@ use Rattle.std.proofs.Common.{length-append, map, slice_get, take, refl, ap, sym
 use Rattle.std.specs.List.{flat_map}
 use Rattle.std.proofs.lemmas.Bool.{cases_lt}
 use Rattle.std.proofs.lemmas.List.{length-map}
-use Rattle.mon_value.specs.Positions.{zone_numbered}
+use Rattle.mon_value.specs.Histories.{zone_numbered}
 use Rattle.mon_topo.specs.Zones.{no_zone, zones_of}
 use Rattle.mon_topo.specs.declared.zones.ZoneSpec.{ZoneSpec}
 use Rattle.mon_value.specs.declared.positions.Zone.{Zone}

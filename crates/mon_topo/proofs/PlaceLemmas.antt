@@ -2,7 +2,7 @@
 use Rattle.std.proofs.Common.{◌≡◌, ◌∙◌, ℕ, zero, suc, ◌+◌, ◌<◌, Bool, true, false, List, [], ◌∷◌, Option, Some, None}
 use Rattle.std.proofs.Common.{get_or, length, refl, ap, arith}
 use Rattle.std.specs.Option.{option_or}
-use Rattle.mon_topo.specs.Places.{first_at, place_unless}
+use Rattle.mon_topo.specs.Faults.{first_at, place_unless}
 use Rattle.mon_topo.specs.declared.places.Place.{Place}
 
 -- an element that isn't at fault leaves it to the rest

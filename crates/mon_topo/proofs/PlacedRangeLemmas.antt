@@ -10,13 +10,12 @@ use Rattle.mon_value.specs.declared.positions.Zone.{Zone}
 use Rattle.mon_value.specs.declared.rows.Target.{Target}
 use Rattle.mon_topo.proofs.PartLemmas.{length-zones_of, zone_of_part}
 use Rattle.mon_topo.proofs.PositionLemmas.{found_within}
-use Rattle.mon_topo.specs.Bounds.{is_bound_below, last_within, range_of}
-use Rattle.mon_topo.specs.Locations.{location_of, range_for}
-use Rattle.mon_value.specs.Positions.{range_numbered, zone_numbered}
+use Rattle.mon_topo.specs.Locations.{is_bound_below, last_within, range_of, location_of, range_for}
+use Rattle.mon_value.specs.Histories.{range_numbered, zone_numbered}
 use Rattle.mon_topo.specs.Zones.{first_range, range_zones, ranges_in, zone_at, zone_of}
 use Rattle.mon_topo.specs.declared.zones.RangeSpec.{RangeSpec}
 use Rattle.mon_topo.specs.declared.zones.ZoneSpec.{ZoneSpec}
-use Rattle.mon_schema.specs.SchemaLists.{SchemaLists}
+use Rattle.mon_schema.specs.Names.{SchemaLists}
 
 -- ---- a range of a zone
 

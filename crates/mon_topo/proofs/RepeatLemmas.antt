@@ -15,10 +15,9 @@ use Rattle.mon_value.specs.declared.refusals.Refusal.TheVariants as refusal
 use Rattle.mon_topo.proofs.NumberedLemmas.{keys-append, keys-located, keys-numbered, length-numbered}
 use Rattle.mon_topo.proofs.NumberedLemmas.{numbered_locations-append}
 use Rattle.mon_topo.proofs.NumberedLemmas.{numbered_texts-append}
-use Rattle.mon_topo.specs.Faults.{repeat_behind, repeat_in, repeated_at, stood}
+use Rattle.mon_topo.specs.Faults.{repeat_behind, repeat_in, repeated_at, stood, place_unless}
 use Rattle.mon_topo.specs.Indexed.{all_numbered, numbered_locations, names_of_zones, numbered_texts, with_name}
 use Rattle.mon_topo.specs.Indexed.{with_zone_names}
-use Rattle.mon_topo.specs.Places.{place_unless}
 use Rattle.mon_topo.specs.Zones.{leaves_in, locations_in, zone_names_in}
 use Rattle.mon_topo.specs.declared.names.Names.{Names}
 use Rattle.mon_topo.specs.declared.places.Place.{Place}

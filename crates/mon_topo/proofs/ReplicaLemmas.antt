@@ -19,11 +19,10 @@ use Rattle.mon_topo.proofs.PositionLemmas.{position_found, position_there}
 use Rattle.mon_topo.proofs.SizeLemmas.{parts_so_far}
 use Rattle.mon_topo.specs.Faults.{are_replicas, bad_replicas_in_range, bad_replicas_in_zone, no_leaf_at}
 use Rattle.mon_topo.specs.Faults.{no_leaf_in_range, no_leaf_in_zone, repeat_behind, repeat_in, repeated_at, stood}
-use Rattle.mon_topo.specs.Faults.{AreLawfulZones}
-use Rattle.mon_topo.specs.Places.{first_at, place_unless}
+use Rattle.mon_topo.specs.Faults.{AreLawfulZones, first_at, place_unless}
 use Rattle.mon_topo.specs.RangeHistories.{IsInZoneOf}
 use Rattle.mon_topo.specs.Replicas.{HasReplicas}
-use Rattle.mon_value.specs.Positions.{leaf_numbered, range_numbered, same_leaf}
+use Rattle.mon_value.specs.Histories.{leaf_numbered, range_numbered, same_leaf}
 use Rattle.mon_topo.specs.Zones.{first_replicas, leaves_in, leaves_named, locations_in, no_range}
 use Rattle.mon_topo.specs.Zones.{no_zone, ranges_in, zone_names_in}
 use Rattle.mon_topo.specs.declared.places.Place.{Place}

@@ -6,11 +6,11 @@ use Rattle.std.specs.Prelude.{Some, filter, slice_get}
 use Rattle.std.specs.List.{AllByRecursion as All}
 use Rattle.std.proofs.lemmas.Bool.Decides.{nat_tests}
 use Rattle.std.proofs.lemmas.List.Sums.{sum_by-append, sum_by-cons}
-use Rattle.mon_schema.specs.SchemaLists.{SchemaLists}
+use Rattle.mon_schema.specs.Names.{SchemaLists}
 use Rattle.mon_topo.proofs.RangeHistoryLemmas.{AreApart, IsFrom, IsLegal-push, not_missed, numbered, serving-push}
 use Rattle.mon_topo.specs.HeldHistories.{BeginsWith}
 use Rattle.mon_topo.specs.RangeHistories as spec
-use Rattle.mon_value.specs.Positions.{same_slot}
+use Rattle.mon_value.specs.Histories.{same_slot}
 use Rattle.mon_topo.specs.RangeHistories.{IsAckOf, is_missed, serving, serving_after, times}
 use Rattle.mon_topo.specs.declared.zones.ZoneSpec.{ZoneSpec}
 use Rattle.mon_value.specs.declared.histories.Ack.{Ack}

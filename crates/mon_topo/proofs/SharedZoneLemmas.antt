@@ -8,12 +8,12 @@ use Rattle.std.proofs.lemmas.Bool.Decides.{nat_tests}
 use Rattle.std.proofs.lemmas.Option.{slice_get_within}
 use Rattle.mon_topo.proofs.PartLemmas.{zone_of_part}
 use Rattle.mon_topo.specs.RangeHistories.{IsInZoneOf}
-use Rattle.mon_topo.specs.Zones.{first_leaf, first_range, leaf_zones, range_zones, zone_at}
+use Rattle.mon_topo.specs.Zones.{first_leaf, first_range, leaf_zones, range_zones, zone_at, has_both, is_among}
+use Rattle.mon_topo.specs.Zones.{share_zone}
 use Rattle.mon_topo.specs.declared.zones.ZoneSpec.{ZoneSpec}
-use Rattle.mon_value.specs.Positions.{zone_numbered}
+use Rattle.mon_value.specs.Histories.{zone_numbered}
 use Rattle.mon_value.specs.declared.positions.Leaf.{Leaf}
 use Rattle.mon_value.specs.declared.positions.Range.{Range}
-use Rattle.mon_topo.specs.SharedZones.{has_both, is_among, share_zone}
 
 -- one of so many numbers of which a test holds
 record IsFound (test : ℕ → Bool) (from count : ℕ) : Type 0 where

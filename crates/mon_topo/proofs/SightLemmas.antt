@@ -5,7 +5,7 @@ use Rattle.std.proofs.lemmas.List.{length-set, map-set}
 use Rattle.mon_value.proofs.FartherLemmas.{farther_each-length, farther_each-map}
 use Rattle.mon_value.specs.Histories.{joined_histories, leaf_history, range_history}
 use Rattle.mon_value.specs.declared.histories.Histories.{Histories}
-use Rattle.mon_topo.specs.SeenHistories.{with_leaf_entry, with_range_entry}
+use Rattle.mon_topo.specs.HeldHistories.{with_leaf_entry, with_range_entry}
 use Rattle.mon_value.specs.declared.histories.Entry.{Entry}
 use Rattle.mon_value.specs.declared.histories.RangeEntry.{RangeEntry}
 use Rattle.mon_value.specs.declared.positions.Leaf.{Leaf}

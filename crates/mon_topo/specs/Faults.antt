@@ -1,8 +1,9 @@
--- Why zones are no topology: the first fault in order, and its place.
-use Rattle.std.specs.Prelude.{ℕ, ◌+◌, ◌≡◌, ◌==◌, ◌&&◌, Bool, true, false, not, nat_le, List, [], ◌∷◌, ◌++◌, length}
-use Rattle.std.specs.Prelude.{take, Option, Some, None, option_map}
-use Rattle.std.specs.List.{list_any}
+-- Why zones are no topology: the first fault in order, its place and what it prints as.
+use Rattle.std.specs.Prelude.{ℕ, ◌+◌, Bool, List, [], ◌∷◌, ◌++◌, codes, Option, Some, None, if◌then◌else◌, ◌≡◌, ◌==◌}
+use Rattle.std.specs.Prelude.{◌&&◌, true, false, not, nat_le, length, take, option_map}
+use Rattle.std.specs.Fmt.{decimal}
 use Rattle.std.specs.Option.{option_or}
+use Rattle.std.specs.List.{list_any}
 use Rattle.mon_value.specs.Same.{same_text}
 use Rattle.mon_value.specs.declared.schemas.Field.{Field}
 use Rattle.mon_value.specs.declared.schemas.TargetSchema.{TargetSchema}
@@ -11,20 +12,59 @@ use Rattle.mon_value.specs.declared.values.FieldType.TheVariants as of
 use Rattle.mon_value.specs.declared.values.FieldValue.{FieldValue}
 use Rattle.mon_value.specs.declared.values.FieldValue.TheVariants as value
 use Rattle.mon_schema.specs.Faults.{texts_repeat}
-use Rattle.mon_schema.specs.Names.{is_name}
-use Rattle.mon_schema.specs.SchemaLists.{SchemaLists, target_named}
+use Rattle.mon_schema.specs.Names.{is_name, SchemaLists, target_named}
+use Rattle.mon_topo.specs.declared.places.Place.{Place}
+use Rattle.mon_topo.specs.declared.places.Place.TheVariants as place
 use Rattle.mon_topo.specs.declared.faults.TopoFault.{TopoFault}
 use Rattle.mon_topo.specs.declared.faults.TopoKind.{TopoKind}
 use Rattle.mon_topo.specs.declared.faults.TopoKind.TheVariants as kind
 use Rattle.mon_topo.specs.declared.limits.TheConstants.{MOST_LEAVES, MOST_LEAVES_OF_ZONE, MOST_RANGES, MOST_REPLICAS}
 use Rattle.mon_topo.specs.declared.limits.TheConstants.{MOST_ZONES}
-use Rattle.mon_topo.specs.declared.places.Place.{Place}
-use Rattle.mon_topo.specs.declared.places.Place.TheVariants as place
 use Rattle.mon_topo.specs.declared.zones.RangeSpec.{RangeSpec}
 use Rattle.mon_topo.specs.declared.zones.ZoneSpec.{ZoneSpec}
-use Rattle.mon_topo.specs.Bounds.{is_above}
-use Rattle.mon_topo.specs.Places.{first_at, place_path, place_unless}
+use Rattle.mon_topo.specs.Locations.{is_above}
 use Rattle.mon_topo.specs.Zones.{leaves_in, locations_in, ranges_in, zone_names_in}
+
+-- Where a fault of zones stands, and the path to it.
+
+-- the path from the top of the configuration
+abbrev pub place_path : Place → List ℕ
+place_path place.Zones = codes "$.zones"
+place_path (place.ZoneName i) = codes "$.zones[" ++ (decimal i ++ codes "].name")
+place_path (place.Location i j) = codes "$.zones[" ++ (decimal i ++ (codes "].locations[" ++ (decimal j ++ codes "]")))
+place_path (place.Leaves i) = codes "$.zones[" ++ (decimal i ++ codes "].leaves")
+place_path (place.Leaf i j) = codes "$.zones[" ++ (decimal i ++ (codes "].leaves[" ++ (decimal j ++ codes "]")))
+place_path (place.Ranges i) = codes "$.zones[" ++ (decimal i ++ codes "].ranges")
+place_path (place.Bound i j) = codes "$.zones[" ++ (decimal i ++ (codes "].ranges[" ++ (decimal j ++ codes "].from")))
+place_path (place.Replicas i j) = codes "$.zones["
+    ++ (decimal i ++ (codes "].ranges[" ++ (decimal j ++ codes "].leaves")))
+place_path (place.Replica i j k) =
+    codes "$.zones[" ++ (decimal i
+    ++ (codes "].ranges[" ++ (decimal j ++ (codes "].leaves[" ++ (decimal k ++ codes "]")))))
+
+-- the path to what a zone has under a key
+abbrev pub path_in_zone : ℕ → List ℕ → List ℕ
+path_in_zone i key = codes "$.zones[" ++ (decimal i ++ (codes "]." ++ key))
+
+-- the path to an element of what a zone has under a key
+abbrev pub path_of_element : ℕ → List ℕ → ℕ → List ℕ
+path_of_element i key j = codes "$.zones["
+    ++ (decimal i ++ (codes "]." ++ (key ++ (codes "[" ++ (decimal j ++ codes "]")))))
+
+-- the path to what a range of a zone has under a key
+abbrev pub path_in_range : ℕ → ℕ → List ℕ → List ℕ
+path_in_range i j key = codes "$.zones[" ++ (decimal i ++ (codes "].ranges[" ++ (decimal j ++ (codes "]." ++ key))))
+
+-- the place, unless it is as it must be
+abbrev pub place_unless : Bool → Place → Option Place
+place_unless good place = if good then None else Some place
+
+-- the first place at fault among elements that are numbered on from i
+abbrev pub first_at : {X : Type 0} → (ℕ → X → Option Place) → ℕ → List X → Option Place
+first_at fault i [] = None
+first_at fault i (x ∷ xs) = option_or (fault i x) (first_at fault (i + 1) xs)
+
+-- Why zones are no topology: the first fault in order, and its place.
 
 -- ---- too many
 
@@ -187,3 +227,17 @@ pub record AreLawfulZones (zones : List ZoneSpec) : Type 0 where
   pub known : no_leaf zones ≡ None
   pub replicated : bad_replicas zones ≡ None
   pub ordered : disorder zones ≡ None
+
+-- What a refusal prints as.
+
+abbrev pub topo_kind_text : TopoKind → List ℕ
+topo_kind_text kind.TooMany = codes "TooMany"
+topo_kind_text kind.BadName = codes "BadName"
+topo_kind_text kind.Duplicate = codes "Duplicate"
+topo_kind_text kind.NoLeaf = codes "NoLeaf"
+topo_kind_text kind.Replicas = codes "Replicas"
+topo_kind_text kind.BadBound = codes "BadBound"
+topo_kind_text kind.RangeOrder = codes "RangeOrder"
+
+abbrev pub topo_fault_text : TopoFault → List ℕ
+topo_fault_text fault = topo_kind_text fault.kind ++ (codes " " ++ fault.path)

@@ -1,8 +1,8 @@
--- What a range's history says, oldest entry first, and which histories a range can have.
+-- What a range's history says, oldest entry first, which it can have, and which replica is looked at.
 use Rattle.std.specs.Prelude.{◌≡◌, ◌<◌, ◌≤◌, ℕ, nat_eq, Bool, false, not, List, [], ◌∷◌, ◌++◌, length, filter, map}
-use Rattle.std.specs.Prelude.{slice_get, Some}
+use Rattle.std.specs.Prelude.{slice_get, Some, Option}
 use Rattle.std.specs.List.{count_by, flat_map, list_any}
-use Rattle.mon_value.specs.Sources.{IsSource}
+use Rattle.mon_value.specs.LeafHistories.{IsSource}
 use Rattle.mon_value.specs.declared.histories.Ack.{Ack}
 use Rattle.mon_value.specs.declared.histories.Miss.{Miss}
 use Rattle.mon_value.specs.declared.histories.RangeEntry.{RangeEntry}
@@ -12,12 +12,14 @@ use Rattle.mon_value.specs.declared.positions.Range.{Range}
 use Rattle.mon_value.specs.declared.positions.Slot.{Slot}
 use Rattle.mon_value.specs.declared.positions.SlotLeaf.{SlotLeaf}
 use Rattle.mon_value.specs.declared.rows.Row.{Row}
-use Rattle.mon_schema.specs.SchemaLists.{SchemaLists}
+use Rattle.mon_schema.specs.Names.{SchemaLists}
+use Rattle.mon_value.specs.Histories.{same_slot, same_leaf}
 use Rattle.mon_topo.specs.declared.limits.TheConstants.{MOST_REPLICAS, MOST_SLOTS}
 use Rattle.mon_topo.specs.declared.zones.ZoneSpec.{ZoneSpec}
 use Rattle.mon_topo.specs.Locations.{LiesIn}
 use Rattle.mon_topo.specs.Zones.{first_replicas, leaf_zones, range_zones}
-use Rattle.mon_value.specs.Positions.{same_slot}
+
+-- What a range's history says, oldest entry first, and which histories a range can have.
 
 -- ---- what a history says
 
@@ -111,3 +113,12 @@ module _ (held : SchemaLists) (zones : List ZoneSpec) (points : ℕ) (range : Ra
   -- a history that the range can have
   abbrev pub IsLegal : List RangeEntry → Type 0
   IsLegal = GoesOn []
+
+-- Which replica of a range is looked at: the first that serves and is on no leaf that is avoided.
+
+abbrev pub is_avoided : List Leaf → SlotLeaf → Bool
+is_avoided avoided replica = list_any (same_leaf replica.leaf) avoided
+
+-- the first replica that serves and is not on one of these leaves
+abbrev pub first_serving : List Leaf → List RangeEntry → Option SlotLeaf
+first_serving avoided history = slice_get (filter (λ replica. not (is_avoided avoided replica)) (serving history)) 0

@@ -6,7 +6,7 @@ use Rattle.mon_topo.specs.declared.limits.TheConstants.{MOST_REPLICAS}
 use Rattle.mon_topo.specs.declared.zones.ZoneSpec.{ZoneSpec}
 use Rattle.mon_topo.specs.RangeHistories.{IsInZoneOf}
 use Rattle.mon_topo.specs.Zones.{first_replicas}
-use Rattle.mon_value.specs.Positions.{same_leaf}
+use Rattle.mon_value.specs.Histories.{same_leaf}
 
 -- one to three leaves of the range's zone, each once
 pub record HasReplicas (zones : List ZoneSpec) (range : Range) : Type 0 where

@@ -4,8 +4,8 @@ use Rattle.std.specs.List.{slice_index_or}
 use Rattle.mon_value.specs.declared.positions.Leaf.{Leaf}
 use Rattle.mon_value.specs.declared.positions.Zone.{Zone}
 use Rattle.mon_value.specs.declared.rows.SeriesKey.{SeriesKey}
-use Rattle.mon_schema.specs.SchemaLists.{SchemaLists}
-use Rattle.mon_value.specs.Positions.{zone_numbered}
+use Rattle.mon_schema.specs.Names.{SchemaLists}
+use Rattle.mon_value.specs.Histories.{zone_numbered}
 use Rattle.mon_topo.specs.Zones.{leaf_zones}
 use Rattle.mon_topo.specs.declared.zones.ZoneSpec.{ZoneSpec}
 

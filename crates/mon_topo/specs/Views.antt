@@ -8,12 +8,11 @@ use Rattle.mon_value.specs.declared.positions.Range.{Range}
 use Rattle.mon_value.specs.declared.positions.Zone.{Zone}
 use Rattle.mon_value.specs.Histories.{joined_histories, leaf_history, range_history}
 use Rattle.mon_value.specs.declared.histories.Histories.{Histories}
-use Rattle.mon_topo.specs.HeldHistories.{AreHeld}
-use Rattle.mon_topo.specs.SeenHistories as histories
-use Rattle.mon_topo.specs.SeenHistories.{AreWithin}
+use Rattle.mon_topo.specs.HeldHistories.{AreHeld, AreWithin}
+use Rattle.mon_topo.specs.HeldHistories as histories
 use Rattle.mon_topo.specs.Settings.{Setting, zone_of_leaf}
 use Rattle.mon_hints.specs.Covers.{AreBitsWithin, Bits, Covers, joined_bits, with_bit}
-use Rattle.mon_hints.specs.HistoryBuckets.{history_buckets}
+use Rattle.mon_hints.specs.Hints.{history_buckets}
 
 -- the histories that were seen, and the bits that are known
 pub record View : Type 0 where

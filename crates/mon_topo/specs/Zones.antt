@@ -1,15 +1,19 @@
--- What zones say: which zone lists a location, how leaves and ranges are numbered over all zones, how they are
--- named, and which leaves hold a range at first.
-use Rattle.std.specs.Prelude.{ℕ, ◌+◌, ◌≤◌, ◌<◌, List, [], ◌∷◌, ◌++◌, codes, length, map, take, Option, option_map}
+-- What zones say: how leaves and ranges are numbered and named, and which share a zone.
+use Rattle.std.specs.Prelude.{ℕ, ◌+◌, ◌≤◌, ◌<◌, List, [], ◌∷◌, ◌++◌, codes, length, map, take, Option, option_map, ◌-◌}
+use Rattle.std.specs.Prelude.{◌&&◌, nat_le, nat_lt, Bool}
 use Rattle.std.specs.Fmt.{decimal}
-use Rattle.std.specs.List.{filter_map, flat_map, list_any, position_from, slice_index_or}
+use Rattle.std.specs.List.{filter_map, flat_map, list_any, position_from, slice_index_or, range_with_len}
 use Rattle.mon_value.specs.Same.{same_text}
 use Rattle.mon_value.specs.declared.positions.Leaf.{Leaf}
 use Rattle.mon_value.specs.declared.positions.Range.{Range}
 use Rattle.mon_value.specs.declared.positions.Zone.{Zone}
+use Rattle.mon_value.specs.Histories.{leaf_numbered, range_numbered, zone_numbered}
+use Rattle.mon_value.specs.declared.positions.FoundDown.{FoundDown}
 use Rattle.mon_topo.specs.declared.zones.RangeSpec.{RangeSpec}
 use Rattle.mon_topo.specs.declared.zones.ZoneSpec.{ZoneSpec}
-use Rattle.mon_value.specs.Positions.{leaf_numbered, range_numbered, zone_numbered}
+
+-- What zones say: which zone lists a location, how leaves and ranges are numbered over all zones, how they are
+-- named, and which leaves hold a range at first.
 
 -- ---- places
 
@@ -108,3 +112,39 @@ leaves_named zones = filter_map (leaf_named zones)
 -- the leaves that hold a range at first, in their order
 abbrev pub first_replicas : List ZoneSpec → ℕ → List Leaf
 first_replicas zones range = leaves_named zones (slice_index_or (ranges_in zones) range no_range).leaves
+
+-- Ranges and leaves of one zone.
+
+-- whether a number is among so many from the first one on
+abbrev pub is_among : ℕ → ℕ → ℕ → Bool
+is_among number first count = nat_le first number && nat_lt (number - first) count
+
+-- whether a range and a leaf are of a zone
+abbrev pub has_both : List ZoneSpec → Range → Leaf → ℕ → Bool
+has_both zones range leaf zone =
+    is_among range.0 (first_range zones zone) (length (zone_at zones zone).ranges)
+    && is_among leaf.0 (first_leaf zones zone) (length (zone_at zones zone).leaves)
+
+abbrev pub share_zone : List ZoneSpec → Range → Leaf → Bool
+share_zone zones range leaf = list_any (has_both zones range leaf) (range_with_len 0 (length zones))
+
+-- What leaves and ranges are called where a refusal names them.
+
+abbrev pub leaf_text : List ZoneSpec → Leaf → List ℕ
+leaf_text zones leaf = slice_index_or (leaves_in zones) leaf.0 []
+
+-- a range is named by its zone and its number there
+abbrev pub range_text : List ZoneSpec → Range → List ℕ
+range_text zones range = slice_index_or (range_names zones) range.0 []
+
+-- a leaf that was found down, with its cut
+abbrev pub found_text : List ZoneSpec → FoundDown → List ℕ
+found_text zones found =
+    codes " " ++ (leaf_text zones found.leaf ++ (codes "@" ++ decimal found.cut))
+
+abbrev pub founds_text : List ZoneSpec → List FoundDown → List ℕ
+founds_text zones = flat_map (found_text zones)
+
+-- a range whose replicas are on leaves that are down
+abbrev pub down_text : List ZoneSpec → Range → List FoundDown → List ℕ
+down_text zones range founds = range_text zones range ++ (codes ":" ++ founds_text zones founds)

@@ -1,8 +1,8 @@
 // The bounds of ranges, and how they are compared.
 ghost use Rattle.std.specs.Prelude.{◌≡◌, ◌∷◌};
-ghost use Rattle.mon_topo.specs.Bounds as order;
+ghost use Rattle.mon_topo.specs.Locations as order;
 ghost use Rattle.mon_topo.specs.Faults as spec;
-ghost use Rattle.mon_topo.specs.Places.{first_at};
+ghost use Rattle.mon_topo.specs.Faults.{first_at};
 
 use crate::places::Place;
 use crate::zones::{RangeSpec, ZoneSpec};

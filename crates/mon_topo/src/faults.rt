@@ -68,7 +68,7 @@ impl TryCopy for TopoFault {
 
 impl fmt::Display for TopoKind {
     ghost use Rattle.std.specs.Prelude.{Some};
-    ghost use Rattle.mon_topo.specs.FaultTexts.{topo_kind_text};
+    ghost use Rattle.mon_topo.specs.Faults.{topo_kind_text};
 
     ghost output = { λ kind. Some (topo_kind_text kind) };
 
@@ -87,7 +87,7 @@ impl fmt::Display for TopoKind {
 
 impl fmt::Display for TopoFault {
     ghost use Rattle.std.specs.Prelude.{Some};
-    ghost use Rattle.mon_topo.specs.FaultTexts.{topo_fault_text};
+    ghost use Rattle.mon_topo.specs.Faults.{topo_fault_text};
 
     ghost output = { λ fault. Some (topo_fault_text fault) };
 

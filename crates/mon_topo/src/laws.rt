@@ -1,10 +1,10 @@
 // What holds of every topology.
 ghost use Rattle.std.specs.Prelude.{◌<◌, ℕ, length};
 ghost use Rattle.mon_value.specs.declared.rows.Target.{Target};
-ghost use Rattle.mon_topo.specs.Bounds.{HasOneRange};
+ghost use Rattle.mon_topo.specs.Locations.{HasOneRange};
 ghost use Rattle.mon_topo.specs.Replicas.{HasReplicas};
 ghost use Rattle.mon_topo.specs.Sizes.{AreWithinLimits};
-ghost use Rattle.mon_value.specs.Positions.{range_numbered};
+ghost use Rattle.mon_value.specs.Histories.{range_numbered};
 ghost use Rattle.mon_topo.specs.Zones.{ranges_in};
 
 use crate::topology::Topology;

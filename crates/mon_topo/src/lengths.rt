@@ -1,6 +1,6 @@
 // Of lengths the greater ones.
 ghost use Rattle.std.specs.Prelude.{◌≡◌, length};
-ghost use Rattle.mon_value.specs.Farther.{farther_each};
+ghost use Rattle.mon_value.specs.Histories.{farther_each};
 
 /// Puts the greater one of two lengths in each place. No memory is taken.
 pub(crate) fn join_lengths(mine: &mut [u64], theirs: &[u64])

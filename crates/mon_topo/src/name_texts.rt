@@ -1,6 +1,6 @@
 // What leaves and ranges are called where a refusal names them.
 ghost use Rattle.std.specs.Prelude.{◌≡◌, [], IfOk, string_bytes};
-ghost use Rattle.mon_topo.specs.NameTexts as spec;
+ghost use Rattle.mon_topo.specs.Zones as spec;
 
 use crate::topology::Topology;
 use mon_value::{FoundDown, Leaf, OutOfMemory, Range, Zone};

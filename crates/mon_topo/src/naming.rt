@@ -1,7 +1,7 @@
 // Which names zones and leaves may have.
 ghost use Rattle.std.specs.Prelude.{◌≡◌};
 ghost use Rattle.mon_topo.specs.Faults as spec;
-ghost use Rattle.mon_topo.specs.Places.{first_at};
+ghost use Rattle.mon_topo.specs.Faults.{first_at};
 
 use crate::places::Place;
 use crate::zones::ZoneSpec;

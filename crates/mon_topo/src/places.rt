@@ -1,7 +1,7 @@
 // The places of zones at which a fault may stand.
 ghost use Rattle.std.specs.Prelude.{◌≡◌, IfOk};
-ghost use Rattle.mon_topo.specs.Places as spec;
-ghost use Rattle.mon_topo.specs.Places.{place_path};
+ghost use Rattle.mon_topo.specs.Faults as spec;
+ghost use Rattle.mon_topo.specs.Faults.{place_path};
 
 use mon_value::{OutOfMemory, Text};
 use std::alloc::Global;

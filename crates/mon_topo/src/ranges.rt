@@ -4,7 +4,7 @@ ghost use Rattle.std.specs.List.{list_any};
 ghost use Rattle.mon_schema.specs.Faults.{texts_repeat};
 ghost use Rattle.mon_value.specs.Same.{same_text};
 ghost use Rattle.mon_topo.specs.Faults as spec;
-ghost use Rattle.mon_topo.specs.Places.{first_at};
+ghost use Rattle.mon_topo.specs.Faults.{first_at};
 
 use crate::limits::MOST_REPLICAS;
 use crate::places::Place;

@@ -7,7 +7,7 @@ ghost use Rattle.mon_value.specs.Answers.{AnswersBy};
 ghost use Rattle.mon_value.specs.Same.{same_text};
 ghost use Rattle.mon_topo.specs.Faults as spec;
 ghost use Rattle.mon_topo.specs.Indexed as kept;
-ghost use Rattle.mon_topo.specs.Places as place;
+ghost use Rattle.mon_topo.specs.Faults as place;
 
 use crate::names::{NameMap, Names};
 use crate::places::Place;

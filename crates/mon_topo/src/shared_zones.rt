@@ -1,6 +1,6 @@
 // Ranges and leaves of one zone.
 ghost use Rattle.std.specs.Prelude.{◌≡◌, ◌<◌, length};
-ghost use Rattle.mon_topo.specs.SharedZones as spec;
+ghost use Rattle.mon_topo.specs.Zones as spec;
 
 use crate::topology::Topology;
 use mon_value::{Leaf, Range, Zone};

@@ -6,7 +6,7 @@ ghost use Rattle.mon_value.specs.declared.positions.Leaf.{Leaf};
 ghost use Rattle.mon_value.specs.declared.positions.Range.{Range};
 ghost use Rattle.mon_value.specs.Histories.{joined_histories, leaf_history, range_history};
 ghost use Rattle.mon_value.specs.declared.histories.Histories.{Histories};
-ghost use Rattle.mon_topo.specs.SeenHistories.{with_leaf_entry, with_range_entry};
+ghost use Rattle.mon_topo.specs.HeldHistories.{with_leaf_entry, with_range_entry};
 ghost use Rattle.mon_topo.specs.Sights.{joined_sight, range_sight, sight_of, with_leaf_sight, with_range_sight};
 
 /// Where two see together what either has seen, they see as far as the farther one of them, history by history.

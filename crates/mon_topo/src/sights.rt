@@ -1,6 +1,6 @@
 // How far histories were seen.
 ghost use Rattle.std.specs.Prelude.{◌≡◌, ◌<◌, length, set, IfOk};
-ghost use Rattle.mon_value.specs.Farther.{farther_each};
+ghost use Rattle.mon_value.specs.Histories.{farther_each};
 ghost use Rattle.mon_topo.specs.Sights.{AreAlike, joined_sight, no_sight, with_leaf_sight, with_range_sight};
 
 use crate::lengths::join_lengths;

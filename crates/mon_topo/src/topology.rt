@@ -2,7 +2,7 @@
 ghost use Rattle.std.specs.Prelude.{◌≡◌, ◌<◌, Some, None, length, map, slice_get, IfOk, IfSome, OnOk};
 ghost use Rattle.std.specs.Option.{option_or};
 ghost use Rattle.mon_value.specs.Answers.{AnswersBy};
-ghost use Rattle.mon_topo.specs.Bounds.{range_of};
+ghost use Rattle.mon_topo.specs.Locations.{range_of};
 ghost use Rattle.mon_topo.specs.Faults as spec_faults;
 ghost use Rattle.mon_topo.specs.Faults.{topology_fault, AreLawfulZones};
 ghost use Rattle.mon_topo.specs.Indexed as kept;

@@ -5,7 +5,7 @@ use Rattle.std.specs.Int.{int_min, int_max, int_div_euclid}
 use Rattle.std.proofs.lemmas.Int.{ints, clamps}
 use Rattle.std.proofs.lemmas.List.Sorted.{length_permutation}
 use Rattle.std.proofs.lemmas.List.Sums.{sum_by-cons}
-use Rattle.mon_value.specs.Aggregates.{where_any, sum_of, item_count, least_of, greatest_of, mean_of}
+use Rattle.mon_value.specs.Groups.{where_any, sum_of, item_count, least_of, greatest_of, mean_of}
 use Rattle.mon_value.proofs.PermutationLemmas.{along_permutation}
 
 -- ---- operations on two numbers

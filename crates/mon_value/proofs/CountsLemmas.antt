@@ -2,7 +2,7 @@
 use Rattle.std.proofs.Common.{◌≡◌, ℕ, zero, suc, ◌+◌, ◌<◌, ◌≤◌, max, List, [], ◌∷◌, ◌++◌, length, get_or, set, take}
 use Rattle.std.proofs.Common.{sum, sum_by, IsPermutation, refl, sym, ap, ◌∙◌, add-one, arith}
 use Rattle.std.proofs.lemmas.List.Sums.{sum_by-cons}
-use Rattle.mon_value.specs.Aggregates.{counts_added, counts_of, merged_of}
+use Rattle.mon_value.specs.Groups.{counts_added, counts_of, merged_of}
 use Rattle.mon_value.proofs.AggregateLemmas.{where_any-permutation}
 use Rattle.mon_value.proofs.PermutationLemmas.{along_permutation}
 

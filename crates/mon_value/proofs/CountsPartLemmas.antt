@@ -6,7 +6,7 @@ use Rattle.std.proofs.lemmas.List.{get_or_append_left}
 use Rattle.std.proofs.lemmas.List.Elements.{All-head, All-tail}
 use Rattle.std.proofs.lemmas.List.Sorted.{All-permutation, IsPermutation-sym, IsPermutation-append_comm}
 use Rattle.std.proofs.lemmas.List.Sums.{sum_by-append, sum_by-cons, get_or-le-sum_by}
-use Rattle.mon_value.specs.Aggregates.{where_any, counts_added, counts_of}
+use Rattle.mon_value.specs.Groups.{where_any, counts_added, counts_of}
 use Rattle.mon_value.proofs.CountsLemmas.{counts_added-nil, counts_added-comm, counts_added-assoc, length-counts_added}
 use Rattle.mon_value.proofs.CountsLemmas.{sum-counts_added, counts_of-append, sum-counts_of}
 use Rattle.mon_value.specs.Parts.{IsZero, is_any}

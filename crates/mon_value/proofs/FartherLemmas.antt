@@ -3,7 +3,7 @@ use Rattle.std.proofs.Common.{◌≡◌, ℕ, zero, suc, ◌+◌, ◌<◌, ◌�
 use Rattle.std.proofs.Common.{length, map, get_or, set, take, refl, sym, ap, ◌∙◌, add-one, arith}
 use Rattle.std.proofs.lemmas.Bool.{cond_above, cond_below}
 use Rattle.std.proofs.lemmas.List.{set-get_or}
-use Rattle.mon_value.specs.Farther.{farther, farther_each, longer, longer_each}
+use Rattle.mon_value.specs.Histories.{farther, farther_each, longer, longer_each}
 
 module _ {X : Type 0} (far : X → ℕ) where
   pub farther_each-nil : (xs : List X) → farther_each far xs [] ≡ xs

@@ -7,7 +7,7 @@ use Rattle.std.specs.Map.{lookup}
 use Rattle.std.proofs.lemmas.Bool.{false_from_ne_true}
 use Rattle.std.proofs.lemmas.List.{map-append}
 use Rattle.std.proofs.lemmas.List.Elements.{filter-append}
-use Rattle.mon_value.specs.Keyed.{items_by_key, items_with, keys_of}
+use Rattle.mon_value.specs.Same.{items_by_key, items_with, keys_of}
 
 -- a key and its items
 abbrev pub Group : Type 0 → Type 0 → Type 0

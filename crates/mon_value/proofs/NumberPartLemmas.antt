@@ -6,9 +6,9 @@ use Rattle.std.specs.Int.{int_min, int_max}
 use Rattle.std.proofs.lemmas.Int.{ints}
 use Rattle.std.proofs.lemmas.List.Sorted.{sum_by-IsPermutation, length_permutation}
 use Rattle.std.proofs.lemmas.List.Sums.{fold-append, sum_by-append}
-use Rattle.mon_value.specs.Aggregates.{where_any, sum_of, item_count, least_of, greatest_of}
+use Rattle.mon_value.specs.Groups.{where_any, sum_of, item_count, least_of, greatest_of}
 use Rattle.mon_value.proofs.AggregateLemmas.{fold_first, int_min-assoc, int_max-assoc, sum_of-append, sum_of-magnitude}
-use Rattle.mon_value.specs.Limits.{greatest_sum}
+use Rattle.mon_value.specs.Values.{greatest_sum}
 use Rattle.mon_value.specs.Parts.{IsWithin, combined_numbers}
 
 -- ---- numbers of which one or both may be absent

@@ -8,8 +8,8 @@ use Rattle.std.specs.List.{prefix_len}
 use Rattle.std.specs.Int.Signed.{≤ℤ_refl}
 use Rattle.std.proofs.lemmas.List.Sums.{position_or_len_is, sum_by_more}
 use Rattle.std.proofs.lemmas.Bool.Decides.{nat_tests}
-use Rattle.mon_value.specs.Distributions.{bounds_rise, running_counts, percentile_bucket, upper_bound, percentile_of}
-use Rattle.mon_value.specs.Distributions.{PercentilesRise}
+use Rattle.mon_value.specs.Groups.{bounds_rise, running_counts, percentile_bucket, upper_bound, percentile_of}
+use Rattle.mon_value.specs.Groups.{PercentilesRise}
 use Rattle.mon_value.proofs.CountsLemmas.{sum-cons}
 
 length-running_counts : (before : ℕ) (counts : List ℕ) → length (running_counts before counts) ≡ length counts

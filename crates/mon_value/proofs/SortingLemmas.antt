@@ -10,8 +10,7 @@ use Rattle.std.proofs.lemmas.Bool.{false≢true}
 use Rattle.std.proofs.lemmas.Cmp.{upto}
 use Rattle.std.proofs.lemmas.List.Sorted.{IsPermutation-refl, IsPermutation-cons, IsPermutation-trans}
 use Rattle.mon_value.proofs.PermutationLemmas.{along_permutation, front_exchanged}
-use Rattle.mon_value.specs.Order.{TellsApart}
-use Rattle.mon_value.specs.Sorting.{sorted_list, sorted_list_with}
+use Rattle.mon_value.specs.Order.{TellsApart, sorted_list, sorted_list_with}
 
 equal_by : (o : Ordering) → is_gt o ≡ false → is_gt (ordering_reverse o) ≡ false → o ≡ Equal
 equal_by Less h g = absurd cc

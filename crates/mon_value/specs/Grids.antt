@@ -1,7 +1,19 @@
--- The times that a query gives rows for.
+-- The times that a query gives rows for, and series brought to them.
 use Rattle.std.specs.Prelude.{ℕ, zero, suc, ◌+◌, ◌-◌, ◌*◌, ◌/◌, ◌≤◌, ℤ, pos, ◌-ℤ◌, ◌≤ℤ◌, unsigned_abs, List, [], ◌∷◌}
-use Rattle.mon_value.specs.Limits.{LONGEST_DURATION}
+use Rattle.std.specs.Prelude.{◌<ℤ◌, int_lt, int_le, Bool, ◌&&◌, ◌≡◌, ◌^◌, sum_by, length, map, Option, Some, None}
+use Rattle.std.specs.Prelude.{option_map}
+use Rattle.std.specs.List.{AllByRecursion, filter, flat_map}
+use Rattle.mon_value.specs.Values.{LONGEST_DURATION, magnitude}
 use Rattle.mon_value.specs.declared.grids.Grid.{Grid}
+use Rattle.mon_value.specs.declared.rows.Point.{Point}
+use Rattle.mon_value.specs.Groups.{total_of}
+use Rattle.mon_value.specs.declared.aligners.Aligner.{Aligner}
+use Rattle.mon_value.specs.declared.aligners.Aligner.TheVariants.{Delta, NextOlder}
+use Rattle.mon_value.specs.declared.grids.TimedValue.{TimedValue}
+use Rattle.mon_value.specs.declared.values.Value.{Value}
+use Rattle.mon_value.specs.declared.values.Value.TheVariants as value
+
+-- The times that a query gives rows for.
 
 -- the most times that a grid has
 abbrev pub most_times : ℕ
@@ -35,3 +47,91 @@ pub record IsLawfulGrid (grid : Grid) : Type 0 where
   pub every : IsDuration grid.every
   pub within : IsDuration grid.within
   pub times : time_count grid ≤ most_times
+
+-- The points of one series in time.
+
+-- each point ends later than every point before it
+abbrev pub EndsRise : List Point → Type 0
+EndsRise [] = Unit {0}
+EndsRise (point ∷ points) = AllByRecursion (λ later. point.end <ℤ later.end) points × EndsRise points
+
+-- whether a point ends in the w seconds up to t: above t - w and at most t
+abbrev pub ends_within : ℤ → ℤ → Point → Bool
+ends_within t w point = int_lt (t -ℤ w) point.end && int_le point.end t
+
+-- the points that end in the w seconds up to t, in their order
+abbrev pub window_of : ℤ → ℤ → List Point → List Point
+window_of t w points = filter (ends_within t w) points
+
+-- Series brought to the times of a grid.
+
+-- how many seconds an aligner looks back
+abbrev pub seconds_of : Aligner → ℤ
+seconds_of (Delta seconds) = seconds
+seconds_of (NextOlder seconds) = seconds
+
+-- the newest of the points of a series: the last, since their ends rise
+abbrev pub newest_point : List Point → Option Point
+newest_point [] = None
+newest_point (point ∷ []) = Some point
+newest_point (point ∷ next ∷ points) = newest_point (next ∷ points)
+
+abbrev pub values_of : List Point → List Value
+values_of points = map (λ point. point.value) points
+
+-- what an aligner makes of the points that it sees: the value of the newest, or the sum or the merged
+-- distribution of all; nothing of no points
+abbrev pub value_made : Aligner → List Point → Option Value
+value_made (NextOlder seconds) points = option_map (λ point. point.value) (newest_point points)
+value_made (Delta seconds) points = total_of (values_of points)
+
+-- what a series has at a time: an aligner sees the points whose ends are above its seconds before the
+-- time, and at most the time
+abbrev pub value_at : Aligner → List Point → ℤ → Option Value
+value_at by points time = value_made by (window_of time (seconds_of by) points)
+
+abbrev pub timed_values : ℤ → Option Value → List TimedValue
+timed_values time None = []
+timed_values time (Some value) = record { time = time; value = value } ∷ []
+
+-- a series aligned: the value at each time of the grid, the newest time first, and none at a time at
+-- which the aligner sees no point
+abbrev pub aligned_values : Aligner → Grid → List Point → List TimedValue
+aligned_values by grid points = flat_map (λ time. timed_values time (value_at by points time)) (grid_times grid)
+
+-- ---- which series can be aligned
+
+-- two values that can be added: numbers, or distributions of one number of buckets
+abbrev pub CanAdd : Value → Value → Type 0
+CanAdd (value.Int y) (value.Int z) = Unit {0}
+CanAdd (value.Int y) b = ⊥
+CanAdd (value.Dist counts) (value.Dist others) = length others ≡ length counts
+CanAdd (value.Dist counts) b = ⊥
+CanAdd (value.Bool p) b = ⊥
+CanAdd (value.Text s) b = ⊥
+
+-- values that are all numbers, or all distributions of one number of buckets
+abbrev pub CanAddAll : List Value → Type 0
+CanAddAll [] = Unit {0}
+CanAddAll (first ∷ values) = AllByRecursion (CanAdd first) (first ∷ values)
+
+-- what the magnitudes of the points that are added for one time sum to at most
+abbrev pub most_aligned : ℕ
+most_aligned = 2 ^ 124
+
+-- an aligner that adds meets values that can be added
+abbrev pub CanAddUnder : Aligner → List Point → Type 0
+CanAddUnder (NextOlder seconds) points = Unit {0}
+CanAddUnder (Delta seconds) points = CanAddAll (values_of points)
+
+-- an aligner that adds meets no more than so much for a time
+abbrev pub SumFits : Aligner → List Point → ℤ → Type 0
+SumFits (NextOlder seconds) points time = Unit {0}
+SumFits (Delta seconds) points time = sum_by magnitude (values_of (window_of time seconds points)) ≤ most_aligned
+
+-- a series that an aligner can bring to the times of a grid
+pub record CanAlign (by : Aligner) (grid : Grid) (points : List Point) : Type 0 where
+  pub looks_back : IsDuration (seconds_of by)
+  pub lawful : IsLawfulGrid grid
+  pub alike : CanAddUnder by points
+  pub sums : AllByRecursion (SumFits by points) (grid_times grid)

@@ -1,14 +1,54 @@
--- What a leaf holds after a history of entries, oldest first, and which histories a leaf can have.
-use Rattle.std.specs.Prelude.{◌≡◌, ◌<◌, ◌≤◌, ℕ, nat_eq, Bool, true, false, ◌&&◌, ◌||◌, List, [], ◌∷◌, ◌++◌, length}
-use Rattle.std.specs.Prelude.{take, if◌then◌else◌}
-use Rattle.std.specs.List.{flat_map, count_by}
-use Rattle.mon_value.specs.Limits.{MOST_SWITCHES}
-use Rattle.mon_value.specs.Sources.{IsSource}
+-- Rows in the order of their acknowledgement, and what a leaf holds after a history of entries, oldest first.
+use Rattle.std.specs.Prelude.{◌≡◌, ℤ, ◌<ℤ◌, true, List, [], ◌∷◌, map, Option, Some, None, ◌<◌, ◌≤◌, ℕ, nat_eq, Bool}
+use Rattle.std.specs.Prelude.{false, ◌&&◌, ◌||◌, ◌++◌, length, take, if◌then◌else◌}
+use Rattle.std.specs.List.{AllByRecursion, flat_map, count_by}
+use Rattle.mon_value.specs.Same.{items_with, keys_of, same_series}
+use Rattle.mon_value.specs.declared.rows.Point.{Point}
+use Rattle.mon_value.specs.declared.rows.Row.{Row}
+use Rattle.mon_value.specs.declared.rows.SeriesKey.{SeriesKey}
+use Rattle.mon_value.specs.Values.{MOST_SWITCHES}
 use Rattle.mon_value.specs.declared.histories.Entry.{Entry}
 use Rattle.mon_value.specs.declared.histories.Entry.TheVariants as entry
 use Rattle.mon_value.specs.declared.positions.Range.{Range}
 use Rattle.mon_value.specs.declared.positions.Slot.{Slot}
-use Rattle.mon_value.specs.declared.rows.Row.{Row}
+
+-- Rows in the order of their acknowledgement: the flat list that every meaning speaks of.
+
+abbrev pub key_of_row : Row → SeriesKey
+key_of_row row = row.key
+
+-- the rows of a series, in their order
+abbrev pub rows_of : SeriesKey → List Row → List Row
+rows_of = items_with same_series key_of_row
+
+-- the points of a series, in the order of the rows
+abbrev pub points_of : SeriesKey → List Row → List Point
+points_of key rows = map (λ row. row.point) (rows_of key rows)
+
+-- the series that have a row, in the order of their first rows
+abbrev pub series_of : List Row → List SeriesKey
+series_of = keys_of same_series key_of_row
+
+-- each series that has a row with its points
+abbrev pub points_by_series : List Row → List (SeriesKey × List Point)
+points_by_series rows = map (λ key. (key, points_of key rows)) (series_of rows)
+
+-- the end of the last of a series' points
+abbrev pub last_end : List Point → Option ℤ
+last_end [] = None
+last_end (point ∷ []) = Some point.end
+last_end (point ∷ next ∷ points) = last_end (next ∷ points)
+
+-- a later row of the same series ends later
+abbrev pub EndsBefore : Row → Row → Type 0
+EndsBefore earlier later = same_series earlier.key later.key ≡ true → earlier.point.end <ℤ later.point.end
+
+-- a source: the ends of each series rise strictly
+abbrev pub IsSource : List Row → Type 0
+IsSource [] = Unit {0}
+IsSource (row ∷ rows) = AllByRecursion (EndsBefore row) rows × IsSource rows
+
+-- What a leaf holds after a history of entries, oldest first, and which histories a leaf can have.
 
 -- whether two replicas are the same one
 abbrev pub same_replica : Range → Slot → Range → Slot → Bool

@@ -1,7 +1,7 @@
 -- Partial results of aggregates, and the bound within which they stay.
 use Rattle.std.specs.Prelude.{◌≡◌, ℕ, ◌≤◌, ℤ, List, [], ◌∷◌, Bool, true, false, Option, Some, None, length, replicate}
 use Rattle.std.specs.Prelude.{unsigned_abs}
-use Rattle.mon_value.specs.Limits.{greatest_sum}
+use Rattle.mon_value.specs.Values.{greatest_sum}
 
 -- a sum, or a number of items, whose magnitude is at most the greatest sum
 abbrev pub IsWithin : ℤ → Type 0

@@ -1,7 +1,9 @@
--- Whether two things are the same: tests that compute, for what is told apart by a key.
-use Rattle.std.specs.Prelude.{ℕ, Bool, true, false, ◌&&◌, List, nat_eq, not}
+-- Whether two things are the same: tests that compute, for what is told apart by a key, and lists by such keys.
+use Rattle.std.specs.Prelude.{ℕ, Bool, true, false, ◌&&◌, List, nat_eq, not, [], ◌∷◌, map, filter, ◌||◌, ◌++◌, drop}
+use Rattle.std.specs.Prelude.{length}
 use Rattle.std.specs.Cmp.Lexicographic.{pointwise}
 use Rattle.std.specs.Ordering.{int_eq}
+use Rattle.std.specs.List.{starts_with}
 use Rattle.mon_value.specs.declared.rows.SeriesKey.{SeriesKey}
 use Rattle.mon_value.specs.declared.rows.Target.{Target}
 use Rattle.mon_value.specs.declared.tables.TimedRow.{TimedRow}
@@ -9,6 +11,8 @@ use Rattle.mon_value.specs.declared.values.FieldValue.{FieldValue}
 use Rattle.mon_value.specs.declared.values.FieldValue.TheVariants as field
 use Rattle.mon_value.specs.declared.values.Value.{Value}
 use Rattle.mon_value.specs.declared.values.Value.TheVariants as value
+
+-- Whether two things are the same: tests that compute, for what is told apart by a key.
 
 abbrev pub same_text : List ℕ → List ℕ → Bool
 same_text = pointwise nat_eq
@@ -48,3 +52,39 @@ same_series a b =
 -- whether two rows have one time and the same cells
 abbrev pub same_row : TimedRow → TimedRow → Bool
 same_row a b = int_eq a.time b.time && pointwise same_value a.cells b.cells
+
+-- Items by key: rows by series, and rows of a table by group.
+
+module _ {K A : Type 0} (same : K → K → Bool) (key_of : A → K) where
+  -- the keys that occur, in the order of their first items
+  abbrev pub keys_of : List A → List K
+  keys_of [] = []
+  keys_of (item ∷ items) = key_of item ∷ filter (λ key. not (same (key_of item) key)) (keys_of items)
+
+  -- the items of a key, in their order
+  abbrev pub items_with : K → List A → List A
+  items_with key items = filter (λ item. same key (key_of item)) items
+
+  -- each key that occurs with its items
+  abbrev pub items_by_key : List A → List (K × List A)
+  items_by_key items = map (λ key. (key, items_with key items)) (keys_of items)
+
+-- Which texts a pattern matches.
+
+-- the text is the pieces in order, with any texts between them
+pub data IsMatch : List (List ℕ) → List ℕ → Type 0 where
+  last_piece : {piece : List ℕ} → IsMatch (piece ∷ []) piece
+  next_piece : {piece rest : List ℕ} {pieces : List (List ℕ)} (between : List ℕ) → IsMatch pieces rest →
+      IsMatch (piece ∷ pieces) (piece ++ between ++ rest)
+
+-- whether a test holds of what stands behind some front of a text
+abbrev pub holds_behind : (List ℕ → Bool) → List ℕ → Bool
+holds_behind test [] = test []
+holds_behind test (byte ∷ bytes) = test (byte ∷ bytes) || holds_behind test bytes
+
+-- the same, computed: the text begins with the first piece, and the others match what stands behind it and any text
+abbrev pub is_match : List (List ℕ) → List ℕ → Bool
+is_match [] text = false
+is_match (piece ∷ []) text = same_text piece text
+is_match (piece ∷ next ∷ pieces) text =
+    starts_with nat_eq text piece && holds_behind (is_match (next ∷ pieces)) (drop (length piece) text)

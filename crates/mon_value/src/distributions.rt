@@ -1,7 +1,7 @@
 // Distributions: what their counts say of the values behind them.
 ghost use Rattle.std.specs.Prelude.{◌≡◌, ℕ, ℤ, List, true, ◌+◌, ◌^◌, ◌<◌, ◌≤◌, ◌↔◌, All, IsNone, length, sum};
-ghost use Rattle.mon_value.specs.Distributions.{counts_added, bounds_rise, percentile_of, PercentilesRise};
-ghost use Rattle.mon_value.specs.Limits.{greatest_sum};
+ghost use Rattle.mon_value.specs.Groups.{counts_added, bounds_rise, percentile_of, PercentilesRise};
+ghost use Rattle.mon_value.specs.Values.{greatest_sum};
 
 use crate::lists::ListOf;
 use crate::values::{Bounds, Counts};

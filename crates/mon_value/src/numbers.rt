@@ -1,6 +1,6 @@
 // Numbers as points and scripts spell them.
 ghost use Rattle.std.specs.Prelude.{◌≡◌, pos, option_map};
-ghost use Rattle.mon_value.specs.Numbers.{number_of, numeral_of};
+ghost use Rattle.mon_value.specs.Values.{number_of, numeral_of};
 
 /// The most digits that a number is written with. Any number of so many digits fits an `i128`.
 const MOST_DIGITS: usize = 32;

@@ -1,7 +1,7 @@
 // A text.
 ghost use Rattle.std.specs.Cmp.Lexicographic.{pointwise};
 ghost use Rattle.std.specs.Prelude.{◌≡◌, IfOk, nat_eq, string_bytes};
-ghost use Rattle.mon_value.specs.Texts.{text_in};
+ghost use Rattle.mon_value.specs.Values.{text_in};
 
 use crate::copying::TryCopy;
 use crate::lists::ListOf;

@@ -1,8 +1,7 @@
 -- Lists with a comma between each two.
 use Rattle.std.proofs.Common.{◌≡◌, ℕ, ◌+◌, List, [], ◌∷◌, ◌++◌, map, refl, sym, ap, ◌∙◌, Some, append_assoc, append-nil}
 use Rattle.std.proofs.lemmas.List.{map-append}
-use Rattle.mql_ast.specs.Rests.{Rest}
-use Rattle.mql_ast.specs.Tokens.{sign_at}
+use Rattle.mql_ast.specs.Tokens.{Rest, sign_at}
 use Rattle.mql_ast.specs.Printed.{each_behind, separated_texts, comma}
 use Rattle.mql_ast.proofs.TokensPrinted.{both, Ends, From, regrouped, behind_blank, here, sign_printed}
 

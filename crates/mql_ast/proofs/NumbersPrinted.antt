@@ -6,12 +6,10 @@ use Rattle.std.specs.Fmt.{decimal, signed_decimal}
 use Rattle.std.proofs.lemmas.Fmt.{decimal_by_steps, decimal_digit}
 use Rattle.std.proofs.lemmas.Bool.Decides.{nat_tests}
 use Rattle.std.proofs.lemmas.Bool.{leb-true, le-leb, eqb-true}
-use Rattle.mql_ast.specs.Bytes.{is_blank, is_digit}
+use Rattle.mql_ast.specs.Tokens.{is_blank, is_digit, Rest, first_of, head, behind, skip, digits_from, positive_at}
+use Rattle.mql_ast.specs.Tokens.{number_at, minus, signed_at, unit_seconds, longest, with_unit, duration_at}
 use Rattle.std.proofs.Math.Nat.{mul-le-mul_left}
 use Rattle.mql_ast.specs.Printed.{duration_text}
-use Rattle.mql_ast.specs.Rests.{Rest, first_of, head, behind, skip}
-use Rattle.mql_ast.specs.Tokens.{digits_from, positive_at, number_at, minus, signed_at, unit_seconds, longest}
-use Rattle.mql_ast.specs.Tokens.{with_unit, duration_at}
 use Rattle.mql_ast.proofs.TokensPrinted.{if_true, if_false, given, followed, From, place_behind, place_push}
 use Rattle.mql_ast.proofs.TokensPrinted.{rest_behind, regrouped, no_blank}
 

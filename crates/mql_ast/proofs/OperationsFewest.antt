@@ -6,7 +6,7 @@ use Rattle.mql_ast.specs.declared.names.Name.{Name}
 use Rattle.mql_ast.specs.declared.operations.Aggregate.{Aggregate}
 use Rattle.mql_ast.specs.declared.operations.FoldWord.{FoldWord}
 use Rattle.mql_ast.specs.declared.operations.FoldWord.TheVariants as fold
-use Rattle.mql_ast.specs.Rests.{Rest, skip}
+use Rattle.mql_ast.specs.Tokens.{Rest, skip}
 use Rattle.mql_ast.specs.Trees.{ItemTree, DeedTree, OpTree}
 use Rattle.mql_ast.specs.Printed.{separated_texts, comma, name_text, sum_text, predicate_text, item_text, fold_text}
 use Rattle.mql_ast.specs.Printed.{aggregate_text, duration_text, deed_text, ops_text}

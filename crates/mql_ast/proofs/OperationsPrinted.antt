@@ -8,9 +8,7 @@ use Rattle.mql_ast.specs.declared.names.Name.{Name}
 use Rattle.mql_ast.specs.declared.operations.Aggregate.{Aggregate}
 use Rattle.mql_ast.specs.declared.operations.FoldWord.{FoldWord}
 use Rattle.mql_ast.specs.declared.operations.FoldWord.TheVariants as fold
-use Rattle.mql_ast.specs.Bytes.{is_letter}
-use Rattle.mql_ast.specs.Rests.{Rest, first_of, skip}
-use Rattle.mql_ast.specs.Tokens.{keyword_at, name_at}
+use Rattle.mql_ast.specs.Tokens.{is_letter, Rest, first_of, skip, keyword_at, name_at}
 use Rattle.mql_ast.specs.Trees as tree
 use Rattle.mql_ast.specs.Trees.{ItemTree, DeedTree, OpTree}
 use Rattle.mql_ast.specs.Places.{name_content, label_content, item_content, aggregate_content, deed_content, op_content}

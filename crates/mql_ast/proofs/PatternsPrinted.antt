@@ -5,9 +5,8 @@ use Rattle.std.proofs.Common.{option_and_then, append_assoc, append-nil}
 use Rattle.std.specs.Str.{is_utf8}
 use Rattle.std.proofs.lemmas.Bool.Decides.{nat_tests}
 use Rattle.std.proofs.lemmas.Bool.{eqb-true}
-use Rattle.mon_value.specs.Texts.{text_in}
-use Rattle.mql_ast.specs.Rests.{Rest}
-use Rattle.mql_ast.specs.Tokens.{sign_at}
+use Rattle.mon_value.specs.Values.{text_in}
+use Rattle.mql_ast.specs.Tokens.{Rest, sign_at}
 use Rattle.mql_ast.specs.Printed as printed
 use Rattle.mql_ast.specs.Printed.{sign_text, escaped_text, is_text_mark, is_pattern_mark, quotation}
 use Rattle.mql_ast.specs.Printed.{pattern_signs}

@@ -5,9 +5,7 @@ use Rattle.std.proofs.lemmas.List.{map-append}
 use Rattle.mql_ast.specs.declared.names.Name.{Name}
 use Rattle.mql_ast.specs.declared.pipes.How.{How}
 use Rattle.mql_ast.specs.declared.pipes.How.TheVariants as how
-use Rattle.mql_ast.specs.Bytes.{is_letter}
-use Rattle.mql_ast.specs.Rests.{Rest, first_of, skip}
-use Rattle.mql_ast.specs.Tokens.{keyword_at}
+use Rattle.mql_ast.specs.Tokens.{is_letter, Rest, first_of, skip, keyword_at}
 use Rattle.mql_ast.specs.Trees as tree
 use Rattle.mql_ast.specs.Trees.{OpTree, PipeTree, SourceTree, branches}
 use Rattle.mql_ast.specs.Places.{pipe_content, source_content, branches_content, SpellsButForPlaces}

@@ -3,14 +3,12 @@ use Rattle.std.proofs.Common.{◌≡◌, ℕ, ◌+◌, ◌≤◌, Bool, true, fa
 use Rattle.std.proofs.Common.{ap, subst, ◌∙◌, arith, if◌then◌else◌, Option, Some, None, option_and_then}
 use Rattle.std.specs.Fmt.{decimal}
 use Rattle.std.specs.Str.{is_utf8}
-use Rattle.mon_value.specs.Texts.{text_in}
+use Rattle.mon_value.specs.Values.{text_in}
 use Rattle.mon_value.specs.declared.values.FieldValue.{FieldValue}
 use Rattle.mon_value.specs.declared.values.FieldValue.TheVariants as field
 use Rattle.mql_ast.specs.declared.predicates.Comparison.{Comparison}
 use Rattle.mql_ast.specs.declared.predicates.Comparison.TheVariants as comparison
-use Rattle.mql_ast.specs.Bytes.{is_digit}
-use Rattle.mql_ast.specs.Rests.{Rest, head, behind, skip}
-use Rattle.mql_ast.specs.Tokens.{sign_at, keyword_at, signed_at}
+use Rattle.mql_ast.specs.Tokens.{is_digit, Rest, head, behind, skip, sign_at, keyword_at, signed_at}
 use Rattle.mql_ast.specs.Trees as tree
 use Rattle.mql_ast.specs.Trees.{SumTree, PredicateTree}
 use Rattle.mql_ast.specs.Printed as printed

@@ -9,9 +9,7 @@ use Rattle.mql_ast.specs.declared.names.Name.{Name}
 use Rattle.mql_ast.specs.declared.predicates.Comparison.{Comparison}
 use Rattle.mql_ast.specs.declared.predicates.Comparison.TheVariants as comparison
 use Rattle.mql_ast.specs.declared.predicates.Literal.{Literal}
-use Rattle.mql_ast.specs.Bytes.{is_blank, is_digit}
-use Rattle.mql_ast.specs.Rests.{Rest, head, skip}
-use Rattle.mql_ast.specs.Tokens.{past, keyword_at, signed_at}
+use Rattle.mql_ast.specs.Tokens.{is_blank, is_digit, Rest, head, skip, past, keyword_at, signed_at}
 use Rattle.mql_ast.specs.Quotes.{text_at}
 use Rattle.mql_ast.specs.Trees as tree
 use Rattle.mql_ast.specs.Trees.{PredicateTree}

@@ -8,11 +8,11 @@ use Rattle.std.proofs.lemmas.Bool.Decides.{nat_tests}
 use Rattle.std.proofs.lemmas.Bool.{eqb-true}
 use Rattle.std.proofs.lemmas.List.Sums.{sum_by-append}
 use Rattle.mql_ast.specs.declared.names.Name.{Name}
-use Rattle.mql_ast.specs.Bytes.{is_blank, is_letter, is_digit, is_word_byte, is_metric_byte}
-use Rattle.mql_ast.specs.Rests.{Rest, first_of, behind_blanks, behind_first, head, behind, skip}
-use Rattle.mql_ast.specs.Tokens.{sign_at, past, keyword_at, behind_word, word_here, name_at, with_byte, metric_from}
-use Rattle.mql_ast.specs.Tokens.{metric_name, metric_behind, metric_at, digits_from, positive_at, number_at, minus}
-use Rattle.mql_ast.specs.Tokens.{signed_at, unit_seconds, longest, with_unit, duration_at}
+use Rattle.mql_ast.specs.Tokens.{is_blank, is_letter, is_digit, is_word_byte, is_metric_byte, Rest, first_of}
+use Rattle.mql_ast.specs.Tokens.{behind_blanks, behind_first, head, behind, skip, sign_at, past, keyword_at}
+use Rattle.mql_ast.specs.Tokens.{behind_word, word_here, name_at, with_byte, metric_from, metric_name, metric_behind}
+use Rattle.mql_ast.specs.Tokens.{metric_at, digits_from, positive_at, number_at, minus, signed_at, unit_seconds}
+use Rattle.mql_ast.specs.Tokens.{longest, with_unit, duration_at}
 use Rattle.mql_ast.specs.Printed.{duration_text}
 use Rattle.mql_ast.specs.Parentheses.{parentheses}
 use Rattle.mql_ast.proofs.TokensPrinted.{given, chosen, followed, AllPass, IsName, name_lawful, MetricBytes}

@@ -5,10 +5,9 @@ use Rattle.std.proofs.Common.{inr}
 use Rattle.std.proofs.lemmas.Bool.Decides.{nat_tests}
 use Rattle.std.proofs.lemmas.Bool.{eq-eqb}
 use Rattle.mql_ast.specs.declared.names.Name.{Name}
-use Rattle.mql_ast.specs.Bytes.{is_blank, is_letter, is_digit, is_word_byte, is_metric_byte}
-use Rattle.mql_ast.specs.Rests.{Rest, first_of, head, behind, skip}
-use Rattle.mql_ast.specs.Tokens.{sign_at, past, keyword_at, word_bytes, behind_word, word_here, name_at, with_byte}
-use Rattle.mql_ast.specs.Tokens.{metric_from, metric_name, metric_behind, metric_at}
+use Rattle.mql_ast.specs.Tokens.{is_blank, is_letter, is_digit, is_word_byte, is_metric_byte, Rest, first_of, head}
+use Rattle.mql_ast.specs.Tokens.{behind, skip, sign_at, past, keyword_at, word_bytes, behind_word, word_here, name_at}
+use Rattle.mql_ast.specs.Tokens.{with_byte, metric_from, metric_name, metric_behind, metric_at}
 
 pub if_true : {A : Type 0} (t : Bool) (x y : A) → t ≡ true → (if t then x else y) ≡ x
 if_true t x y h = ap (λ u. if u then x else y) h

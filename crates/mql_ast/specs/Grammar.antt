@@ -16,9 +16,8 @@ use Rattle.mql_ast.specs.declared.pipes.How.{How}
 use Rattle.mql_ast.specs.declared.pipes.How.TheVariants as how
 use Rattle.mql_ast.specs.Trees as tree
 use Rattle.mql_ast.specs.Trees.{SumTree, PredicateTree, ItemTree, DeedTree, OpTree, PipeTree, SourceTree, branches}
-use Rattle.mql_ast.specs.Bytes.{is_digit, is_word_byte}
-use Rattle.mql_ast.specs.Rests.{Rest, head, behind, skip}
-use Rattle.mql_ast.specs.Tokens.{sign_at, keyword_at, name_at, metric_at, positive_at, signed_at, duration_at}
+use Rattle.mql_ast.specs.Tokens.{is_digit, is_word_byte, Rest, head, behind, skip, sign_at, keyword_at, name_at}
+use Rattle.mql_ast.specs.Tokens.{metric_at, positive_at, signed_at, duration_at}
 use Rattle.mql_ast.specs.Quotes.{text_at, pattern_at}
 
 -- no letter, digit or `_` stands here, so a word may end before it

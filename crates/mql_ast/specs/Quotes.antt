@@ -1,9 +1,8 @@
 -- Texts in quotes and patterns, byte by byte.
 use Rattle.std.specs.Prelude.{ℕ, ◌+◌, ◌-◌, Bool, ◌==◌, ◌||◌, ◌&&◌, nat_le, List, [], ◌∷◌, ◌++◌, Option, Some, None}
 use Rattle.std.specs.Prelude.{option_and_then, if◌then◌else◌}
-use Rattle.mon_value.specs.Texts.{text_in}
-use Rattle.mql_ast.specs.Rests.{Rest}
-use Rattle.mql_ast.specs.Tokens.{sign_at}
+use Rattle.mon_value.specs.Values.{text_in}
+use Rattle.mql_ast.specs.Tokens.{Rest, sign_at}
 
 -- what the bytes so far leave open: a character may begin, a backslash was read, or so many further bytes of a
 -- character come, the next one between these

@@ -1,10 +1,81 @@
--- The tokens of query texts. Blanks stand before a token.
-use Rattle.std.specs.Prelude.{ℕ, ℤ, pos, ◌+◌, ◌-◌, ◌*◌, ◌^◌, ◌-ℤ◌, unsigned_abs, Bool, true, false, ◌==◌, ◌&&◌, not}
-use Rattle.std.specs.Prelude.{nat_le, List, codes, [], ◌∷◌, Option, Some, None, option_and_then, if◌then◌else◌}
+-- What is left of a text, and the tokens of query texts. Blanks stand before a token.
+use Rattle.std.specs.Prelude.{ℕ, Bool, ◌==◌, ◌||◌, ◌&&◌, nat_le, ◌+◌, true, false, List, [], ◌∷◌, if◌then◌else◌, ℤ, pos}
+use Rattle.std.specs.Prelude.{◌-◌, ◌*◌, ◌^◌, ◌-ℤ◌, unsigned_abs, not, codes, Option, Some, None, option_and_then}
 use Rattle.mon_value.specs.declared.limits.TheConstants.{LONGEST_DURATION}
 use Rattle.mql_ast.specs.declared.names.Name.{Name}
-use Rattle.mql_ast.specs.Bytes.{is_letter, is_digit, is_word_byte, is_metric_byte}
-use Rattle.mql_ast.specs.Rests.{Rest, head, behind, skip}
+
+-- The bytes of which query texts are made.
+
+-- a space, a tab, LF or CR
+abbrev pub is_blank : ℕ → Bool
+is_blank b = b == 32 || b == 9 || b == 10 || b == 13
+
+-- what a name begins with: A to Z, a to z and `_`
+abbrev pub is_letter : ℕ → Bool
+is_letter b = (nat_le 97 b && nat_le b 122) || (nat_le 65 b && nat_le b 90) || b == 95
+
+abbrev pub is_digit : ℕ → Bool
+is_digit b = nat_le 48 b && nat_le b 57
+
+-- what a name goes on with
+abbrev pub is_word_byte : ℕ → Bool
+is_word_byte b = is_letter b || is_digit b
+
+-- what stands between the slashes of a metric's name
+abbrev pub is_metric_byte : ℕ → Bool
+is_metric_byte b = is_word_byte b || b == 46
+
+-- / . : { } [ ] ( ) , ; | & ! = < > ~ + - "
+abbrev pub is_sign : ℕ → Bool
+is_sign b =
+    b == 47 || b == 46 || b == 58 || b == 123 || b == 125 || b == 91 || b == 93 || b == 40 || b == 41
+    || b == 44 || b == 59 || b == 124 || b == 38 || b == 33 || b == 61 || b == 60
+    || b == 62 || b == 126 || b == 43 || b == 45 || b == 34
+
+-- what may stand outside texts in quotes
+abbrev pub is_alphabet : ℕ → Bool
+is_alphabet b = is_word_byte b || is_blank b || is_sign b
+
+-- What is left of a text.
+
+-- the bytes that are left, and the place of their first
+pub record Rest : Type 0 where
+  pub at : ℕ
+  pub bytes : List ℕ
+
+-- the first byte, or 0 where nothing is left
+abbrev pub first_of : List ℕ → ℕ
+first_of [] = 0
+first_of (b ∷ bs) = b
+
+abbrev pub behind_first : ℕ → List ℕ → Rest
+behind_first at [] = record { at = at; bytes = [] }
+behind_first at (b ∷ bs) = record { at = at + 1; bytes = bs }
+
+abbrev pub head : Rest → ℕ
+head s = first_of s.bytes
+
+-- what is left behind the first byte
+abbrev pub behind : Rest → Rest
+behind s = behind_first s.at s.bytes
+
+abbrev pub behind_blanks : ℕ → List ℕ → Rest
+behind_blanks at [] = record { at = at; bytes = [] }
+behind_blanks at (b ∷ bs) = if is_blank b then behind_blanks (at + 1) bs else record { at = at; bytes = b ∷ bs }
+
+-- what is left from the next token on
+unfoldable pub skip : Rest → Rest
+skip s = behind_blanks s.at s.bytes
+
+abbrev pub is_none_left : List ℕ → Bool
+is_none_left [] = true
+is_none_left (b ∷ bs) = false
+
+-- whether nothing is left
+abbrev pub is_end : Rest → Bool
+is_end s = is_none_left s.bytes
+
+-- The tokens of query texts. Blanks stand before a token.
 
 -- a sign of one byte, and what is left behind it
 abbrev pub sign_at : ℕ → Rest → Option Rest

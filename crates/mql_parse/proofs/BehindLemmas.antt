@@ -3,9 +3,9 @@ use Rattle.std.proofs.Common.{◌≡◌, ℕ, ◌+◌, ◌<◌, Bool, true, fals
 use Rattle.std.proofs.Common.{ap, ◌∙◌, arith, if◌then◌else◌, length-append, append_assoc, Option, Some, None, subst}
 use Rattle.std.proofs.lemmas.Bool.{false≢true}
 use Rattle.mql_ast.specs.declared.names.Name.{Name}
-use Rattle.mql_ast.specs.Bytes.{is_blank, is_letter, is_digit, is_word_byte}
-use Rattle.mql_ast.specs.Rests.{Rest, first_of, behind_first, behind_blanks, head, behind, skip}
-use Rattle.mql_ast.specs.Tokens.{sign_at, past, keyword_at, behind_word, word_here, name_at}
+use Rattle.mql_ast.specs.Tokens.{is_blank, is_letter, is_digit, is_word_byte, Rest, first_of, behind_first}
+use Rattle.mql_ast.specs.Tokens.{behind_blanks, head, behind, skip, sign_at, past, keyword_at, behind_word, word_here}
+use Rattle.mql_ast.specs.Tokens.{name_at}
 use Rattle.mql_parse.specs.Behind.{From, Behind}
 
 pub from_itself : (s : Rest) → From s s

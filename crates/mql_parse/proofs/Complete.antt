@@ -5,9 +5,8 @@ use Rattle.std.specs.Result.{result_ok}
 use Rattle.std.proofs.lemmas.Bool.{false≢true, eqb-true, or_left, or_right}
 use Rattle.mon_value.specs.Answers.{◌>>=◌}
 use Rattle.mql_ast.specs.declared.names.Name.{Name}
-use Rattle.mql_ast.specs.Bytes.{is_digit}
-use Rattle.mql_ast.specs.Rests.{Rest, head, behind, skip}
-use Rattle.mql_ast.specs.Tokens.{sign_at, past, name_at, metric_at, positive_at, number_at, signed_at, duration_at}
+use Rattle.mql_ast.specs.Tokens.{is_digit, Rest, head, behind, skip, sign_at, past, name_at, metric_at, positive_at}
+use Rattle.mql_ast.specs.Tokens.{number_at, signed_at, duration_at}
 use Rattle.mql_parse.specs.declared.faults.What.{What}
 use Rattle.mql_parse.specs.Outcomes.{Outcome, exact, sign, map_outcome, up_to_sign}
 use Rattle.mql_parse.specs.Repeats.{Turn, Done, repetition}

@@ -6,8 +6,7 @@ use Rattle.std.proofs.lemmas.Bool.{false≢true}
 use Rattle.std.proofs.lemmas.List.{append-nil}
 use Rattle.std.specs.Result.{IfOk}
 use Rattle.mon_value.specs.Answers.{◌>>=◌}
-use Rattle.mql_ast.specs.Bytes.{is_word_byte, is_metric_byte}
-use Rattle.mql_ast.specs.Rests.{Rest, first_of}
+use Rattle.mql_ast.specs.Tokens.{is_word_byte, is_metric_byte, Rest, first_of}
 use Rattle.mql_ast.specs.Quotes.{Whole}
 use Rattle.mql_parse.specs.declared.faults.ParseFault.{ParseFault}
 use Rattle.mql_parse.specs.declared.faults.ParseKind.{ParseKind}
@@ -16,7 +15,7 @@ use Rattle.mql_parse.specs.declared.faults.ParseKind.TheVariants.{TooDeep, TooLo
 use Rattle.mql_parse.specs.declared.faults.What.{What}
 use Rattle.mql_parse.specs.FaultNumbers.{IsNumber}
 use Rattle.mql_parse.specs.declared.faults.What.TheVariants as what
-use Rattle.mql_parse.specs.FaultKinds.{open_quotes}
+use Rattle.mql_parse.specs.Faults.{open_quotes}
 use Rattle.mql_parse.specs.FaultTokens.{IsBare}
 use Rattle.mql_parse.specs.Outcomes.{Outcome}
 use Rattle.mql_parse.specs.Repeats.{Turn, Done, Again, Stuck, turn_outcome, repetition, goes_on, on_read}

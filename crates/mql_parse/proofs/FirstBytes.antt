@@ -1,7 +1,6 @@
 -- Which words allow what begins with a byte.
 use Rattle.std.proofs.Common.{◌≡◌, ℕ, Bool, true, false, ◌==◌, ◌||◌, refl, ap, ◌∙◌, if◌then◌else◌}
-use Rattle.mql_ast.specs.Bytes.{is_digit}
-use Rattle.mql_ast.specs.Rests.{first_of}
+use Rattle.mql_ast.specs.Tokens.{is_digit, first_of}
 use Rattle.mql_parse.specs.declared.faults.What.{What}
 use Rattle.mql_parse.specs.declared.faults.What.TheVariants as what
 use Rattle.mql_parse.proofs.TokenEndings.{equal_byte}

@@ -4,8 +4,7 @@ use Rattle.std.proofs.Common.{sym, ◌∙◌, subst, arith, if◌then◌else◌,
 use Rattle.std.proofs.lemmas.Bool.{false≢true}
 use Rattle.mon_value.specs.Answers.{◌>>=◌}
 use Rattle.mql_ast.specs.Trees.{Flow}
-use Rattle.mql_ast.specs.Bytes.{is_alphabet}
-use Rattle.mql_ast.specs.Rests.{Rest, first_of, behind_first, head, behind, skip}
+use Rattle.mql_ast.specs.Tokens.{is_alphabet, Rest, first_of, behind_first, head, behind, skip}
 use Rattle.mql_parse.specs.declared.faults.ParseFault.{ParseFault}
 use Rattle.mql_parse.specs.declared.faults.ParseKind.TheVariants.{BadToken, Expected}
 use Rattle.mql_parse.specs.declared.faults.What.{What}

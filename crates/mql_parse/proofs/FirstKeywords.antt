@@ -1,7 +1,7 @@
 -- A keyword, and what stands behind it: what they expect comes first.
 use Rattle.std.proofs.Common.{◌≡◌, ℕ, true, false, ◌==◌, List, ◌∷◌, refl, sym, subst, if◌then◌else◌, Result, Ok, Err}
 use Rattle.mon_value.specs.Answers.{◌>>=◌}
-use Rattle.mql_ast.specs.Rests.{Rest, first_of, head, behind, skip}
+use Rattle.mql_ast.specs.Tokens.{Rest, first_of, head, behind, skip}
 use Rattle.mql_parse.specs.declared.faults.ParseFault.{ParseFault}
 use Rattle.mql_parse.specs.declared.faults.What.{What}
 use Rattle.mql_parse.specs.declared.faults.What.TheVariants as what

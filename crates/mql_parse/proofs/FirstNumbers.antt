@@ -3,9 +3,8 @@ use Rattle.std.proofs.Common.{◌≡◌, ◌⊎◌, inl, inr, ℕ, ℤ, ◌+◌,
 use Rattle.std.proofs.Common.{◌||◌, ◌&&◌, not, nat_le, List, [], ◌∷◌, ◌++◌, length, refl, sym, ap, subst, arith}
 use Rattle.std.proofs.Common.{if◌then◌else◌, Ok, Err}
 use Rattle.std.proofs.lemmas.Bool.{false≢true}
-use Rattle.mql_ast.specs.Bytes.{is_digit, is_metric_byte}
-use Rattle.mql_ast.specs.Rests.{Rest, first_of, behind_first, head, behind, skip}
-use Rattle.mql_ast.specs.Tokens.{minus, unit_seconds, longest}
+use Rattle.mql_ast.specs.Tokens.{is_digit, is_metric_byte, Rest, first_of, behind_first, head, behind, skip, minus}
+use Rattle.mql_ast.specs.Tokens.{unit_seconds, longest}
 use Rattle.mql_parse.specs.declared.faults.ParseKind.TheVariants.{NumberTooLarge}
 use Rattle.mql_parse.specs.declared.faults.What.{What}
 use Rattle.mql_parse.specs.declared.faults.What.TheVariants as what

@@ -2,8 +2,8 @@
 use Rattle.std.proofs.Common.{◌≡◌, inl, inr, ℕ, ◌+◌, ◌<◌, true, false, ◌&&◌, nat_le, List, [], ◌∷◌, ◌++◌, refl, sym}
 use Rattle.std.proofs.Common.{ap, subst, arith, if◌then◌else◌, Option, Some, None, Ok}
 use Rattle.std.proofs.lemmas.Bool.Decides.{nat_tests}
-use Rattle.mon_value.specs.Texts.{text_in}
-use Rattle.mql_ast.specs.Rests.{Rest}
+use Rattle.mon_value.specs.Values.{text_in}
+use Rattle.mql_ast.specs.Tokens.{Rest}
 use Rattle.mql_ast.specs.Quotes.{Open, Whole, Escape, More, further, TextStep, TextEnd, TextPass, TextKeep, TextBad}
 use Rattle.mql_ast.specs.Quotes.{text_step, Sign, Plain, Dot, Backslash, PatternStep, PatternEnd, PatternCut}
 use Rattle.mql_ast.specs.Quotes.{PatternPass, PatternKeep, PatternUnfit, PatternBad, pattern_step}

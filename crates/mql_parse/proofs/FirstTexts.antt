@@ -10,9 +10,7 @@ use Rattle.mon_value.specs.Answers.{◌>>=◌, GivesView}
 use Rattle.mon_value.specs.declared.refusals.Refusal.{Refusal}
 use Rattle.mon_value.specs.declared.refusals.Refusal.TheVariants as refusal
 use Rattle.mql_ast.specs.declared.pipes.Query.{Query}
-use Rattle.mql_ast.specs.Bytes.{is_blank}
-use Rattle.mql_ast.specs.Rests.{Rest, first_of, head, behind, skip}
-use Rattle.mql_ast.specs.Tokens.{sign_at, past, keyword_at}
+use Rattle.mql_ast.specs.Tokens.{is_blank, Rest, first_of, head, behind, skip, sign_at, past, keyword_at}
 use Rattle.mql_ast.specs.Trees.{PipeTree, SourceTree, query_tree}
 use Rattle.mql_ast.specs.Grammar.{start, levels, longest_text, Pipe, flow, Source, fetch, join, SpellsAtLength, Begins}
 use Rattle.mql_parse.specs.declared.faults.ParseFault.{ParseFault}
@@ -22,7 +20,7 @@ use Rattle.mql_parse.specs.declared.faults.What.TheVariants as what
 use Rattle.mql_parse.specs.Outcomes.{Outcome, fault, unexpected_fault}
 use Rattle.mql_parse.specs.PipeReading.{pipe, behind_query, query_end_in, query_end, query_within, query, text_outcome}
 use Rattle.mql_parse.specs.FaultDepths.{SpellsWithin}
-use Rattle.mql_parse.specs.FaultPlaces.{FaultOf}
+use Rattle.mql_parse.specs.Faults.{FaultOf, open_quotes}
 use Rattle.mql_parse.specs.WordOrder.{rank, stands_alone, allows}
 use Rattle.mql_parse.specs.FaultTokens.{IsBare, with_token_behind, MayStandBehind, MayCome, ExpectedKind}
 use Rattle.mql_parse.specs.FaultFirsts.{FirstKind}
@@ -32,7 +30,6 @@ use Rattle.mql_parse.proofs.TextSteady.{begins_here, more_left, begins_at_levels
 use Rattle.mql_parse.proofs.TextComplete.{query_complete, within_levels}
 use Rattle.mql_parse.proofs.FrontEndings.{fetch_begins, Spelled, Arrives, fault_within, fault_comes}
 use Rattle.mql_parse.proofs.Endings.{ComesBy, Closes, Comes, IfExpected}
-use Rattle.mql_parse.specs.FaultKinds.{open_quotes}
 use Rattle.mql_ast.specs.Quotes.{Whole}
 use Rattle.mql_parse.proofs.KindFits.{quotes_append}
 use Rattle.mql_parse.proofs.TextKinds.{spelled_closed}

@@ -5,9 +5,8 @@ use Rattle.std.proofs.lemmas.Bool.{false≢true}
 use Rattle.std.proofs.lemmas.Bool.Decides.{nat_tests}
 use Rattle.mon_value.specs.Answers.{◌>>=◌}
 use Rattle.mql_ast.specs.declared.names.Name.{Name}
-use Rattle.mql_ast.specs.Bytes.{is_blank, is_letter, is_digit, is_word_byte}
-use Rattle.mql_ast.specs.Rests.{Rest, first_of, behind_first, head, behind, skip}
-use Rattle.mql_ast.specs.Tokens.{word_bytes, behind_word, word_here}
+use Rattle.mql_ast.specs.Tokens.{is_blank, is_letter, is_digit, is_word_byte, Rest, first_of, behind_first, head}
+use Rattle.mql_ast.specs.Tokens.{behind, skip, word_bytes, behind_word, word_here}
 use Rattle.mql_parse.specs.declared.faults.What.{What}
 use Rattle.mql_parse.specs.declared.faults.What.TheVariants as what
 use Rattle.mql_parse.specs.Outcomes.{Outcome, unexpected_fault, exact, apart}

@@ -6,10 +6,8 @@ use Rattle.std.proofs.lemmas.Bool.{false≢true}
 use Rattle.std.proofs.lemmas.Bool.Decides.{nat_tests}
 use Rattle.mql_ast.specs.declared.predicates.Comparison.{Comparison}
 use Rattle.mql_ast.specs.declared.pipes.How.TheVariants as how
-use Rattle.mql_ast.specs.Bytes.{is_blank, is_digit}
-use Rattle.mql_ast.specs.Rests.{Rest, first_of, head, behind, skip}
-use Rattle.mql_ast.specs.Tokens.{sign_at, keyword_at, metric_at, metric_behind, positive_at, number_at, duration_at}
-use Rattle.mql_ast.specs.Tokens.{longest, with_unit}
+use Rattle.mql_ast.specs.Tokens.{is_blank, is_digit, Rest, first_of, head, behind, skip, sign_at, keyword_at, metric_at}
+use Rattle.mql_ast.specs.Tokens.{metric_behind, positive_at, number_at, duration_at, longest, with_unit}
 use Rattle.mql_ast.specs.Quotes.{Whole, Plain, text_from, pattern_from}
 use Rattle.mql_ast.specs.Grammar.{start, comparison_at, how_word}
 use Rattle.mql_parse.specs.declared.faults.What.{What}

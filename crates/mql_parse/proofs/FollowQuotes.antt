@@ -5,9 +5,8 @@ use Rattle.std.proofs.Common.{IfSome, Ok, Err}
 use Rattle.std.specs.Str.{IsUtf8}
 use Rattle.std.proofs.lemmas.Bool.Decides.{nat_tests}
 use Rattle.std.proofs.lemmas.Str.{IsUtf8-nil}
-use Rattle.mon_value.specs.Texts.{text_in}
-use Rattle.mql_ast.specs.Bytes.{is_digit}
-use Rattle.mql_ast.specs.Rests.{Rest}
+use Rattle.mon_value.specs.Values.{text_in}
+use Rattle.mql_ast.specs.Tokens.{is_digit, Rest}
 use Rattle.mql_ast.specs.Quotes.{Open, Whole, Escape, More, begins_character, begins_long_character, further, TextStep}
 use Rattle.mql_ast.specs.Quotes.{TextEnd, TextPass, TextKeep, TextBad, kept_open, text_step, Sign, Plain, Dot}
 use Rattle.mql_ast.specs.Quotes.{Backslash}

@@ -4,8 +4,7 @@ use Rattle.std.proofs.Common.{refl, sym, ap, ◌∙◌, arith, if◌then◌else�
 use Rattle.std.proofs.lemmas.Bool.{false≢true, eqb-true}
 use Rattle.std.proofs.lemmas.Bool.Decides.{nat_tests}
 use Rattle.mon_value.specs.Answers.{◌>>=◌}
-use Rattle.mql_ast.specs.Bytes.{is_blank}
-use Rattle.mql_ast.specs.Rests.{Rest, head, skip}
+use Rattle.mql_ast.specs.Tokens.{is_blank, Rest, head, skip}
 use Rattle.mql_ast.specs.Trees.{PipeTree}
 use Rattle.mql_ast.specs.Grammar.{start, levels}
 use Rattle.mql_parse.specs.declared.faults.ParseFault.{ParseFault}

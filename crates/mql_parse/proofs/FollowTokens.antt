@@ -9,8 +9,7 @@ use Rattle.mon_value.specs.Answers.{◌>>=◌}
 use Rattle.mql_ast.specs.declared.names.Name.{Name}
 use Rattle.mql_ast.specs.declared.operations.FoldWord.{FoldWord}
 use Rattle.mql_ast.specs.declared.operations.FoldWord.TheVariants as fold
-use Rattle.mql_ast.specs.Bytes.{is_letter, is_digit, is_word_byte, is_metric_byte}
-use Rattle.mql_ast.specs.Rests.{Rest, head, behind, skip}
+use Rattle.mql_ast.specs.Tokens.{is_letter, is_digit, is_word_byte, is_metric_byte, Rest, head, behind, skip}
 use Rattle.mql_ast.specs.Tokens.{word_bytes, behind_word, word_here, metric_name, minus, unit_seconds, longest}
 use Rattle.mql_parse.specs.declared.faults.ParseKind.TheVariants.{NumberTooLarge}
 use Rattle.mql_parse.specs.declared.faults.What.{What}

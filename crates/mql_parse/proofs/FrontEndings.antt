@@ -7,8 +7,7 @@ use Rattle.std.proofs.lemmas.List.{append-nil}
 use Rattle.std.proofs.lemmas.Bool.{eqb-true}
 use Rattle.mon_value.specs.Answers.{◌>>=◌}
 use Rattle.mql_ast.specs.Trees.{PipeTree}
-use Rattle.mql_ast.specs.Bytes.{is_blank}
-use Rattle.mql_ast.specs.Rests.{Rest, skip}
+use Rattle.mql_ast.specs.Tokens.{is_blank, Rest, skip}
 use Rattle.mql_ast.specs.Grammar.{start, Pipe}
 use Rattle.mql_parse.specs.declared.faults.ParseFault.{ParseFault}
 use Rattle.mql_parse.specs.declared.faults.ParseKind.TheVariants.{Expected}

@@ -4,8 +4,7 @@ use Rattle.std.proofs.Common.{refl, sym, ap, ◌∙◌, subst, arith, if◌then�
 use Rattle.std.proofs.Common.{Some, None, Result, Ok, Err}
 use Rattle.std.proofs.lemmas.Bool.{false≢true, ne_eqb, eqb-true}
 use Rattle.mon_value.specs.Answers.{◌>>=◌}
-use Rattle.mql_ast.specs.Bytes.{is_blank, is_alphabet}
-use Rattle.mql_ast.specs.Rests.{Rest, first_of, behind_first, behind_blanks, head, behind, skip}
+use Rattle.mql_ast.specs.Tokens.{is_blank, is_alphabet, Rest, first_of, behind_first, behind_blanks, head, behind, skip}
 use Rattle.mql_ast.specs.Quotes.{Open, Whole}
 use Rattle.mql_parse.specs.declared.faults.ParseFault.{ParseFault}
 use Rattle.mql_parse.specs.declared.faults.ParseKind.{ParseKind}
@@ -16,7 +15,7 @@ use Rattle.mql_parse.specs.Repeats.{Turn, Done, Again, Stuck, turn_outcome, repe
 use Rattle.mql_parse.specs.Repeats.{list_turn}
 use Rattle.mql_parse.specs.Behind.{Behind}
 use Rattle.mql_parse.specs.Soundness.{OfTurn}
-use Rattle.mql_parse.specs.FaultKinds.{quotes_after, open_quotes, OutsideKind, KindFits}
+use Rattle.mql_parse.specs.Faults.{quotes_after, open_quotes, OutsideKind, KindFits}
 use Rattle.mql_parse.proofs.BehindLemmas.{behind_is_shorter}
 use Rattle.mql_parse.proofs.Loops.{GoesBehind}
 use Rattle.mql_parse.proofs.Sound.{repeated_turn}

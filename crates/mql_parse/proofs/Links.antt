@@ -4,11 +4,10 @@ use Rattle.std.proofs.Common.{◌∷◌, ◌++◌, codes, refl, ap, ◌∙◌, i
 use Rattle.std.proofs.Common.{Result, Ok, Err}
 use Rattle.std.specs.Result.{result_ok}
 use Rattle.mon_value.specs.Answers.{◌>>=◌}
-use Rattle.mon_value.specs.Texts.{text_in}
-use Rattle.mql_ast.specs.Bytes.{is_letter, is_digit, is_metric_byte}
-use Rattle.mql_ast.specs.Rests.{Rest, head, behind, skip}
+use Rattle.mon_value.specs.Values.{text_in}
+use Rattle.mql_ast.specs.Tokens.{is_letter, is_digit, is_metric_byte, Rest, head, behind, skip, word_here, minus}
+use Rattle.mql_ast.specs.Tokens.{unit_seconds, longest}
 use Rattle.mql_ast.specs.Tokens as grammar
-use Rattle.mql_ast.specs.Tokens.{word_here, minus, unit_seconds, longest}
 use Rattle.mql_ast.specs.Quotes as quotes
 use Rattle.mql_ast.specs.Quotes.{Open, Whole, TextStep, TextEnd, TextPass, TextKeep, TextBad, text_step, Sign, Plain}
 use Rattle.mql_ast.specs.Quotes.{PatternStep, PatternEnd, PatternCut, PatternPass, PatternKeep, PatternUnfit}

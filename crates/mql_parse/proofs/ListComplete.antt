@@ -6,9 +6,7 @@ use Rattle.mql_ast.specs.declared.operations.Aggregate.{Aggregate}
 use Rattle.mql_ast.specs.declared.operations.FoldWord.{FoldWord}
 use Rattle.mql_ast.specs.declared.operations.FoldWord.TheVariants as fold
 use Rattle.mql_ast.specs.Trees.{SumTree, ItemTree}
-use Rattle.mql_ast.specs.Bytes.{is_letter}
-use Rattle.mql_ast.specs.Rests.{Rest, head, behind, skip}
-use Rattle.mql_ast.specs.Tokens.{sign_at, keyword_at, past, name_at}
+use Rattle.mql_ast.specs.Tokens.{is_letter, Rest, head, behind, skip, sign_at, keyword_at, past, name_at}
 use Rattle.mql_ast.specs.Grammar as grammar
 use Rattle.mql_ast.specs.Grammar.{NameList, one_name, more_names, Grouping, no_names, some_names, fold_named, Folded}
 use Rattle.mql_ast.specs.Grammar.{counted, Folding, unnamed, named, FoldingList, one_folding, more_foldings, ItemOf}

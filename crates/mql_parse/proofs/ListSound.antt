@@ -9,9 +9,7 @@ use Rattle.mql_ast.specs.declared.operations.Aggregate.{Aggregate}
 use Rattle.mql_ast.specs.declared.operations.FoldWord.{FoldWord}
 use Rattle.mql_ast.specs.declared.operations.FoldWord.TheVariants as fold
 use Rattle.mql_ast.specs.Trees.{ItemTree}
-use Rattle.mql_ast.specs.Bytes.{is_letter}
-use Rattle.mql_ast.specs.Rests.{Rest, head, behind, skip}
-use Rattle.mql_ast.specs.Tokens.{sign_at, keyword_at, past, name_at, word_here}
+use Rattle.mql_ast.specs.Tokens.{is_letter, Rest, head, behind, skip, sign_at, keyword_at, past, name_at, word_here}
 use Rattle.mql_ast.specs.Grammar as grammar
 use Rattle.mql_ast.specs.Grammar.{NameList, one_name, more_names, fold_named, Folded, counted, Folding, unnamed, named}
 use Rattle.mql_ast.specs.Grammar.{FoldingList, one_folding, more_foldings, ItemOf, single, labelled, ItemList}

@@ -5,10 +5,9 @@ use Rattle.std.proofs.Common.{length-append, Option, Some, None, option_and_then
 use Rattle.std.proofs.lemmas.Bool.{false≢true}
 use Rattle.std.proofs.lemmas.List.{append-nil}
 use Rattle.std.proofs.lemmas.Bool.Decides.{nat_tests}
-use Rattle.mql_ast.specs.Bytes.{is_blank, is_digit}
-use Rattle.mql_ast.specs.Rests.{Rest, first_of, head, behind, skip}
+use Rattle.mql_ast.specs.Tokens.{is_blank, is_digit, Rest, first_of, head, behind, skip, sign_at, minus, unit_seconds}
+use Rattle.mql_ast.specs.Tokens.{longest}
 use Rattle.mql_ast.specs.Tokens as grammar
-use Rattle.mql_ast.specs.Tokens.{sign_at, minus, unit_seconds, longest}
 use Rattle.mon_value.specs.Answers.{◌>>=◌}
 use Rattle.mql_parse.specs.declared.faults.ParseFault.{ParseFault}
 use Rattle.mql_parse.specs.declared.faults.ParseKind.TheVariants.{NumberTooLarge}

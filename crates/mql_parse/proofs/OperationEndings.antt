@@ -6,9 +6,7 @@ use Rattle.std.proofs.lemmas.Bool.{false≢true}
 use Rattle.mon_value.specs.declared.aligners.Aligner.TheVariants as aligner
 use Rattle.mql_ast.specs.Trees as tree
 use Rattle.mql_ast.specs.Trees.{PredicateTree, DeedTree, OpTree}
-use Rattle.mql_ast.specs.Bytes.{is_blank}
-use Rattle.mql_ast.specs.Rests.{Rest, head, skip}
-use Rattle.mql_ast.specs.Tokens.{positive_at, duration_at}
+use Rattle.mql_ast.specs.Tokens.{is_blank, Rest, head, skip, positive_at, duration_at}
 use Rattle.mql_ast.specs.Grammar as grammar
 use Rattle.mql_ast.specs.Grammar.{Deed, align_delta, align_next_older}
 use Rattle.mql_parse.specs.declared.faults.What.TheVariants as what

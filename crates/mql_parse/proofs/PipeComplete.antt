@@ -10,9 +10,8 @@ use Rattle.mql_ast.specs.declared.pipes.How.{How}
 use Rattle.mql_ast.specs.declared.pipes.How.TheVariants as how
 use Rattle.mql_ast.specs.Trees as tree
 use Rattle.mql_ast.specs.Trees.{PredicateTree, ItemTree, DeedTree, OpTree, PipeTree, SourceTree, branches}
-use Rattle.mql_ast.specs.Bytes.{is_blank, is_letter, is_word_byte}
-use Rattle.mql_ast.specs.Rests.{Rest, head, behind, skip}
-use Rattle.mql_ast.specs.Tokens.{sign_at, keyword_at, past, name_at, metric_at, positive_at, duration_at}
+use Rattle.mql_ast.specs.Tokens.{is_blank, is_letter, is_word_byte, Rest, head, behind, skip, sign_at, keyword_at, past}
+use Rattle.mql_ast.specs.Tokens.{name_at, metric_at, positive_at, duration_at}
 use Rattle.mql_ast.specs.Grammar as grammar
 use Rattle.mql_ast.specs.Grammar.{Apart, Grouping, FoldingList, ItemList, Disjunction, Deed, align_delta}
 use Rattle.mql_ast.specs.Grammar.{align_next_older, Ops, no_ops, more_ops, how_word, Pipe, flow, Source, PipeList}

@@ -2,7 +2,7 @@
 use Rattle.std.proofs.Common.{◌≡◌, ℕ, zero, suc, ◌<◌, Bool, true, false, ◌==◌, List, [], ◌∷◌, ◌++◌, codes, refl, arith}
 use Rattle.std.proofs.Common.{Err}
 use Rattle.mql_ast.specs.Trees.{Filter, Value, Every, Within, OpTree, PipeTree, Flow, SourceTree}
-use Rattle.mql_ast.specs.Rests.{Rest, head, behind, skip}
+use Rattle.mql_ast.specs.Tokens.{Rest, head, behind, skip}
 use Rattle.mql_parse.specs.declared.faults.What.TheVariants as what
 use Rattle.mql_parse.specs.Outcomes.{Outcome, unexpected_fault, exact, sign, map_outcome}
 use Rattle.mql_parse.specs.Repeats.{Done, Again, Stuck, repetition}

@@ -7,8 +7,7 @@ use Rattle.mql_ast.specs.declared.pipes.How.{How}
 use Rattle.mql_ast.specs.declared.pipes.How.TheVariants as how
 use Rattle.mql_ast.specs.Trees as tree
 use Rattle.mql_ast.specs.Trees.{DeedTree, OpTree, PipeTree, SourceTree, branches}
-use Rattle.mql_ast.specs.Rests.{Rest, head, behind, skip}
-use Rattle.mql_ast.specs.Tokens.{keyword_at, sign_at, metric_at}
+use Rattle.mql_ast.specs.Tokens.{Rest, head, behind, skip, keyword_at, sign_at, metric_at}
 use Rattle.mql_ast.specs.Grammar as grammar
 use Rattle.mql_ast.specs.Grammar.{Deed, no_ops, more_ops, how_word, Pipe, flow, Source, PipeList, two_pipes, more_pipes}
 use Rattle.mql_parse.specs.declared.faults.ParseKind.TheVariants.{TooDeep}

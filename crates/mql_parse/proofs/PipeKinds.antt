@@ -7,7 +7,7 @@ use Rattle.mql_ast.specs.declared.pipes.How.{How}
 use Rattle.mql_ast.specs.declared.pipes.How.TheVariants as how
 use Rattle.mql_ast.specs.Trees.{PredicateTree, DeedTree, Filter, Align, GroupBy, Value, Top, Every, Within, OpTree}
 use Rattle.mql_ast.specs.Trees.{PipeTree, Flow, SourceTree, Fetch, Branches, branches}
-use Rattle.mql_ast.specs.Rests.{Rest, head, behind, skip}
+use Rattle.mql_ast.specs.Tokens.{Rest, head, behind, skip}
 use Rattle.mql_parse.specs.declared.faults.What.{What}
 use Rattle.mql_parse.specs.declared.faults.What.TheVariants as what
 use Rattle.mql_parse.specs.Outcomes.{Outcome, unexpected_fault, exact, sign, apart, map_outcome, up_to_sign}

@@ -1,8 +1,7 @@
 -- Predicates are read with more levels as with fewer, but where fewer were too few.
 use Rattle.std.proofs.Common.{◌≡◌, ℕ, zero, suc, ◌<◌, Bool, true, false, ◌==◌, refl, arith}
 use Rattle.mql_ast.specs.Trees.{PredicateTree, Not, And, Or}
-use Rattle.mql_ast.specs.Bytes.{is_letter}
-use Rattle.mql_ast.specs.Rests.{Rest, head, behind, skip}
+use Rattle.mql_ast.specs.Tokens.{is_letter, Rest, head, behind, skip}
 use Rattle.mql_parse.specs.declared.faults.What.{What}
 use Rattle.mql_parse.specs.declared.faults.What.TheVariants as what
 use Rattle.mql_parse.specs.Outcomes.{Outcome, unexpected_fault}

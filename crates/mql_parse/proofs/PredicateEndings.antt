@@ -6,9 +6,7 @@ use Rattle.mql_ast.specs.declared.predicates.Comparison.{Comparison}
 use Rattle.mql_ast.specs.declared.predicates.Comparison.TheVariants as comparison
 use Rattle.mql_ast.specs.Trees as tree
 use Rattle.mql_ast.specs.Trees.{PredicateTree}
-use Rattle.mql_ast.specs.Bytes.{is_letter}
-use Rattle.mql_ast.specs.Rests.{Rest, head, behind, skip}
-use Rattle.mql_ast.specs.Tokens.{word_here}
+use Rattle.mql_ast.specs.Tokens.{is_letter, Rest, head, behind, skip, word_here}
 use Rattle.mql_ast.specs.Grammar.{literal, Disjunction, one_conjunction, or, Conjunction, one_negation, and, Negation}
 use Rattle.mql_ast.specs.Grammar.{not, in_parentheses, compare, like}
 use Rattle.mql_parse.specs.declared.faults.ParseKind.TheVariants.{TooDeep}

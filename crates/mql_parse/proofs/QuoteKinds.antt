@@ -4,8 +4,8 @@ use Rattle.std.proofs.Common.{ap, ◌∙◌, subst, arith, if◌then◌else◌, 
 use Rattle.std.proofs.lemmas.Bool.{eqb-true}
 use Rattle.std.proofs.lemmas.Bool.Decides.{nat_tests}
 use Rattle.std.proofs.lemmas.Str.{IsUtf8-nil}
-use Rattle.mon_value.specs.Texts.{text_in}
-use Rattle.mql_ast.specs.Rests.{Rest}
+use Rattle.mon_value.specs.Values.{text_in}
+use Rattle.mql_ast.specs.Tokens.{Rest}
 use Rattle.mql_ast.specs.Quotes.{Open, Whole, Escape, More, begins_character, begins_long_character, further, TextStep}
 use Rattle.mql_ast.specs.Quotes.{TextEnd, TextPass, TextKeep, TextBad, kept_open, text_step, Sign, Plain, Dot}
 use Rattle.mql_ast.specs.Quotes.{Backslash}
@@ -14,7 +14,7 @@ use Rattle.mql_ast.specs.Quotes.{PatternBad, kept_sign, unfit, pattern_step}
 use Rattle.mql_parse.specs.declared.faults.ParseKind.TheVariants.{BadToken, BadPattern}
 use Rattle.mql_parse.specs.Outcomes.{Outcome, fault}
 use Rattle.mql_parse.specs.TokenReading as reading
-use Rattle.mql_parse.specs.FaultKinds.{open_behind, quotes_after, could_stand, QuotedKind}
+use Rattle.mql_parse.specs.Faults.{open_behind, quotes_after, could_stand, QuotedKind}
 use Rattle.mql_parse.proofs.KindFits.{Outside, FaultFits, Fits}
 use Rattle.mql_parse.proofs.Utf8Steps.{LeavesOpen, StepOpens, text_step_opens, LeavesSign, PatternOpens}
 use Rattle.mql_parse.proofs.Utf8Steps.{pattern_step_opens, text_may_end}

@@ -2,7 +2,7 @@
 use Rattle.std.proofs.Common.{◌≡◌, ℕ, ◌<◌, false, List, [], ◌∷◌, length, refl, arith}
 use Rattle.std.proofs.lemmas.Bool.{false≢true}
 use Rattle.std.proofs.Common.{sym}
-use Rattle.mql_ast.specs.Rests.{Rest, first_of, behind_first, is_none_left, is_end, head, behind}
+use Rattle.mql_ast.specs.Tokens.{Rest, first_of, behind_first, is_none_left, is_end, head, behind}
 use Rattle.mql_ast.specs.Quotes.{Open, text_step, Sign, pattern_step}
 use Rattle.mql_parse.specs.TokenReading.{text_from, after_text_step, pattern_from, after_pattern_step}
 

@@ -2,8 +2,7 @@
 use Rattle.std.proofs.Common.{◌≡◌, ℕ, ◌+◌, ◌<◌, Bool, true, false, List, [], ◌∷◌, length, refl, sym, ap, ◌∙◌, arith}
 use Rattle.std.proofs.Common.{if◌then◌else◌}
 use Rattle.std.proofs.lemmas.Bool.{false≢true}
-use Rattle.mql_ast.specs.Bytes.{is_blank}
-use Rattle.mql_ast.specs.Rests.{Rest, first_of, behind_first, behind_blanks, head, behind, skip}
+use Rattle.mql_ast.specs.Tokens.{is_blank, Rest, first_of, behind_first, behind_blanks, head, behind, skip}
 
 blank_on : (at : ℕ) (bs : List ℕ) → is_blank (first_of bs) ≡ true → behind_blanks (behind_first at bs).at
     (behind_first at bs).bytes ≡ behind_blanks at bs

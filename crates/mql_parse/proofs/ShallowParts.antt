@@ -7,9 +7,7 @@ use Rattle.mql_ast.specs.declared.operations.Aggregate.{Aggregate}
 use Rattle.mql_ast.specs.declared.operations.FoldWord.{FoldWord}
 use Rattle.mql_ast.specs.declared.operations.FoldWord.TheVariants as fold
 use Rattle.mql_ast.specs.Trees.{DeedTree, PipeTree}
-use Rattle.mql_ast.specs.Bytes.{is_digit}
-use Rattle.mql_ast.specs.Rests.{Rest, head, behind, skip}
-use Rattle.mql_ast.specs.Tokens.{word_here}
+use Rattle.mql_ast.specs.Tokens.{is_digit, Rest, head, behind, skip, word_here}
 use Rattle.mql_parse.specs.declared.faults.What.{What}
 use Rattle.mql_parse.specs.declared.faults.What.TheVariants as what
 use Rattle.mql_parse.specs.Outcomes.{exact, sign, apart}

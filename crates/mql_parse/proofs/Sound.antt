@@ -3,8 +3,8 @@ use Rattle.std.proofs.Common.{◌≡◌, ℕ, ◌+◌, ◌-◌, ◌<◌, Bool, t
 use Rattle.std.proofs.Common.{ap, ◌∙◌, subst, arith, if◌then◌else◌, length-append, Option, Some, None, Result, Ok, Err}
 use Rattle.std.specs.Result.{IfOk, result_ok}
 use Rattle.mon_value.specs.Answers.{◌>>=◌}
-use Rattle.mql_ast.specs.Rests.{Rest, head, behind, skip}
-use Rattle.mql_ast.specs.Tokens.{sign_at, past, name_at, metric_at, positive_at, signed_at, duration_at}
+use Rattle.mql_ast.specs.Tokens.{Rest, head, behind, skip, sign_at, past, name_at, metric_at, positive_at, signed_at}
+use Rattle.mql_ast.specs.Tokens.{duration_at}
 use Rattle.mql_parse.specs.declared.faults.What.{What}
 use Rattle.mql_parse.specs.Outcomes.{Outcome, exact, sign, map_outcome}
 use Rattle.mql_parse.specs.Repeats.{Turn, Done, Again, Stuck, turn_outcome, turns, repetition, goes_on}

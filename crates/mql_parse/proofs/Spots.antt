@@ -1,8 +1,7 @@
 -- Two texts that are the same up to a place, where the second goes on with a line's end and a token.
 use Rattle.std.proofs.Common.{◌≡◌, ℕ, ◌+◌, ◌<◌, ◌≤◌, Bool, true, false, List, [], ◌∷◌, ◌++◌, length, refl, sym, ap}
 use Rattle.std.proofs.Common.{◌∙◌, subst, arith, if◌then◌else◌}
-use Rattle.mql_ast.specs.Bytes.{is_blank}
-use Rattle.mql_ast.specs.Rests.{Rest, first_of, behind_first, behind_blanks, head, behind, skip}
+use Rattle.mql_ast.specs.Tokens.{is_blank, Rest, first_of, behind_first, behind_blanks, head, behind, skip}
 use Rattle.mql_parse.specs.declared.faults.What.{What}
 use Rattle.mql_parse.proofs.FirstWords.{Starts}
 

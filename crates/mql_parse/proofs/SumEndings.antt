@@ -6,9 +6,7 @@ use Rattle.std.specs.Result.{IfOk}
 use Rattle.mon_value.specs.Answers.{◌>>=◌}
 use Rattle.mql_ast.specs.Trees as tree
 use Rattle.mql_ast.specs.Trees.{SumTree}
-use Rattle.mql_ast.specs.Bytes.{is_letter, is_digit}
-use Rattle.mql_ast.specs.Rests.{Rest, head, behind, skip}
-use Rattle.mql_ast.specs.Tokens.{signed_at, positive_at, word_here}
+use Rattle.mql_ast.specs.Tokens.{is_letter, is_digit, Rest, head, behind, skip, signed_at, positive_at, word_here}
 use Rattle.mql_ast.specs.Grammar.{Sum, one_term, plus, minus, Term, column, number, percentile, sum_in_parentheses}
 use Rattle.mql_parse.specs.declared.faults.ParseFault.{ParseFault}
 use Rattle.mql_parse.specs.declared.faults.ParseKind.TheVariants.{TooDeep}

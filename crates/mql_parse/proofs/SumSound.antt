@@ -7,9 +7,8 @@ use Rattle.std.specs.Cmp.Lexicographic.{pointwise}
 use Rattle.mon_value.specs.Answers.{◌>>=◌}
 use Rattle.mql_ast.specs.declared.names.Name.{Name}
 use Rattle.mql_ast.specs.Trees.{SumTree}
-use Rattle.mql_ast.specs.Bytes.{is_letter, is_digit}
-use Rattle.mql_ast.specs.Rests.{Rest, head, behind, skip}
-use Rattle.mql_ast.specs.Tokens.{sign_at, name_at, positive_at, signed_at, word_here}
+use Rattle.mql_ast.specs.Tokens.{is_letter, is_digit, Rest, head, behind, skip, sign_at, name_at, positive_at}
+use Rattle.mql_ast.specs.Tokens.{signed_at, word_here}
 use Rattle.mql_ast.specs.Grammar.{Sum, one_term, plus, minus, Term, column, number, percentile, sum_in_parentheses}
 use Rattle.mql_parse.specs.declared.faults.What.TheVariants as what
 use Rattle.mql_parse.specs.declared.faults.ParseKind.TheVariants.{TooDeep}

@@ -3,9 +3,7 @@ use Rattle.std.proofs.Common.{ℕ, zero, suc, true, false, ◌==◌, ◌||◌, [
 use Rattle.mon_value.specs.Answers.{◌>>=◌}
 use Rattle.mql_ast.specs.declared.names.Name.{Name}
 use Rattle.mql_ast.specs.Trees.{Column, Number, Percentile}
-use Rattle.mql_ast.specs.Bytes.{is_letter, is_digit}
-use Rattle.mql_ast.specs.Rests.{Rest, head, behind, skip}
-use Rattle.mql_ast.specs.Tokens.{word_here}
+use Rattle.mql_ast.specs.Tokens.{is_letter, is_digit, Rest, head, behind, skip, word_here}
 use Rattle.mql_parse.specs.declared.faults.ParseKind.TheVariants.{TooDeep}
 use Rattle.mql_parse.specs.declared.faults.What.TheVariants as what
 use Rattle.mql_parse.specs.Outcomes.{Outcome, unexpected_fault, sign, map_outcome}

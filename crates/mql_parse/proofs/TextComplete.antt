@@ -6,8 +6,7 @@ use Rattle.mon_value.specs.Answers.{GivesView}
 use Rattle.mon_value.specs.declared.refusals.Refusal.{Refusal}
 use Rattle.mql_ast.specs.declared.pipes.Query.{Query}
 use Rattle.mql_ast.specs.Trees.{PipeTree, query_tree}
-use Rattle.mql_ast.specs.Bytes.{is_blank}
-use Rattle.mql_ast.specs.Rests.{Rest, first_of, head, skip}
+use Rattle.mql_ast.specs.Tokens.{is_blank, Rest, first_of, head, skip}
 use Rattle.mql_ast.specs.Grammar.{start, levels, longest_text, SpellsAtLength, Spells}
 use Rattle.mql_parse.specs.declared.faults.ParseFault.{ParseFault}
 use Rattle.mql_parse.specs.FaultDepths.{SpellsWithin}

@@ -8,14 +8,14 @@ use Rattle.mon_value.specs.declared.refusals.Refusal.{Refusal}
 use Rattle.mon_value.specs.declared.refusals.Refusal.TheVariants as refusal
 use Rattle.mql_ast.specs.declared.pipes.Query.{Query}
 use Rattle.mql_ast.specs.Trees.{PipeTree, query_tree}
-use Rattle.mql_ast.specs.Rests.{Rest, skip}
+use Rattle.mql_ast.specs.Tokens.{Rest, skip}
 use Rattle.mql_ast.specs.Grammar.{start, levels, longest_text}
 use Rattle.mql_parse.specs.declared.faults.ParseFault.{ParseFault}
 use Rattle.mql_parse.specs.declared.faults.ParseKind.TheVariants.{Expected}
 use Rattle.mql_parse.specs.declared.faults.What.TheVariants as what
 use Rattle.mql_parse.specs.Outcomes.{Outcome, fault, unexpected_fault}
 use Rattle.mql_parse.specs.PipeReading.{pipe, behind_query, query_end_in, query_end, query_within, query, text_outcome}
-use Rattle.mql_parse.specs.FaultPlaces.{FaultOf}
+use Rattle.mql_parse.specs.Faults.{FaultOf}
 use Rattle.mql_parse.specs.FaultDepths.{SpellsWithin, BeginsWithin, DepthKind}
 use Rattle.mql_parse.specs.Steadiness.{next, Reaches}
 use Rattle.mql_parse.proofs.Shallow.{unexpected_kind}

@@ -4,8 +4,8 @@ use Rattle.std.proofs.Common.{ap, ◌∙◌, subst, arith, if◌then◌else◌, 
 use Rattle.std.specs.Str.{IsUtf8}
 use Rattle.std.proofs.lemmas.Bool.Decides.{nat_tests}
 use Rattle.std.proofs.lemmas.Str.{IsUtf8-nil}
-use Rattle.mon_value.specs.Texts.{text_in}
-use Rattle.mql_ast.specs.Rests.{Rest}
+use Rattle.mon_value.specs.Values.{text_in}
+use Rattle.mql_ast.specs.Tokens.{Rest}
 use Rattle.mql_ast.specs.Quotes as quotes
 use Rattle.mql_ast.specs.Quotes.{Open, Whole, Escape, More, further, TextStep, TextEnd, TextPass, TextKeep, TextBad}
 use Rattle.mql_ast.specs.Quotes.{text_step, Sign, Plain, Dot, Backslash, PatternStep, PatternEnd, PatternCut}
@@ -15,7 +15,7 @@ use Rattle.mql_parse.specs.declared.faults.ParseKind.TheVariants.{BadToken, BadP
 use Rattle.mql_parse.specs.declared.faults.What.TheVariants as what
 use Rattle.mql_parse.specs.Outcomes.{Outcome, fault}
 use Rattle.mql_parse.specs.TokenReading as reading
-use Rattle.mql_parse.specs.FaultKinds.{open_behind, open_quotes}
+use Rattle.mql_parse.specs.Faults.{open_behind, open_quotes}
 use Rattle.mql_parse.proofs.Endings.{IfTooLarge, IfExpected}
 use Rattle.mql_parse.proofs.TokenEndings.{at_place}
 use Rattle.mql_parse.proofs.QuoteKinds.{SameStep, same_step}

@@ -4,14 +4,13 @@ use Rattle.std.proofs.Common.{sym, ap, ◌∙◌, if◌then◌else◌, Option, S
 use Rattle.std.proofs.lemmas.Bool.{false≢true}
 use Rattle.std.proofs.lemmas.List.{append-nil}
 use Rattle.std.specs.Result.{result_ok}
-use Rattle.mql_ast.specs.Bytes.{is_metric_byte}
-use Rattle.mql_ast.specs.Rests.{Rest, skip}
+use Rattle.mql_ast.specs.Tokens.{is_metric_byte, Rest, skip}
 use Rattle.mql_ast.specs.Tokens as grammar
 use Rattle.mql_ast.specs.Quotes.{Open, Whole, Plain, text_step}
 use Rattle.mql_parse.specs.declared.faults.What.TheVariants as what
 use Rattle.mql_parse.specs.Outcomes.{Outcome}
 use Rattle.mql_parse.specs.TokenReading as reading
-use Rattle.mql_parse.specs.FaultKinds.{open_behind, open_quotes}
+use Rattle.mql_parse.specs.Faults.{open_behind, open_quotes}
 use Rattle.mql_parse.specs.FaultTokens.{IsBare}
 use Rattle.mql_parse.proofs.Links.{text_from_links, pattern_from_links}
 use Rattle.mql_parse.proofs.KindFits.{Fits}

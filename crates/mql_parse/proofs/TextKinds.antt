@@ -8,8 +8,7 @@ use Rattle.mon_value.specs.Answers.{◌>>=◌, GivesView}
 use Rattle.mon_value.specs.declared.refusals.Refusal.{Refusal}
 use Rattle.mon_value.specs.declared.refusals.Refusal.TheVariants as refusal
 use Rattle.mql_ast.specs.declared.pipes.Query.{Query}
-use Rattle.mql_ast.specs.Bytes.{is_blank, is_word_byte, is_sign, is_alphabet}
-use Rattle.mql_ast.specs.Rests.{Rest, head, skip}
+use Rattle.mql_ast.specs.Tokens.{is_blank, is_word_byte, is_sign, is_alphabet, Rest, head, skip}
 use Rattle.mql_ast.specs.Trees.{PipeTree, query_tree}
 use Rattle.mql_ast.specs.Grammar.{start, levels, longest_text}
 use Rattle.mql_parse.specs.declared.faults.ParseFault.{ParseFault}
@@ -17,10 +16,9 @@ use Rattle.mql_parse.specs.declared.faults.ParseKind.TheVariants.{Expected, Numb
 use Rattle.mql_parse.specs.declared.faults.What.TheVariants as what
 use Rattle.mql_parse.specs.Outcomes.{Outcome, fault}
 use Rattle.mql_parse.specs.PipeReading.{pipe, behind_query, query_end_in, query_end, query_within, query, text_outcome}
-use Rattle.mql_parse.specs.FaultPlaces.{FaultOf}
+use Rattle.mql_parse.specs.Faults.{FaultOf, open_quotes, OutsideKind, KindFits, FaultKind}
 use Rattle.mql_parse.specs.FaultDepths.{SpellsWithin, BeginsWithin}
 use Rattle.mql_parse.specs.FaultNumbers.{CouldEndSmaller, NumberKind}
-use Rattle.mql_parse.specs.FaultKinds.{open_quotes, OutsideKind, KindFits, FaultKind}
 use Rattle.mql_parse.proofs.KindFits.{Outside, FaultFits, Fits, fault_before, unexpected_next, fault_fits}
 use Rattle.mql_parse.proofs.PipeKinds.{pipe_fits}
 use Rattle.mql_parse.proofs.PipeComplete.{pipe_read}

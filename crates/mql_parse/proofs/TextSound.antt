@@ -8,7 +8,7 @@ use Rattle.mon_value.specs.Answers.{GivesView}
 use Rattle.mon_value.specs.declared.refusals.Refusal.{Refusal}
 use Rattle.mql_ast.specs.declared.pipes.Query.{Query}
 use Rattle.mql_ast.specs.Trees.{PipeTree, query_tree}
-use Rattle.mql_ast.specs.Rests.{Rest, skip}
+use Rattle.mql_ast.specs.Tokens.{Rest, skip}
 use Rattle.mql_ast.specs.Grammar.{start, levels, longest_text, SpellsAtLength, Spells, Pipe}
 use Rattle.mql_parse.specs.declared.faults.ParseFault.{ParseFault}
 use Rattle.mql_parse.specs.FaultDepths.{SpellsWithin}

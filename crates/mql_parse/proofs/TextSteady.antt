@@ -10,8 +10,7 @@ use Rattle.mon_value.specs.Answers.{◌>>=◌, GivesView}
 use Rattle.mon_value.specs.declared.refusals.Refusal.{Refusal}
 use Rattle.mon_value.specs.declared.refusals.Refusal.TheVariants as refusal
 use Rattle.mql_ast.specs.declared.pipes.Query.{Query}
-use Rattle.mql_ast.specs.Bytes.{is_blank}
-use Rattle.mql_ast.specs.Rests.{Rest, first_of, behind_first, head, behind, skip}
+use Rattle.mql_ast.specs.Tokens.{is_blank, Rest, first_of, behind_first, head, behind, skip}
 use Rattle.mql_ast.specs.Trees.{PipeTree, query_tree}
 use Rattle.mql_ast.specs.Grammar.{start, levels, longest_text, Begins}
 use Rattle.mql_parse.specs.declared.faults.ParseFault.{ParseFault}
@@ -20,7 +19,7 @@ use Rattle.mql_parse.specs.declared.faults.What.TheVariants as what
 use Rattle.mql_parse.specs.Outcomes.{Outcome, fault, unexpected_fault}
 use Rattle.mql_parse.specs.PipeReading.{pipe, behind_query, query_end_in, query_end, query_within, query, text_outcome}
 use Rattle.mql_parse.specs.FaultDepths.{BeginsWithin}
-use Rattle.mql_parse.specs.FaultPlaces.{IsLongestFront, FaultOf, IsAtLongestFront, too_long}
+use Rattle.mql_parse.specs.Faults.{IsLongestFront, FaultOf, IsAtLongestFront, too_long}
 use Rattle.mql_parse.specs.Steadiness.{Shares, next, ReadAlike, AgreesBefore}
 use Rattle.mql_parse.proofs.RestLemmas as rests
 use Rattle.mql_parse.proofs.Steady.{over_common, skip_on, shares_head, shares_skip, shares_unexpected}

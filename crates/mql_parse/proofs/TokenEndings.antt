@@ -5,9 +5,9 @@ use Rattle.std.proofs.Common.{None, Ok, Err}
 use Rattle.std.proofs.lemmas.Bool.{false≢true}
 use Rattle.std.proofs.lemmas.List.{append-nil}
 use Rattle.std.proofs.lemmas.Bool.Decides.{nat_tests}
-use Rattle.mql_ast.specs.Bytes.{is_alphabet, is_blank, is_letter, is_digit, is_word_byte, is_metric_byte}
-use Rattle.mql_ast.specs.Rests.{Rest, first_of, behind_first, behind_blanks, head, behind, skip}
-use Rattle.mql_ast.specs.Tokens.{sign_at, past, keyword_at, word_bytes, behind_word, word_here, name_at}
+use Rattle.mql_ast.specs.Tokens.{is_alphabet, is_blank, is_letter, is_digit, is_word_byte, is_metric_byte, Rest}
+use Rattle.mql_ast.specs.Tokens.{first_of, behind_first, behind_blanks, head, behind, skip, sign_at, past, keyword_at}
+use Rattle.mql_ast.specs.Tokens.{word_bytes, behind_word, word_here, name_at}
 use Rattle.mql_parse.specs.declared.faults.ParseKind.{ParseKind}
 use Rattle.mql_parse.specs.declared.faults.ParseKind.TheVariants.{BadToken, Expected}
 use Rattle.mql_parse.specs.declared.faults.What.{What}

@@ -5,7 +5,7 @@ use Rattle.std.specs.Cmp.Lexicographic.{pointwise}
 use Rattle.std.proofs.lemmas.Bool.{false≢true}
 use Rattle.std.proofs.lemmas.Bool.Decides.{nat_tests}
 use Rattle.mql_ast.specs.declared.pipes.How.TheVariants as how
-use Rattle.mql_ast.specs.Rests.{Rest, is_none_left, skip}
+use Rattle.mql_ast.specs.Tokens.{Rest, is_none_left, skip}
 use Rattle.mql_ast.specs.Grammar.{how_word}
 use Rattle.mql_parse.specs.declared.faults.What.{What}
 use Rattle.mql_parse.specs.declared.faults.What.TheVariants as what

@@ -2,14 +2,14 @@
 use Rattle.std.proofs.Common.{◌≡◌, ℕ, ◌+◌, Bool, true, false, List, [], ◌∷◌, ◌++◌, length, refl, sym, ap, ◌∙◌, subst}
 use Rattle.std.proofs.Common.{arith, if◌then◌else◌, append_assoc, length-append, Some, None, Ok, Err}
 use Rattle.std.proofs.lemmas.List.{append-nil}
-use Rattle.mql_ast.specs.Rests.{Rest}
+use Rattle.mql_ast.specs.Tokens.{Rest}
 use Rattle.mql_ast.specs.Quotes.{Whole}
 use Rattle.mql_parse.specs.declared.faults.ParseFault.{ParseFault}
 use Rattle.mql_parse.specs.declared.faults.ParseKind.{ParseKind}
 use Rattle.mql_parse.specs.declared.faults.What.{What}
 use Rattle.mql_parse.specs.Outcomes.{Outcome, kind_of_fault, fault, unexpected_fault, map_outcome}
 use Rattle.mql_parse.specs.declared.faults.What.TheVariants as what
-use Rattle.mql_parse.specs.FaultKinds.{open_quotes}
+use Rattle.mql_parse.specs.Faults.{open_quotes}
 use Rattle.mql_parse.specs.FaultTokens.{IsBare}
 use Rattle.mql_parse.proofs.Endings.{Cut, Comes, IfTooLarge, if_too_large, IfExpected, if_expected, Ends, behind_read}
 use Rattle.mql_parse.proofs.Endings.{cut_before, cut_as}

@@ -3,15 +3,15 @@ use Rattle.std.proofs.Common.{◌≡◌, ℕ, ◌+◌, ◌-◌, ◌*◌, ◌^◌
 use Rattle.std.proofs.Common.{[], ◌∷◌, codes, refl, sym, ap, subst, if◌then◌else◌, None, Ok, Err}
 use Rattle.std.proofs.lemmas.Bool.{false≢true, eqb-true, and_parts}
 use Rattle.mon_value.specs.Answers.{◌>>=◌}
-use Rattle.mql_ast.specs.Bytes.{is_blank, is_letter, is_digit, is_word_byte, is_metric_byte, is_sign, is_alphabet}
-use Rattle.mql_ast.specs.Rests.{Rest, head, behind, skip}
-use Rattle.mql_ast.specs.Tokens.{behind_word, word_here, metric_name, minus, unit_seconds, longest}
+use Rattle.mql_ast.specs.Tokens.{is_blank, is_letter, is_digit, is_word_byte, is_metric_byte, is_sign, is_alphabet}
+use Rattle.mql_ast.specs.Tokens.{Rest, head, behind, skip, behind_word, word_here, metric_name, minus, unit_seconds}
+use Rattle.mql_ast.specs.Tokens.{longest}
 use Rattle.mql_parse.specs.declared.faults.ParseKind.TheVariants.{NumberTooLarge}
 use Rattle.mql_parse.specs.declared.faults.What.{What}
 use Rattle.mql_parse.specs.declared.faults.What.TheVariants as what
 use Rattle.mql_parse.specs.Outcomes.{fault, unexpected_fault, exact, apart, map_outcome}
 use Rattle.mql_parse.specs.TokenReading as reading
-use Rattle.mql_parse.specs.FaultKinds.{OutsideKind}
+use Rattle.mql_parse.specs.Faults.{OutsideKind}
 use Rattle.mql_parse.proofs.KindFits.{Outside, Fits, PassFits, outside_itself, outside_before, pass_before, bind_fits}
 use Rattle.mql_parse.proofs.KindFits.{map_fits, pass_then, if_fits, if_pass, byte_outside, skip_outside, part_outside}
 use Rattle.mql_parse.proofs.KindFits.{behind_fits, skip_fits, part_fits, unexpected_fits, unexpected_next, fault_fits}

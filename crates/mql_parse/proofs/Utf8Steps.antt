@@ -7,7 +7,7 @@ use Rattle.std.specs.Char.{IsScalar, encode_utf8}
 use Rattle.std.proofs.lemmas.Bool.{le-ltb, lt-ltb}
 use Rattle.std.proofs.lemmas.Bool.Decides.{nat_tests}
 use Rattle.std.proofs.lemmas.Str.{IsUtf8-append, IsUtf8-encode}
-use Rattle.mon_value.specs.Texts.{text_in}
+use Rattle.mon_value.specs.Values.{text_in}
 use Rattle.mon_value.proofs.TextLemmas.{text_in-IsUtf8}
 use Rattle.mql_ast.specs.Quotes.{Open, Whole, Escape, More, begins_long_character, begins_character, further, TextStep}
 use Rattle.mql_ast.specs.Quotes.{TextEnd, TextPass, TextKeep, TextBad, kept_open, text_step, Sign, Plain, Dot}

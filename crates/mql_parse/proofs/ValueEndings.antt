@@ -9,9 +9,8 @@ use Rattle.mon_value.specs.declared.values.FieldValue.{FieldValue}
 use Rattle.mon_value.specs.declared.values.FieldValue.TheVariants as field
 use Rattle.mql_ast.specs.declared.predicates.Comparison.{Comparison}
 use Rattle.mql_ast.specs.declared.predicates.Comparison.TheVariants as comparison
-use Rattle.mql_ast.specs.Bytes.{is_blank, is_digit}
-use Rattle.mql_ast.specs.Rests.{Rest, first_of, head, behind, skip}
-use Rattle.mql_ast.specs.Tokens.{keyword_at, number_at, signed_at, minus}
+use Rattle.mql_ast.specs.Tokens.{is_blank, is_digit, Rest, first_of, head, behind, skip, keyword_at, number_at}
+use Rattle.mql_ast.specs.Tokens.{signed_at, minus}
 use Rattle.mql_ast.specs.Quotes as quotes
 use Rattle.mql_ast.specs.Quotes.{text_at, pattern_at, Whole, Plain}
 use Rattle.mql_ast.specs.Grammar.{comparison_at, and_equal, or_equal, literal_at}

@@ -2,12 +2,10 @@
 use Rattle.std.proofs.Common.{◌≡◌, ℕ, ◌+◌, ◌-◌, ◌*◌, ◌^◌, Bool, true, false, ◌==◌, ◌&&◌, not, nat_le, List, [], ◌∷◌}
 use Rattle.std.proofs.Common.{◌++◌, codes, refl, if◌then◌else◌, Option, Some, None, option_and_then, IfSome, subst}
 use Rattle.std.proofs.Common.{pos}
-use Rattle.mon_value.specs.Texts.{text_in}
-use Rattle.mql_ast.specs.Bytes.{is_digit, is_metric_byte}
-use Rattle.mql_ast.specs.Rests.{Rest, head, behind, skip}
-use Rattle.mql_ast.specs.Tokens.{sign_at, keyword_at, with_byte, metric_from, metric_behind, metric_at, digits_from}
-use Rattle.mql_ast.specs.Tokens.{positive_at, number_at, signed_at, minus, unit_seconds, longest, with_unit}
-use Rattle.mql_ast.specs.Tokens.{duration_at}
+use Rattle.mon_value.specs.Values.{text_in}
+use Rattle.mql_ast.specs.Tokens.{is_digit, is_metric_byte, Rest, head, behind, skip, sign_at, keyword_at, with_byte}
+use Rattle.mql_ast.specs.Tokens.{metric_from, metric_behind, metric_at, digits_from, positive_at, number_at, signed_at}
+use Rattle.mql_ast.specs.Tokens.{minus, unit_seconds, longest, with_unit, duration_at}
 use Rattle.mql_ast.specs.Quotes.{Open, Whole, TextStep, TextEnd, TextPass, TextKeep, TextBad, text_step}
 use Rattle.mql_ast.specs.Quotes.{after_text_step, text_from, text_at, Sign, Plain, PatternStep, PatternEnd, PatternCut}
 use Rattle.mql_ast.specs.Quotes.{PatternPass, PatternKeep, PatternUnfit, PatternBad, pattern_step, with_piece}

@@ -1,9 +1,8 @@
 -- Words and digits, one byte more.
 use Rattle.std.proofs.Common.{◌≡◌, ℕ, ◌+◌, ◌<◌, true, false, List, [], ◌∷◌, length, refl, ap, if◌then◌else◌}
 use Rattle.std.proofs.lemmas.Bool.{false≢true}
-use Rattle.mql_ast.specs.Bytes.{is_word_byte, is_digit}
-use Rattle.mql_ast.specs.Rests.{Rest, first_of, behind_first, head, behind}
-use Rattle.mql_ast.specs.Tokens.{word_bytes, behind_word}
+use Rattle.mql_ast.specs.Tokens.{is_word_byte, is_digit, Rest, first_of, behind_first, head, behind, word_bytes}
+use Rattle.mql_ast.specs.Tokens.{behind_word}
 use Rattle.mql_parse.proofs.RestLemmas.{tested_shorter}
 
 pub word_shorter : (s : Rest) → is_word_byte (head s) ≡ true → length (behind s).bytes < length s.bytes

@@ -1,6 +1,6 @@
 -- What is left later on is a part of what is left now.
 use Rattle.std.specs.Prelude.{◌≡◌, ℕ, ◌+◌, ◌<◌, List, ◌++◌, length}
-use Rattle.mql_ast.specs.Rests.{Rest}
+use Rattle.mql_ast.specs.Tokens.{Rest}
 
 -- the second is what is left of the first once these bytes are read
 pub record From (s r : Rest) : Type 0 where

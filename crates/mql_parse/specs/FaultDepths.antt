@@ -1,7 +1,7 @@
 -- When a text is too deep: where a byte would be allowed but for the number of levels.
 use Rattle.std.specs.Prelude.{◌≡◌, ℕ, ◌+◌, ◌<◌, List, [], ◌++◌, length, take}
 use Rattle.mql_ast.specs.Trees.{PipeTree}
-use Rattle.mql_ast.specs.Rests.{Rest, skip}
+use Rattle.mql_ast.specs.Tokens.{Rest, skip}
 use Rattle.mql_ast.specs.Grammar.{start, levels, Pipe}
 use Rattle.mql_parse.specs.declared.faults.ParseFault.{ParseFault}
 use Rattle.mql_parse.specs.declared.faults.ParseKind.TheVariants.{TooDeep}

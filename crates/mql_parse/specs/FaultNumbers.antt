@@ -1,6 +1,6 @@
 -- When a number is too large: where its next byte could stand behind a smaller number.
 use Rattle.std.specs.Prelude.{◌≡◌, ℕ, ◌+◌, true, ◌==◌, ◌&&◌, not, List, [], ◌∷◌, ◌++◌, length}
-use Rattle.mql_ast.specs.Bytes.{is_digit}
+use Rattle.mql_ast.specs.Tokens.{is_digit}
 use Rattle.mql_ast.specs.Grammar.{Begins}
 use Rattle.mql_parse.specs.declared.faults.ParseFault.{ParseFault}
 use Rattle.mql_parse.specs.declared.faults.ParseKind.TheVariants.{NumberTooLarge}

@@ -2,9 +2,7 @@
 use Rattle.std.specs.Prelude.{◌≡◌, ◌⊎◌, ℕ, true, false, List, [], ◌∷◌, ◌++◌, codes, take, Option, Some, None}
 use Rattle.mql_ast.specs.declared.operations.FoldWord.TheVariants as fold
 use Rattle.mql_ast.specs.declared.pipes.How.TheVariants as how
-use Rattle.mql_ast.specs.Bytes.{is_blank}
-use Rattle.mql_ast.specs.Rests.{Rest, first_of}
-use Rattle.mql_ast.specs.Tokens.{metric_at, number_at, duration_at}
+use Rattle.mql_ast.specs.Tokens.{is_blank, Rest, first_of, metric_at, number_at, duration_at}
 use Rattle.mql_ast.specs.Quotes.{text_at, pattern_at}
 use Rattle.mql_ast.specs.Grammar.{start, comparison_at, fold_named, how_word, Begins}
 use Rattle.mql_parse.specs.declared.faults.ParseFault.{ParseFault}
@@ -12,7 +10,7 @@ use Rattle.mql_parse.specs.declared.faults.ParseKind.TheVariants.{Expected}
 use Rattle.mql_parse.specs.declared.faults.What.{What}
 use Rattle.mql_parse.specs.declared.faults.What.TheVariants as what
 use Rattle.mql_parse.specs.WordOrder.{is_keyword}
-use Rattle.mql_parse.specs.FaultKinds.{open_quotes}
+use Rattle.mql_parse.specs.Faults.{open_quotes}
 
 -- what is read so, with no blank in front, and nothing else
 abbrev pub IsReadWhole : {A : Type 0} → (Rest → Option (A × Rest)) → List ℕ → Type 0

@@ -1,3 +1,4 @@
+pub mod Faults
 pub mod Outcomes
 pub mod Repeats
 pub mod TokenReading
@@ -9,8 +10,6 @@ pub mod Steps
 pub mod Behind
 pub mod Soundness
 pub mod Steadiness
-pub mod FaultPlaces
-pub mod FaultKinds
 pub mod FaultDepths
 pub mod FaultNumbers
 pub mod WordOrder
@@ -19,4 +18,3 @@ pub mod FaultFirsts
 pub mod Views
 pub mod TurnViews
 pub mod PredicateViews
-pub mod FaultTexts

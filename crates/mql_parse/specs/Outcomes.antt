@@ -2,8 +2,7 @@
 use Rattle.std.specs.Prelude.{ℕ, ◌==◌, List, [], ◌∷◌, ◌++◌, Result, Ok, Err, if◌then◌else◌}
 use Rattle.mon_value.specs.Answers.{GivesView, ◌>>=◌}
 use Rattle.mon_value.specs.declared.refusals.Refusal.{Refusal}
-use Rattle.mql_ast.specs.Bytes.{is_alphabet, is_word_byte}
-use Rattle.mql_ast.specs.Rests.{Rest, head, behind, skip}
+use Rattle.mql_ast.specs.Tokens.{is_alphabet, is_word_byte, Rest, head, behind, skip}
 use Rattle.mql_parse.specs.declared.cursor.Cursor.{Cursor}
 use Rattle.mql_parse.specs.declared.faults.ParseFault.{ParseFault}
 use Rattle.mql_parse.specs.declared.faults.ParseKind.{ParseKind}

@@ -8,9 +8,7 @@ use Rattle.mql_ast.specs.declared.predicates.Comparison.{Comparison}
 use Rattle.mql_ast.specs.declared.predicates.Comparison.TheVariants as comparison
 use Rattle.mql_ast.specs.declared.predicates.Pattern.{Pattern}
 use Rattle.mql_ast.specs.Trees.{PredicateTree, Compare, Like, Not, And, Or}
-use Rattle.mql_ast.specs.Bytes.{is_letter, is_digit}
-use Rattle.mql_ast.specs.Rests.{Rest, head, behind, skip}
-use Rattle.mql_ast.specs.Tokens.{word_here}
+use Rattle.mql_ast.specs.Tokens.{is_letter, is_digit, Rest, head, behind, skip, word_here}
 use Rattle.mql_ast.specs.Grammar.{literal}
 use Rattle.mql_parse.specs.declared.faults.ParseKind.TheVariants.{TooDeep}
 use Rattle.mql_parse.specs.declared.faults.What.{What}

@@ -1,5 +1,5 @@
 -- What holds of a turn.
-use Rattle.mql_ast.specs.Rests.{Rest}
+use Rattle.mql_ast.specs.Tokens.{Rest}
 use Rattle.mql_parse.specs.Repeats.{Turn, Done, Again, Stuck}
 
 -- where it ends this holds, and where it goes on this

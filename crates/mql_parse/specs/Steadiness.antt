@@ -1,7 +1,7 @@
 -- How far reading looks: what is read before a place is the same in two texts that are the same before that place.
 use Rattle.std.specs.Prelude.{◌≡◌, ℕ, ◌+◌, ◌<◌, ◌≤◌, Bool, List, ◌++◌, length, Result, Ok, Err}
 use Rattle.mon_value.specs.Answers.{◌>>=◌}
-use Rattle.mql_ast.specs.Rests.{Rest, skip}
+use Rattle.mql_ast.specs.Tokens.{Rest, skip}
 use Rattle.mql_parse.specs.declared.faults.ParseFault.{ParseFault}
 use Rattle.mql_parse.specs.Outcomes.{Outcome}
 use Rattle.mql_parse.specs.Repeats.{Turn, Done, Again, Stuck}

@@ -2,7 +2,7 @@
 use Rattle.std.specs.Prelude.{ℕ, List, Option, Some, None, Result, Ok, Err}
 use Rattle.mon_value.specs.Answers.{Gives}
 use Rattle.mon_value.specs.declared.refusals.Refusal.{Refusal}
-use Rattle.mql_ast.specs.Rests.{Rest}
+use Rattle.mql_ast.specs.Tokens.{Rest}
 use Rattle.mql_ast.specs.Quotes as quotes
 use Rattle.mql_parse.specs.declared.quotes.Open.{Open}
 use Rattle.mql_parse.specs.declared.quotes.Open.TheVariants.{Character, Escape, Bytes}

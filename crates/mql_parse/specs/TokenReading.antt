@@ -2,11 +2,10 @@
 use Rattle.std.specs.Prelude.{ℕ, ℤ, pos, ◌+◌, ◌-◌, ◌*◌, ◌^◌, Bool, true, false, ◌==◌, ◌&&◌, not, nat_le, List, [], ◌∷◌}
 use Rattle.std.specs.Prelude.{◌++◌, codes, Option, Some, None, Ok, Err, if◌then◌else◌}
 use Rattle.mon_value.specs.Answers.{◌>>=◌}
-use Rattle.mon_value.specs.Texts.{text_in}
+use Rattle.mon_value.specs.Values.{text_in}
 use Rattle.mql_ast.specs.declared.names.Name.{Name}
-use Rattle.mql_ast.specs.Bytes.{is_letter, is_digit, is_metric_byte}
-use Rattle.mql_ast.specs.Rests.{Rest, head, behind, skip}
-use Rattle.mql_ast.specs.Tokens.{word_here, minus, unit_seconds, longest}
+use Rattle.mql_ast.specs.Tokens.{is_letter, is_digit, is_metric_byte, Rest, head, behind, skip, word_here, minus}
+use Rattle.mql_ast.specs.Tokens.{unit_seconds, longest}
 use Rattle.mql_ast.specs.Quotes.{Open, Whole, TextStep, TextEnd, TextPass, TextKeep, TextBad, text_step, Sign, Plain}
 use Rattle.mql_ast.specs.Quotes.{PatternStep, PatternEnd, PatternCut, PatternPass, PatternKeep, PatternUnfit}
 use Rattle.mql_ast.specs.Quotes.{PatternBad, pattern_step}

@@ -1,6 +1,6 @@
 // The bytes of which query texts are made.
 ghost use Rattle.std.specs.Prelude.{◌≡◌};
-ghost use Rattle.mql_ast.specs.Bytes as bytes;
+ghost use Rattle.mql_ast.specs.Tokens as bytes;
 
 /// A space, a tab, LF or CR.
 pub fn is_blank(byte: u8) -> bool

@@ -18,7 +18,7 @@ pub type Read<'a, T> = Result<(T, Cursor<'a>), Refusal<ParseFault>>;
 
 impl<'a> Cursor<'a> {
     ghost use Rattle.std.specs.Prelude.{◌≡◌};
-    ghost use Rattle.mql_ast.specs.Rests as rests;
+    ghost use Rattle.mql_ast.specs.Tokens as rests;
     ghost use Rattle.mql_parse.specs.Outcomes as outcomes;
     ghost use Rattle.mql_parse.specs.Outcomes.{rest_of, Leaves};
 

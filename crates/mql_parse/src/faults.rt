@@ -61,7 +61,7 @@ pub enum What {
 
 impl fmt::Display for ParseFault {
     ghost use Rattle.std.specs.Prelude.{Some};
-    ghost use Rattle.mql_parse.specs.FaultTexts.{parse_fault_text};
+    ghost use Rattle.mql_parse.specs.Faults.{parse_fault_text};
 
     ghost output = { λ fault. Some (parse_fault_text fault) };
 
@@ -72,7 +72,7 @@ impl fmt::Display for ParseFault {
 
 impl fmt::Display for ParseKind {
     ghost use Rattle.std.specs.Prelude.{Some};
-    ghost use Rattle.mql_parse.specs.FaultTexts.{parse_kind_text};
+    ghost use Rattle.mql_parse.specs.Faults.{parse_kind_text};
 
     ghost output = { λ kind. Some (parse_kind_text kind) };
 
@@ -90,7 +90,7 @@ impl fmt::Display for ParseKind {
 
 impl fmt::Display for What {
     ghost use Rattle.std.specs.Prelude.{Some};
-    ghost use Rattle.mql_parse.specs.FaultTexts.{what_text};
+    ghost use Rattle.mql_parse.specs.Faults.{what_text};
 
     ghost output = { λ what. Some (what_text what) };
 

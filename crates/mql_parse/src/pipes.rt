@@ -1,6 +1,6 @@
 // Pipes and their sources.
 ghost use Rattle.std.specs.Prelude.{◌≡◌};
-ghost use Rattle.mql_ast.specs.Rests.{behind};
+ghost use Rattle.mql_ast.specs.Tokens.{behind};
 ghost use Rattle.mql_ast.specs.Trees.{Branches, branches, deed_tree, pipe_tree, source_tree};
 ghost use Rattle.mql_parse.specs.Outcomes.{rest_of, Reads, itself};
 ghost use Rattle.mql_parse.specs.Repeats.{repetition};

@@ -1,6 +1,6 @@
 // Predicates.
 ghost use Rattle.std.specs.Prelude.{◌≡◌, IfOk};
-ghost use Rattle.mql_ast.specs.Rests.{behind};
+ghost use Rattle.mql_ast.specs.Tokens.{behind};
 ghost use Rattle.mql_ast.specs.Trees as PredicateTree;
 ghost use Rattle.mql_ast.specs.Trees.{predicate_tree};
 ghost use Rattle.mql_parse.specs.Outcomes.{rest_of, Reads};

@@ -1,8 +1,8 @@
 // Texts in quotes.
 ghost use Rattle.std.specs.Prelude.{◌≡◌};
-ghost use Rattle.mon_value.specs.Texts.{text_in};
+ghost use Rattle.mon_value.specs.Values.{text_in};
 ghost use Rattle.mql_ast.specs.Quotes as quotes;
-ghost use Rattle.mql_ast.specs.Rests.{behind};
+ghost use Rattle.mql_ast.specs.Tokens.{behind};
 ghost use Rattle.mql_parse.specs.Outcomes.{rest_of, Reads, itself};
 ghost use Rattle.mql_parse.specs.TokenReading as reading;
 ghost use Rattle.mql_parse.specs.Steps.{open_seen, open_maybe, text_step_seen};

@@ -1,7 +1,6 @@
 // Sums.
 ghost use Rattle.std.specs.Prelude.{◌≡◌, IfOk};
-ghost use Rattle.mql_ast.specs.Rests.{behind};
-ghost use Rattle.mql_ast.specs.Tokens.{word_here};
+ghost use Rattle.mql_ast.specs.Tokens.{behind, word_here};
 ghost use Rattle.mql_parse.specs.Outcomes.{rest_of, Reads};
 ghost use Rattle.mql_parse.specs.Repeats.{repetition};
 ghost use Rattle.mql_ast.specs.Trees as SumTree;

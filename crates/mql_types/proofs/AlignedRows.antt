@@ -8,14 +8,13 @@ use Rattle.std.specs.Ordering.{int_eq}
 use Rattle.std.proofs.Math.Nat.{mul-le-mul_right, pow-le-pow_right, suc-mul}
 use Rattle.std.proofs.lemmas.List.{append_assoc, map-append}
 use Rattle.std.proofs.lemmas.List.Sums.{sum_by-cons}
-use Rattle.mon_value.specs.Alignments.{CanAddUnder, CanAlign, SumFits, aligned_values, seconds_of, values_of}
-use Rattle.mon_value.specs.Columns.{FitColumns, HasType}
-use Rattle.mon_value.specs.Grids.{IsDuration, IsLawfulGrid, grid_times}
+use Rattle.mon_value.specs.Grids.{CanAddUnder, CanAlign, SumFits, aligned_values, seconds_of, values_of, IsDuration}
+use Rattle.mon_value.specs.Grids.{IsLawfulGrid, grid_times, window_of}
+use Rattle.mon_value.specs.Tables.{FitColumns, HasType}
 use Rattle.mon_value.specs.Same.{same_series}
-use Rattle.mon_value.specs.SeriesRows.{cells_of, row_of}
-use Rattle.mon_value.specs.Sources.{key_of_row, points_by_series, points_of, rows_of, series_of}
+use Rattle.mon_value.specs.Order.{cells_of, row_of}
+use Rattle.mon_value.specs.LeafHistories.{key_of_row, points_by_series, points_of, rows_of, series_of}
 use Rattle.mon_value.specs.Values.{magnitude}
-use Rattle.mon_value.specs.Windows.{window_of}
 use Rattle.mon_value.specs.declared.aligners.Aligner.{Aligner}
 use Rattle.mon_value.specs.declared.aligners.Aligner.TheVariants as aligner
 use Rattle.mon_value.specs.declared.columns.Anchor.{Anchor}
@@ -35,14 +34,13 @@ use Rattle.mon_value.specs.declared.values.FieldType.TheVariants as field_type
 use Rattle.mon_value.specs.declared.values.Value.{Value}
 use Rattle.mon_value.specs.declared.values.ValueType.{ValueType}
 use Rattle.mon_value.proofs.SameLemmas.{same_series-Decides}
-use Rattle.mql_ast.specs.SumWidths.{FitWidths, HasBound}
+use Rattle.mql_ast.specs.Rows.{FitWidths, HasBound}
 use Rattle.mql_types.specs.Fetches.{columns_fetched, field_value_type, key_column, target_columns, value_column}
-use Rattle.mql_types.specs.Loads.{is_reached, series_cells}
-use Rattle.mql_types.specs.Meaning.{aligned_rows}
-use Rattle.mon_schema.specs.HeldMetrics.{HasNumbers}
+use Rattle.mql_types.specs.Meaning.{is_reached, series_cells, aligned_rows}
+use Rattle.mon_schema.specs.Fits.{HasNumbers}
 use Rattle.mql_types.specs.Soundness.{FitTable}
 use Rattle.mql_types.specs.Typing.{aligned_column, aligned_width}
-use Rattle.mql_types.specs.Widths.{with_width}
+use Rattle.mql_types.specs.Branches.{with_width}
 use Rattle.mql_types.proofs.AlignedValues.{PointFits, Takes, aligned_fit, grid_reach, can_add_all, most_of, reached}
 use Rattle.mql_types.proofs.AlignedValues.{series_within, sum_of_values, valued, weight, window_weight}
 use Rattle.mql_types.proofs.FetchedPoints.{IsRowOf, IsSeriesOf, series_columns, series_small, series_typed}

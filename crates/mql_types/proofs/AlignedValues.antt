@@ -10,14 +10,12 @@ use Rattle.std.proofs.Math.Nat.{suc-mul}
 use Rattle.std.proofs.lemmas.Bool.Decides.{Decides-int_eq}
 use Rattle.std.proofs.lemmas.Int.{ints}
 use Rattle.std.proofs.lemmas.List.Sums.{sum_by-append, sum_by-cons}
-use Rattle.mon_value.specs.Aggregates.{sum_of, where_any}
-use Rattle.mon_value.specs.Alignments.{CanAdd, CanAddAll, aligned_values, newest_point, seconds_of, timed_values}
-use Rattle.mon_value.specs.Alignments.{value_at, value_made, values_of}
-use Rattle.mon_value.specs.Columns.{HasType}
-use Rattle.mon_value.specs.Grids.{IsLawfulGrid, grid_times, least_time, time_count, times_back}
-use Rattle.mon_value.specs.Groups.{merge_in, numbers_in, sum_in, total_of}
+use Rattle.mon_value.specs.Groups.{sum_of, where_any, merge_in, numbers_in, sum_in, total_of}
+use Rattle.mon_value.specs.Grids.{CanAdd, CanAddAll, aligned_values, newest_point, seconds_of, timed_values, value_at}
+use Rattle.mon_value.specs.Grids.{value_made, values_of, IsLawfulGrid, grid_times, least_time, time_count, times_back}
+use Rattle.mon_value.specs.Grids.{ends_within, window_of}
+use Rattle.mon_value.specs.Tables.{HasType}
 use Rattle.mon_value.specs.Values.{magnitude}
-use Rattle.mon_value.specs.Windows.{ends_within, window_of}
 use Rattle.mon_value.specs.declared.aligners.Aligner.{Aligner}
 use Rattle.mon_value.specs.declared.aligners.Aligner.TheVariants as aligner
 use Rattle.mon_value.specs.declared.grids.Grid.{Grid}

@@ -6,12 +6,10 @@ use Rattle.mon_value.specs.Grids.{IsDuration}
 use Rattle.mql_ast.specs.Grammar.{Deed, filter, align_delta, align_next_older, group_by, value, top, every, within}
 use Rattle.mql_ast.specs.Grammar.{Ops, no_ops, more_ops, Pipe, flow, Source, fetch, join, PipeList, two_pipes}
 use Rattle.mql_ast.specs.Grammar.{more_pipes, Spells}
-use Rattle.mql_ast.specs.Rests.{Rest, skip}
-use Rattle.mql_ast.specs.Tokens.{duration_at}
+use Rattle.mql_ast.specs.Tokens.{Rest, skip, duration_at}
 use Rattle.mql_ast.specs.Trees.{DeedTree, OpTree, PipeTree, SourceTree, branches}
 use Rattle.mql_ast.proofs.NumbersPrinted as printed
-use Rattle.mql_types.specs.Durations.{HasDuration, HasDurations}
-use Rattle.mql_types.specs.Times.{branch_ops, pipe_ops, source_ops}
+use Rattle.mql_types.specs.Times.{HasDuration, HasDurations, branch_ops, pipe_ops, source_ops}
 
 pub all_append : {A : Type 0} (P : A → Type 0) (xs ys : List A) → AllByRecursion P xs → AllByRecursion P ys
     → AllByRecursion P (xs ++ ys)

@@ -1,7 +1,7 @@
 -- The fetches of a typed query, with the filters on them, have the columns of their schemas.
 use Rattle.std.proofs.Common.{◌≡◌, ℕ, ℤ, false, List, [], ◌∷◌, ◌++◌, Option, Some, None, Ok, refl, subst}
 use Rattle.std.specs.List.{AllByRecursion}
-use Rattle.mon_schema.specs.SchemaLists.{SchemaLists}
+use Rattle.mon_schema.specs.Names.{SchemaLists}
 use Rattle.mon_value.specs.declared.schemas.Kind.{Kind}
 use Rattle.mon_value.specs.declared.aligners.Aligner.{Aligner}
 use Rattle.mql_ast.specs.Trees as tree

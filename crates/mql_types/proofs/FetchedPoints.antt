@@ -5,10 +5,9 @@ use Rattle.std.specs.Prelude.{slice_get}
 use Rattle.std.specs.List.{AllByRecursion}
 use Rattle.std.specs.Option.{option_map_or}
 use Rattle.std.proofs.lemmas.List.{append_assoc}
-use Rattle.mon_value.specs.Columns.{FitColumns, HasType}
-use Rattle.mon_value.specs.Order.{field_as_value}
+use Rattle.mon_value.specs.Tables.{FitColumns, HasType}
+use Rattle.mon_value.specs.Order.{field_as_value, cells_of}
 use Rattle.mon_value.specs.Same.{same_text}
-use Rattle.mon_value.specs.SeriesRows.{cells_of}
 use Rattle.mon_value.specs.Values.{magnitude}
 use Rattle.mon_value.specs.declared.columns.Column.{Column}
 use Rattle.mon_value.specs.declared.rows.Row.{Row}
@@ -26,15 +25,13 @@ use Rattle.mon_value.specs.declared.values.ValueType.{ValueType}
 use Rattle.mon_value.specs.declared.values.ValueType.TheVariants as type
 use Rattle.mon_value.proofs.SameLemmas.{both, same_text-Decides}
 use Rattle.mon_schema.specs.Fits.{field_fits, fields_fit, fits, fits_both, row_fits, times_fit, value_fits}
-use Rattle.mon_schema.specs.SchemaLists.{SchemaLists, metric_named, target_named}
-use Rattle.mql_ast.specs.NamedCells.{cell_named, column_named, place_of}
-use Rattle.mql_ast.specs.SumWidths.{FitWidths}
+use Rattle.mon_schema.specs.Names.{SchemaLists, metric_named, target_named}
+use Rattle.mql_ast.specs.Rows.{cell_named, column_named, place_of, FitWidths, is_compared, is_like, is_passed}
+use Rattle.mql_ast.specs.Rows.{predicate_truth}
 use Rattle.mql_ast.specs.Trees as tree
 use Rattle.mql_ast.specs.Trees.{PredicateTree}
-use Rattle.mql_ast.specs.Truths.{is_compared, is_like, is_passed, predicate_truth}
 use Rattle.mql_types.specs.Fetches.{columns_fetched, field_value_type, key_column, target_columns, value_column}
-use Rattle.mql_types.specs.Loads.{is_key_name, lets_in, names_keys, series_cells}
-use Rattle.mql_types.specs.Meaning.{is_fetched, is_point_kept}
+use Rattle.mql_types.specs.Meaning.{is_key_name, lets_in, names_keys, series_cells, is_fetched, is_point_kept}
 use Rattle.mql_types.proofs.JoinedRows.{FitColumns-append, FitWidths-append}
 use Rattle.mql_types.proofs.KnownSums.{cell_of}
 use Rattle.mql_types.proofs.MadeCells.{Side, back, front, get_front, nothing_is, same_item, side_of}

@@ -9,10 +9,9 @@ use Rattle.mon_value.specs.declared.schemas.MetricSchema.{MetricSchema}
 use Rattle.mon_value.specs.declared.schemas.TargetSchema.{TargetSchema}
 use Rattle.mon_value.proofs.SameLemmas.{both, join}
 use Rattle.mon_schema.specs.Fits.{fits}
-use Rattle.mon_schema.specs.SchemaLists.{SchemaLists, metric_named, target_named}
+use Rattle.mon_schema.specs.Names.{SchemaLists, metric_named, target_named}
 use Rattle.mql_types.specs.Fetches.{columns_fetched}
-use Rattle.mql_types.specs.Loads.{is_reached, lets_in, meets, points_reached}
-use Rattle.mql_types.specs.Meaning.{is_fetched, is_point_kept, points_meant}
+use Rattle.mql_types.specs.Meaning.{is_reached, lets_in, meets, points_reached, is_fetched, is_point_kept, points_meant}
 use Rattle.mql_types.specs.Nodes as node
 use Rattle.mql_types.specs.Nodes.{NodeTree, columns_of}
 use Rattle.mql_types.proofs.FetchedPoints.{IsRowOf, fetched_row, kept_let_in}

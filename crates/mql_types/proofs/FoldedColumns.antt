@@ -9,9 +9,8 @@ use Rattle.std.proofs.lemmas.Bool.{lt-ltb, not-false}
 use Rattle.std.proofs.lemmas.Bool.Decides.{Decides-int_eq}
 use Rattle.std.proofs.lemmas.List.Sums.{sum_by-cons}
 use Rattle.std.proofs.lemmas.Option.{slice_get_within}
-use Rattle.mon_value.specs.Columns.{HasType}
-use Rattle.mon_value.specs.GroupConditions.{TakesColumn, TakesType, rows_at}
-use Rattle.mon_value.specs.Groups.{aggregate_made, column_of}
+use Rattle.mon_value.specs.Tables.{HasType}
+use Rattle.mon_value.specs.Groups.{TakesColumn, TakesType, rows_at, aggregate_made, column_of}
 use Rattle.mon_value.specs.Values.{magnitude}
 use Rattle.mon_value.specs.declared.aggregates.Aggregate.{Aggregate}
 use Rattle.mon_value.specs.declared.aggregates.AggregateKind.{AggregateKind}
@@ -21,17 +20,17 @@ use Rattle.mon_value.specs.declared.tables.TimedRow.{TimedRow}
 use Rattle.mon_value.specs.declared.values.Value.{Value}
 use Rattle.mon_value.specs.declared.values.ValueType.{ValueType}
 use Rattle.mon_value.specs.declared.values.ValueType.TheVariants as type
-use Rattle.mql_ast.specs.NamedCells.{column_named, place_of}
+use Rattle.mql_ast.specs.Rows.{column_named, place_of}
 use Rattle.mql_ast.specs.declared.names.Name.{Name}
 use Rattle.mql_ast.specs.declared.operations.FoldWord.{FoldWord}
 use Rattle.mql_ast.specs.declared.operations.FoldWord.TheVariants as fold
-use Rattle.mql_types.specs.Filters.{column_faults}
+use Rattle.mql_types.specs.Fetches.{column_faults}
 use Rattle.mql_types.specs.Groupings.{aggregate_at, aggregate_column, aggregate_over, fold_kind, fold_takes}
 use Rattle.mql_types.specs.Groupings.{fold_width, folded_column, folded_faults, place_found, wanted_word}
 use Rattle.mql_types.specs.Groupings as grouping
 use Rattle.mql_types.specs.Items.{plain_column}
 use Rattle.mql_types.specs.Soundness.{CountsRows, TotalsFit}
-use Rattle.mql_types.specs.Widths.{count_width, width_of}
+use Rattle.mql_types.specs.Branches.{count_width, width_of}
 use Rattle.mql_types.proofs.FoldedValues.{Folded, folded_more, greatest_folded, least_folded, mean_folded}
 use Rattle.mql_types.proofs.FoldedValues.{merge_folded, sum_folded}
 use Rattle.mql_types.proofs.JoinedRows.{all-map, column_of_all}

@@ -7,9 +7,9 @@ use Rattle.std.specs.List.{AllByRecursion, sum_by}
 use Rattle.std.proofs.Math.Nat.{div-le_of_le-mul, div-le_self, div-lt_iff_lt-mul, suc-mul, mul_comm}
 use Rattle.std.proofs.lemmas.Int.{clamps, ints}
 use Rattle.std.proofs.lemmas.List.Sums.{sum_by-cons}
-use Rattle.mon_value.specs.Aggregates.{counts_of, greatest_of, item_count, least_of, mean_of, sum_of}
-use Rattle.mon_value.specs.Columns.{HasType}
-use Rattle.mon_value.specs.Groups.{distributions_in, merge_in, number_in, numbers_in, sum_in}
+use Rattle.mon_value.specs.Groups.{counts_of, greatest_of, item_count, least_of, mean_of, sum_of, distributions_in}
+use Rattle.mon_value.specs.Groups.{merge_in, number_in, numbers_in, sum_in}
+use Rattle.mon_value.specs.Tables.{HasType}
 use Rattle.mon_value.specs.Values.{magnitude}
 use Rattle.mon_value.specs.declared.values.Value.{Value}
 use Rattle.mon_value.specs.declared.values.Value.TheVariants as value

@@ -4,7 +4,7 @@ use Rattle.std.proofs.Common.{ap, sym, arith}
 use Rattle.std.specs.List.{AllByRecursion, filter, sum_by}
 use Rattle.std.proofs.lemmas.Bool.{false_from_ne_true}
 use Rattle.std.proofs.lemmas.List.Sums.{sum_by-cons}
-use Rattle.mon_value.specs.Keyed.{items_by_key, items_with, keys_of}
+use Rattle.mon_value.specs.Same.{items_by_key, items_with, keys_of}
 
 module _ {K A : Type 0} (same : K → K → Bool) (decides : (a b : K) → Decides (same a b) (a ≡ b)) (key_of : A → K)
   where

@@ -8,9 +8,9 @@ use Rattle.std.proofs.Math.Nat.{pow-le-pow_right}
 use Rattle.std.proofs.lemmas.Bool.{ltb-true}
 use Rattle.std.proofs.lemmas.Bool.Decides.{Decides-int_eq}
 use Rattle.std.proofs.lemmas.List.Sums.{sum_by-cons}
-use Rattle.mon_value.specs.Columns.{FitColumns}
-use Rattle.mon_value.specs.GroupConditions.{CanGroup, SumsFit, TakesColumn, UnlessCount, rows_at}
-use Rattle.mon_value.specs.Groups.{aggregate_made, group_key, group_keys, group_row, group_rows, rows_by_group, rows_in}
+use Rattle.mon_value.specs.Tables.{FitColumns}
+use Rattle.mon_value.specs.Groups.{CanGroup, SumsFit, TakesColumn, UnlessCount, rows_at, aggregate_made, group_key}
+use Rattle.mon_value.specs.Groups.{group_keys, group_row, group_rows, rows_by_group, rows_in}
 use Rattle.mon_value.specs.Same.{same_row}
 use Rattle.mon_value.specs.declared.aggregates.Aggregate as folds
 use Rattle.mon_value.specs.declared.aggregates.AggregateKind.{AggregateKind}
@@ -19,7 +19,7 @@ use Rattle.mon_value.specs.declared.columns.Column.{Column}
 use Rattle.mon_value.specs.declared.tables.TimedRow.{TimedRow}
 use Rattle.mon_value.specs.declared.values.Value.{Value}
 use Rattle.mon_value.proofs.SameLemmas.{same_row-Decides}
-use Rattle.mql_ast.specs.SumWidths.{FitWidths}
+use Rattle.mql_ast.specs.Rows.{FitWidths}
 use Rattle.mql_ast.specs.declared.names.Name.{Name}
 use Rattle.mql_ast.specs.declared.operations.Aggregate.{Aggregate}
 use Rattle.mql_types.specs.Groupings.{aggregate_columns, aggregate_faults, aggregate_name, aggregate_of}

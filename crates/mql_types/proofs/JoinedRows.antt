@@ -6,17 +6,16 @@ use Rattle.std.specs.List.{AllByRecursion, filter, flat_map, sum_by}
 use Rattle.std.specs.Option.{option_map_or}
 use Rattle.std.proofs.lemmas.Nat.{pow-add}
 use Rattle.std.proofs.Math.Nat.{mul-le-mul_right, pow-le-pow_right}
-use Rattle.mon_value.specs.Columns.{FitColumns, HasType}
-use Rattle.mon_value.specs.GroupConditions.{rows_at}
-use Rattle.mon_value.specs.Joins.{has_name, is_pair, pair_of, pairs_of, right_cells, right_columns}
+use Rattle.mon_value.specs.Tables.{FitColumns, HasType, has_name, is_pair, pair_of, pairs_of, right_cells}
+use Rattle.mon_value.specs.Tables.{right_columns}
+use Rattle.mon_value.specs.Groups.{rows_at}
 use Rattle.mon_value.specs.Values.{magnitude}
 use Rattle.mon_value.specs.declared.columns.Column.{Column}
 use Rattle.mon_value.specs.declared.tables.TimedRow.{TimedRow}
 use Rattle.mon_value.specs.declared.values.Value.{Value}
 use Rattle.mon_value.specs.declared.values.ValueType.{ValueType}
-use Rattle.mon_schema.specs.SchemaLists.{SchemaLists}
-use Rattle.mql_ast.specs.NamedCells.{column_named}
-use Rattle.mql_ast.specs.SumWidths.{FitWidths}
+use Rattle.mon_schema.specs.Names.{SchemaLists}
+use Rattle.mql_ast.specs.Rows.{column_named, FitWidths}
 use Rattle.mql_types.specs.Branches.{anchored_with, as_joined, common_column, join_columns, left_column}
 use Rattle.mql_types.specs.Soundness.{FitTable, TotalsFit}
 use Rattle.mql_types.proofs.KeptRows.{all-append, all-filter}

@@ -5,10 +5,9 @@ use Rattle.std.specs.List.{AllByRecursion, filter, flat_map, sum_by}
 use Rattle.std.specs.Ordering.{is_gt}
 use Rattle.std.proofs.lemmas.List.Sums.{sum_by-append, sum_by-cons, sum_by-le-sum_by, sum_by-take-le}
 use Rattle.std.proofs.lemmas.List.Sorted.{sum_by-IsPermutation}
-use Rattle.mon_value.specs.Groups.{group_key, group_keys, rows_by_group, rows_in}
+use Rattle.mon_value.specs.Groups.{group_key, group_keys, rows_by_group, rows_in, rank_cmp, top_rows}
 use Rattle.mon_value.specs.Same.{same_row}
-use Rattle.mon_value.specs.Sorting.{sorted_list, sorted_list_with}
-use Rattle.mon_value.specs.Tops.{rank_cmp, top_rows}
+use Rattle.mon_value.specs.Order.{sorted_list, sorted_list_with}
 use Rattle.mon_value.specs.declared.columns.Column.{Column}
 use Rattle.mon_value.specs.declared.tables.TimedRow.{TimedRow}
 use Rattle.mon_value.proofs.SameLemmas.{same_row-Decides}

@@ -4,25 +4,23 @@ use Rattle.std.proofs.Common.{◌≡◌, ◌∙◌, ℕ, ℤ, zero, suc, ◌+ℤ
 use Rattle.std.proofs.Common.{Some, None, List, [], ◌∷◌, subst, refl, ap, sym}
 use Rattle.std.specs.Prelude.{option_and_then, option_map, slice_get, sum}
 use Rattle.std.specs.Option.{option_map_or}
-use Rattle.mon_value.specs.Columns.{FitColumns, HasType}
-use Rattle.mon_value.specs.Distributions.{percentile_of}
-use Rattle.mon_value.specs.Groups.{counts_in}
+use Rattle.mon_value.specs.Tables.{FitColumns, HasType}
+use Rattle.mon_value.specs.Groups.{percentile_of, counts_in}
 use Rattle.mon_value.specs.declared.columns.Column.{Column}
 use Rattle.mon_value.specs.declared.values.Value.{Value}
 use Rattle.mon_value.specs.declared.values.Value.TheVariants as value
 use Rattle.mon_value.specs.declared.values.ValueType.{ValueType}
 use Rattle.mon_value.specs.declared.values.ValueType.TheVariants as type
-use Rattle.mql_ast.specs.NamedCells.{column_named, place_of}
-use Rattle.mql_ast.specs.Sums.{bucket_bounds, is_without_values, meets_no_values, percentile_in, put_together}
-use Rattle.mql_ast.specs.Sums.{sum_value}
+use Rattle.mql_ast.specs.Rows.{column_named, place_of, bucket_bounds, is_without_values, meets_no_values, percentile_in}
+use Rattle.mql_ast.specs.Rows.{put_together, sum_value}
 use Rattle.mql_ast.specs.Trees as tree
 use Rattle.mql_ast.specs.Trees.{SumTree}
 use Rattle.mql_types.specs.declared.faults.TypeWord.TheVariants as word
 use Rattle.mql_types.specs.declared.widths.Width.{Width}
-use Rattle.mql_types.specs.Filters.{column_faults}
+use Rattle.mql_types.specs.Fetches.{column_faults}
 use Rattle.mql_types.specs.Items.{is_number_type, operand_faults, percentile_faults, percentile_faults_of, sum_width}
 use Rattle.mql_types.specs.Items.{width_of_type, width_together}
-use Rattle.mql_types.specs.Widths.{added_width, point_width, width_of}
+use Rattle.mql_types.specs.Branches.{added_width, point_width, width_of}
 use Rattle.mql_types.proofs.SumBounds.{bounds_in, no_faults, none_where}
 
 -- ---- columns and their cells

@@ -3,7 +3,7 @@ use Rattle.std.proofs.Common.{◌≡◌, ◌∙◌, Bool, true, false, not, List
 use Rattle.std.proofs.Common.{append_assoc, if◌then◌else◌}
 use Rattle.std.specs.Prelude.{option_to_list}
 use Rattle.std.specs.List.{filter_map}
-use Rattle.mon_value.specs.Joins.{has_name, right_columns}
+use Rattle.mon_value.specs.Tables.{has_name, right_columns}
 use Rattle.mon_value.specs.declared.columns.Column.{Column}
 use Rattle.mql_types.specs.Branches.{as_joined}
 

@@ -4,12 +4,11 @@ use Rattle.std.proofs.Common.{[], ◌∷◌, ◌++◌, map, length, refl, ap, sy
 use Rattle.std.specs.Prelude.{slice_get}
 use Rattle.std.specs.List.{AllByRecursion, cons_option, filter, filter_map, sum_by, zip}
 use Rattle.std.proofs.lemmas.List.Sums.{sum_by-cons}
-use Rattle.mon_value.specs.Columns.{FitColumns, HasType}
-use Rattle.mon_value.specs.Joins.{Named}
+use Rattle.mon_value.specs.Tables.{FitColumns, HasType, Named}
 use Rattle.mon_value.specs.Values.{magnitude}
 use Rattle.mon_value.specs.declared.columns.Column.{Column}
 use Rattle.mon_value.specs.declared.values.Value.{Value}
-use Rattle.mql_ast.specs.SumWidths.{FitWidths}
+use Rattle.mql_ast.specs.Rows.{FitWidths}
 
 -- ---- what there is
 

@@ -10,7 +10,7 @@ use Rattle.std.specs.List.{position_or_len}
 use Rattle.std.specs.Option.{option_copied, option_or}
 use Rattle.indexmap.specs.IndexMap.{get, get_by, UpdatesBy}
 use Rattle.mon_value.proofs.SameLemmas.{same_text-Decides}
-use Rattle.mon_value.specs.Joins.{has_name}
+use Rattle.mon_value.specs.Tables.{has_name}
 use Rattle.mon_value.specs.Same.{same_text}
 use Rattle.mon_value.specs.declared.columns.Column.{Column}
 use Rattle.mql_types.specs.Groupings.{place_found}

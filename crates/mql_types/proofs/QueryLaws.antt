@@ -4,9 +4,8 @@ use Rattle.std.specs.List.{AllByRecursion}
 use Rattle.std.proofs.lemmas.Int.{ints}
 use Rattle.mon_value.specs.declared.columns.Column.{Column}
 use Rattle.mon_value.specs.declared.rows.Row.{Row}
-use Rattle.mon_schema.specs.Fits.{fits}
-use Rattle.mon_schema.specs.HeldMetrics.{AreMetricsHeld}
-use Rattle.mon_schema.specs.SchemaLists.{SchemaLists}
+use Rattle.mon_schema.specs.Fits.{fits, AreMetricsHeld}
+use Rattle.mon_schema.specs.Names.{SchemaLists}
 use Rattle.mql_ast.specs.Grammar.{Spells}
 use Rattle.mql_ast.specs.Trees.{PipeTree}
 use Rattle.mql_types.specs.Meaning.{grid_of}

@@ -6,19 +6,18 @@ use Rattle.std.proofs.lemmas.List.{length-map, length-take}
 use Rattle.std.proofs.lemmas.List.Sorted.{length_permutation}
 use Rattle.std.proofs.lemmas.List.Filters.{length-filter_both}
 use Rattle.std.proofs.lemmas.List.Sums.{sum_by-cons, sum_by-le-sum_by}
-use Rattle.mon_value.specs.Groups.{group_key, group_keys, group_row, group_rows, rows_by_group, rows_in}
+use Rattle.mon_value.specs.Groups.{group_key, group_keys, group_row, group_rows, rows_by_group, rows_in, rank_cmp}
+use Rattle.mon_value.specs.Groups.{top_rows}
 use Rattle.mon_value.specs.Same.{same_row}
-use Rattle.mon_value.specs.Sorting.{sorted_list}
-use Rattle.mon_value.specs.Tops.{rank_cmp, top_rows}
+use Rattle.mon_value.specs.Order.{sorted_list}
 use Rattle.mon_value.specs.declared.aggregates.Aggregate.{Aggregate}
 use Rattle.mon_value.specs.declared.grids.Grid.{Grid}
 use Rattle.mon_value.specs.declared.rows.Row.{Row}
 use Rattle.mon_value.specs.declared.tables.TimedRow.{TimedRow}
 use Rattle.mon_value.proofs.SortingLemmas.{sorted_list-permutation}
 use Rattle.mon_value.proofs.SameLemmas.{same_row-Decides}
-use Rattle.mql_ast.specs.Truths.{predicate_truth}
-use Rattle.mql_types.specs.Loads.{load_of}
-use Rattle.mql_types.specs.Meaning.{rows_meant, value_row}
+use Rattle.mql_ast.specs.Rows.{predicate_truth}
+use Rattle.mql_types.specs.Meaning.{load_of, rows_meant, value_row}
 use Rattle.mql_types.specs.Nodes as node
 use Rattle.mql_types.specs.Nodes.{NodeTree, columns_of}
 use Rattle.mql_types.proofs.GroupSums.{group_sums_within}

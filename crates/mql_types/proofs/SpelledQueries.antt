@@ -8,8 +8,8 @@ use Rattle.mon_value.proofs.SameLemmas.{join}
 use Rattle.mql_ast.specs.Grammar as grammar
 use Rattle.mql_ast.specs.Grammar.{Deed, Folded, Folding, FoldingList, ItemList, ItemOf, Ops, Pipe, PipeList, Source}
 use Rattle.mql_ast.specs.Grammar.{Spells, Sum, Term}
-use Rattle.mql_ast.specs.Rests.{Rest, skip}
-use Rattle.mql_ast.specs.SumWidths.{HasShares}
+use Rattle.mql_ast.specs.Tokens.{Rest, skip}
+use Rattle.mql_ast.specs.Rows.{HasShares}
 use Rattle.mql_ast.specs.Trees.{DeedTree, ItemTree, OpTree, PipeTree, SourceTree, SumTree, branches}
 use Rattle.mql_ast.specs.declared.names.Name.{Name}
 use Rattle.mql_ast.specs.declared.operations.Aggregate.{Aggregate}

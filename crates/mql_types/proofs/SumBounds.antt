@@ -5,8 +5,7 @@ use Rattle.std.proofs.Common.{sym, arith, unsigned_abs, ltb-false}
 use Rattle.std.specs.Prelude.{option_and_then, option_map, slice_get, slice_index_or, sum}
 use Rattle.std.specs.List.{AllByRecursion}
 use Rattle.std.specs.Option.{option_map_or}
-use Rattle.mon_value.specs.Distributions.{percentile_of, upper_bound}
-use Rattle.mon_value.specs.Groups.{counts_in}
+use Rattle.mon_value.specs.Groups.{percentile_of, upper_bound, counts_in}
 use Rattle.mon_value.specs.Values.{magnitude}
 use Rattle.mon_value.specs.declared.columns.Column.{Column}
 use Rattle.mon_value.specs.declared.values.Value.{Value}
@@ -14,18 +13,16 @@ use Rattle.mon_value.specs.declared.values.Value.TheVariants as value
 use Rattle.mon_value.specs.declared.values.ValueType.{ValueType}
 use Rattle.mon_value.specs.declared.values.ValueType.TheVariants as type
 use Rattle.mon_value.proofs.SameLemmas.{both}
-use Rattle.mon_schema.specs.Fits.{is_number}
-use Rattle.mql_ast.specs.NamedCells.{cell_named, column_named, place_of}
-use Rattle.mql_ast.specs.SumWidths.{FitWidths, HasBound}
-use Rattle.mql_ast.specs.Sums.{bucket_bounds, percentile_in, put_together, sum_value}
+use Rattle.mon_schema.specs.Fits.{is_number, HasNumbers}
+use Rattle.mql_ast.specs.Rows.{cell_named, column_named, place_of, FitWidths, HasBound, bucket_bounds, percentile_in}
+use Rattle.mql_ast.specs.Rows.{put_together, sum_value}
 use Rattle.mql_ast.specs.Trees as tree
 use Rattle.mql_ast.specs.Trees.{SumTree}
 use Rattle.mql_types.specs.declared.faults.TypeFault.{TypeFault}
 use Rattle.mql_types.specs.declared.widths.Width.{Width}
 use Rattle.mql_types.specs.Items.{operand_faults, optional_width_faults, sum_width, width_of_type, width_together}
-use Rattle.mon_schema.specs.HeldMetrics.{HasNumbers}
 use Rattle.mql_types.specs.Soundness.{HasLiterals}
-use Rattle.mql_types.specs.Widths.{added_width, point_width, width_faults, width_of}
+use Rattle.mql_types.specs.Branches.{added_width, point_width, width_faults, width_of}
 use Rattle.mql_types.proofs.Totals.{cell_within}
 use Rattle.mql_types.proofs.JoinedRows.{column_of_all}
 use Rattle.mql_types.proofs.UnitedRows.{both_sums}

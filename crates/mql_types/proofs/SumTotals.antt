@@ -6,17 +6,16 @@ use Rattle.std.specs.List.{sum_by}
 use Rattle.std.specs.Ordering.{int_eq}
 use Rattle.std.proofs.Math.Nat.{suc-mul}
 use Rattle.std.proofs.lemmas.List.Sums.{sum_by-cons}
-use Rattle.mon_value.specs.GroupConditions.{rows_at}
+use Rattle.mon_value.specs.Groups.{rows_at}
 use Rattle.mon_value.specs.declared.columns.Column.{Column}
 use Rattle.mon_value.specs.declared.tables.TimedRow.{TimedRow}
-use Rattle.mql_ast.specs.NamedCells.{cell_named, column_named, place_of}
-use Rattle.mql_ast.specs.Sums.{sum_value}
+use Rattle.mql_ast.specs.Rows.{cell_named, column_named, place_of, sum_value}
 use Rattle.mql_ast.specs.Trees as tree
 use Rattle.mql_ast.specs.Trees.{SumTree}
 use Rattle.mql_types.specs.declared.widths.Width.{Width}
 use Rattle.mql_types.specs.Items.{operand_faults, optional_width_faults, sum_width, width_of_type, width_together}
 use Rattle.mql_types.specs.Soundness.{HasLiterals, TotalsFit}
-use Rattle.mql_types.specs.Widths.{added_width, point_width, width_of}
+use Rattle.mql_types.specs.Branches.{added_width, point_width, width_of}
 use Rattle.mql_types.proofs.JoinedRows.{column_of_all, row_wide}
 use Rattle.mql_types.proofs.SumBounds.{AreLawful, IsLawful, IsSound, added_by, amount, both_by, column_by, lawful_sum}
 use Rattle.mql_types.proofs.SumBounds.{no_faults, not_wide, number_within, numbers_at, percentile_column, taken_by}

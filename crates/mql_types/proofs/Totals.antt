@@ -8,13 +8,12 @@ use Rattle.std.specs.Prelude.{slice_get}
 use Rattle.std.proofs.Math.Nat.{suc-mul}
 use Rattle.std.proofs.lemmas.List.Sums.{sum_by-cons}
 use Rattle.std.proofs.lemmas.List.Filters.{sum_by-filter_both}
-use Rattle.mon_value.specs.GroupConditions.{rows_at}
-use Rattle.mon_value.specs.Groups.{column_of}
+use Rattle.mon_value.specs.Groups.{rows_at, column_of}
 use Rattle.mon_value.specs.Values.{magnitude}
 use Rattle.mon_value.specs.declared.columns.Column.{Column}
 use Rattle.mon_value.specs.declared.tables.TimedRow.{TimedRow}
 use Rattle.mon_value.specs.declared.values.Value.{Value}
-use Rattle.mql_ast.specs.SumWidths.{FitWidths}
+use Rattle.mql_ast.specs.Rows.{FitWidths}
 use Rattle.mql_types.specs.Soundness.{TotalsFit}
 use Rattle.mql_types.proofs.MadeCells.{nothing_is, same_item}
 

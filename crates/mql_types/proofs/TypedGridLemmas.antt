@@ -5,17 +5,15 @@ use Rattle.std.proofs.Common.{subst, arith}
 use Rattle.std.proofs.Math.Nat.{div-lt_iff_lt-mul, mul_comm}
 use Rattle.std.proofs.lemmas.Int.{ints}
 use Rattle.std.specs.Option.{IfSome, option_or}
-use Rattle.mon_schema.specs.SchemaLists.{SchemaLists}
-use Rattle.mon_value.specs.Alignments.{seconds_of}
-use Rattle.mon_value.specs.Grids.{IsDuration, IsLawfulGrid, most_times}
+use Rattle.mon_schema.specs.Names.{SchemaLists}
+use Rattle.mon_value.specs.Grids.{seconds_of, IsDuration, IsLawfulGrid, most_times}
 use Rattle.mql_ast.specs.Trees as tree
 use Rattle.mql_ast.specs.Trees.{DeedTree, OpTree, PipeTree}
-use Rattle.mql_types.specs.Durations.{HasDuration, HasDurations}
+use Rattle.mql_types.specs.Times.{HasDuration, HasDurations, are_too_many, every_said, longer_duration, nothing_said}
+use Rattle.mql_types.specs.Times.{pipe_ops, pipe_order_faults, query_times, said_by, said_of, times_faults, within_said}
 use Rattle.mql_types.specs.Faults.{fault_where}
 use Rattle.mql_types.specs.Meaning.{grid_of}
 use Rattle.mql_types.specs.Nodes.{TypedTree}
-use Rattle.mql_types.specs.Times.{are_too_many, every_said, longer_duration, nothing_said, pipe_ops, pipe_order_faults}
-use Rattle.mql_types.specs.Times.{query_times, said_by, said_of, times_faults, within_said}
 use Rattle.mql_types.specs.Typing.{pipe_faults, query_faults, typing}
 use Rattle.mql_types.specs.declared.faults.TypeFault.{TypeFault}
 use Rattle.mql_types.specs.declared.faults.TypeKind.{TypeKind}

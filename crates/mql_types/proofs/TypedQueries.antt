@@ -4,8 +4,7 @@ use Rattle.std.proofs.Common.{◌≡◌, ◌∙◌, ℕ, ℤ, Bool, true, false,
 use Rattle.std.proofs.Common.{◌++◌, map, subst, refl, ap, sym}
 use Rattle.std.specs.Prelude.{is_none}
 use Rattle.std.specs.List.{AllByRecursion, flat_map}
-use Rattle.mon_value.specs.Alignments.{seconds_of}
-use Rattle.mon_value.specs.Grids.{IsDuration}
+use Rattle.mon_value.specs.Grids.{seconds_of, IsDuration}
 use Rattle.mon_value.specs.Same.{same_text}
 use Rattle.mon_value.specs.declared.aligners.Aligner.{Aligner}
 use Rattle.mon_value.specs.declared.aligners.Aligner.TheVariants as aligner
@@ -15,35 +14,33 @@ use Rattle.mon_value.specs.declared.schemas.Kind.TheVariants as kind
 use Rattle.mon_value.specs.declared.schemas.MetricSchema.{MetricSchema}
 use Rattle.mon_value.specs.declared.schemas.TargetSchema.{TargetSchema}
 use Rattle.mon_schema.specs.Faults.{is_kind_met}
-use Rattle.mon_schema.specs.SchemaLists.{SchemaLists, metric_named, target_named}
+use Rattle.mon_schema.specs.Names.{SchemaLists, metric_named, target_named}
 use Rattle.mql_ast.specs.Trees as tree
 use Rattle.mql_ast.specs.Trees.{BranchTrees, DeedTree, ItemTree, OpTree, PipeTree, PredicateTree, SourceTree}
-use Rattle.mql_ast.specs.SumWidths.{HasShares}
+use Rattle.mql_ast.specs.Rows.{HasShares}
 use Rattle.mql_ast.specs.declared.names.Name.{Name}
 use Rattle.mql_ast.specs.declared.operations.Aggregate.{Aggregate}
 use Rattle.mql_ast.specs.declared.pipes.How.{How}
 use Rattle.mql_ast.specs.declared.pipes.How.TheVariants as how
 use Rattle.mql_types.specs.declared.faults.TypeKind.TheVariants.{BranchColumns, UnknownMetric, UnknownSchema}
 use Rattle.mql_types.specs.declared.nodes.NodeInfo.{NodeInfo}
-use Rattle.mql_types.specs.Branches.{join_columns, pair_faults, same_columns, union_columns}
-use Rattle.mql_types.specs.Durations.{HasDuration, HasDurations}
+use Rattle.mql_types.specs.Branches.{join_columns, pair_faults, same_columns, union_columns, wide_faults, width_faults}
+use Rattle.mql_types.specs.Branches.{width_of}
+use Rattle.mql_types.specs.Times.{HasDuration, HasDurations, branch_ops, every_said, pipe_ops, pipe_order_faults}
+use Rattle.mql_types.specs.Times.{query_times, source_ops, times_faults}
 use Rattle.mql_types.specs.Faults.{fault_where}
-use Rattle.mql_types.specs.Fetches.{fetch_columns, fetch_faults, kind_of}
+use Rattle.mql_types.specs.Fetches.{fetch_columns, fetch_faults, kind_of, unknown_faults}
 use Rattle.mql_types.specs.Groupings.{aggregate_faults, aggregate_name, group_faults}
-use Rattle.mql_types.specs.Filters.{unknown_faults}
 use Rattle.mql_types.specs.Items.{item_sum_faults, reserved_names, taken_faults, value_faults}
 use Rattle.mql_types.specs.Nodes as node
 use Rattle.mql_types.specs.Nodes.{NodeTree, TypedTree, columns_of}
-use Rattle.mon_schema.specs.HeldMetrics.{IsHeld}
+use Rattle.mon_schema.specs.Fits.{IsHeld}
 use Rattle.mql_types.specs.Soundness.{AreBranchesSpelled, AreOpsSpelled, HasLiterals, IsDeedSpelled, IsPipeSpelled}
 use Rattle.mql_types.specs.Soundness.{IsSourceSpelled}
-use Rattle.mql_types.specs.Times.{branch_ops, every_said, pipe_ops, pipe_order_faults, query_times, source_ops}
-use Rattle.mql_types.specs.Times.{times_faults}
 use Rattle.mql_types.specs.Typing.{Part, align_faults, align_node, aligned_by_default, aligned_tree, branch_faults}
 use Rattle.mql_types.specs.Typing.{branch_node, branches_faults, branches_node, deed_faults, deed_part}
 use Rattle.mql_types.specs.Typing.{default_aligner, fetch_part, further_faults, further_node, ops_faults, ops_part}
 use Rattle.mql_types.specs.Typing.{pipe_faults, pipe_part, source_faults, source_part, typing}
-use Rattle.mql_types.specs.Widths.{wide_faults, width_faults, width_of}
 use Rattle.mql_types.proofs.AlignedValues.{Takes}
 use Rattle.mql_types.proofs.FetchedTrees.{ArePoints, columns_fetched_are}
 use Rattle.mql_types.proofs.JoinedRows.{IsNarrow, all-front, all-map}

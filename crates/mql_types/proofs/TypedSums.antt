@@ -8,9 +8,8 @@ use Rattle.mon_value.specs.declared.columns.Column.{Column}
 use Rattle.mon_value.specs.declared.limits.TheConstants.{NUMBER_BITS}
 use Rattle.mon_value.specs.declared.values.ValueType.{ValueType}
 use Rattle.mon_value.specs.declared.values.ValueType.TheVariants as type
-use Rattle.mql_ast.specs.NamedCells.{column_named}
-use Rattle.mql_ast.specs.SumWidths as asked
-use Rattle.mql_ast.specs.SumWidths.{HasShares, IsTypedSum, percentile_width}
+use Rattle.mql_ast.specs.Rows.{column_named, HasShares, IsTypedSum, percentile_width}
+use Rattle.mql_ast.specs.Rows as asked
 use Rattle.mql_ast.specs.Trees as tree
 use Rattle.mql_ast.specs.Trees.{ItemTree, SumTree}
 use Rattle.mql_ast.specs.declared.names.Name.{Name}
@@ -20,7 +19,7 @@ use Rattle.mql_types.specs.Faults.{fault_where}
 use Rattle.mql_types.specs.Items.{item_sum_faults, operand_faults, optional_width_faults, percentile_faults}
 use Rattle.mql_types.specs.Items.{percentile_faults_of, sum_width, width_of_type, width_together}
 use Rattle.mql_types.specs.Soundness.{HasLiterals}
-use Rattle.mql_types.specs.Widths.{added_width, point_width, width_of}
+use Rattle.mql_types.specs.Branches.{added_width, point_width, width_of}
 use Rattle.mql_types.proofs.KnownSums.{width_known}
 use Rattle.mql_types.proofs.SumBounds.{AreLawful, IsLawful, both_by, no_faults, none_where, not_wide, sum_within}
 use Rattle.mql_types.proofs.ValueRows.{no_cells}

@@ -4,12 +4,9 @@ use Rattle.std.proofs.Common.{subst, ap, sym, arith}
 use Rattle.std.specs.Prelude.{option_map, unwrap_or}
 use Rattle.std.specs.List.{AllByRecursion, flat_map}
 use Rattle.std.proofs.lemmas.Bool.{leb-true}
-use Rattle.mon_value.specs.Alignments.{seconds_of}
-use Rattle.mon_value.specs.Columns.{FitColumns, IsWhole}
-use Rattle.mon_value.specs.GroupConditions.{CanGroup, rows_at}
-use Rattle.mon_value.specs.Grids.{IsDuration, IsLawfulGrid}
-use Rattle.mon_value.specs.Groups.{group_rows}
-use Rattle.mon_value.specs.Joins.{right_columns}
+use Rattle.mon_value.specs.Grids.{seconds_of, IsDuration, IsLawfulGrid}
+use Rattle.mon_value.specs.Tables.{FitColumns, IsWhole, right_columns}
+use Rattle.mon_value.specs.Groups.{CanGroup, rows_at, group_rows}
 use Rattle.mon_value.specs.declared.aggregates.Aggregate as folds
 use Rattle.mon_value.specs.declared.aligners.Aligner.{Aligner}
 use Rattle.mon_value.specs.declared.columns.Column.{Column}
@@ -22,11 +19,9 @@ use Rattle.mon_value.specs.declared.values.ValueType.{ValueType}
 use Rattle.mon_value.specs.declared.values.ValueType.TheVariants as type
 use Rattle.mon_value.proofs.SameLemmas.{both}
 use Rattle.mon_schema.specs.Faults.{is_bounded}
-use Rattle.mon_schema.specs.SchemaLists.{SchemaLists}
-use Rattle.mql_ast.specs.NamedCells.{column_named}
-use Rattle.mql_ast.specs.SumWidths.{CanCompute, FitWidths, HasBound, HasShares}
+use Rattle.mon_schema.specs.Names.{SchemaLists}
+use Rattle.mql_ast.specs.Rows.{column_named, CanCompute, FitWidths, HasBound, HasShares, predicate_truth}
 use Rattle.mql_ast.specs.Trees.{ItemTree}
-use Rattle.mql_ast.specs.Truths.{predicate_truth}
 use Rattle.mql_ast.specs.declared.names.Name.{Name}
 use Rattle.mql_ast.specs.declared.operations.Aggregate.{Aggregate}
 use Rattle.mql_types.specs.declared.nodes.NodeInfo.{NodeInfo}
@@ -35,11 +30,10 @@ use Rattle.mql_types.specs.Branches.{united_column}
 use Rattle.mql_types.specs.Fetches.{columns_fetched}
 use Rattle.mql_types.specs.Groupings.{aggregate_faults, aggregates_over, grouped_columns, listed_places}
 use Rattle.mql_types.specs.Items.{item_sum_faults, reserved_names, value_columns}
-use Rattle.mql_types.specs.Loads.{load_of, points_reached}
-use Rattle.mql_types.specs.Meaning.{aligned_rows, points_meant, rows_meant}
+use Rattle.mql_types.specs.Meaning.{load_of, points_reached, aligned_rows, points_meant, rows_meant}
 use Rattle.mql_types.specs.Nodes as node
 use Rattle.mql_types.specs.Nodes.{NodeTree, columns_of}
-use Rattle.mon_schema.specs.HeldMetrics.{IsHeld}
+use Rattle.mon_schema.specs.Fits.{IsHeld}
 use Rattle.mql_types.specs.Soundness.{CountsRows, FitTable, HasLiterals, IsEvaluable, TotalsFit}
 use Rattle.mql_types.specs.Typing.{aligned_column}
 use Rattle.mql_types.proofs.AlignedRows.{FitTable-align, aligned_lawful, can_align}

@@ -8,7 +8,7 @@ use Rattle.std.specs.Ordering.{int_eq}
 use Rattle.std.proofs.lemmas.Nat.{pow-add}
 use Rattle.std.proofs.lemmas.List.Sums.{sum_by-append}
 use Rattle.std.proofs.Math.Nat.{eq-or-lt_of_le, min-le_left, pow-le-pow_right}
-use Rattle.mon_value.specs.Columns.{FitColumns, HasType}
+use Rattle.mon_value.specs.Tables.{FitColumns, HasType}
 use Rattle.mon_value.specs.Same.{same_text, same_truth}
 use Rattle.mon_value.specs.Values.{magnitude}
 use Rattle.mon_value.specs.declared.columns.Column.{Column}
@@ -18,8 +18,8 @@ use Rattle.mon_value.specs.declared.values.Value.TheVariants as value
 use Rattle.mon_value.specs.declared.values.ValueType.{ValueType}
 use Rattle.mon_value.specs.declared.values.ValueType.TheVariants as type
 use Rattle.mon_value.proofs.SameLemmas.{both}
-use Rattle.mon_schema.specs.SchemaLists.{SchemaLists}
-use Rattle.mql_ast.specs.SumWidths.{FitWidths}
+use Rattle.mon_schema.specs.Names.{SchemaLists}
+use Rattle.mql_ast.specs.Rows.{FitWidths}
 use Rattle.mql_types.specs.Branches.{same_column, same_columns, same_type, union_columns, united_column}
 use Rattle.mql_types.specs.Soundness.{FitTable}
 use Rattle.mql_types.proofs.KeptRows.{all-append}

@@ -6,17 +6,15 @@ use Rattle.std.specs.Prelude.{option_map, slice_get, is_none}
 use Rattle.std.specs.List.{AllByRecursion, filter_map, flat_map, list_any, sum_by}
 use Rattle.std.specs.Option.{option_map_or}
 use Rattle.std.specs.Ordering.{int_eq}
-use Rattle.mon_value.specs.Columns.{FitColumns, HasType}
-use Rattle.mon_value.specs.GroupConditions.{rows_at}
+use Rattle.mon_value.specs.Tables.{FitColumns, HasType}
+use Rattle.mon_value.specs.Groups.{rows_at}
 use Rattle.mon_value.specs.Values.{magnitude}
 use Rattle.mon_value.specs.declared.columns.Column.{Column}
 use Rattle.mon_value.specs.declared.tables.TimedRow.{TimedRow}
 use Rattle.mon_value.specs.declared.values.Value.{Value}
 use Rattle.mon_value.specs.declared.values.Value.TheVariants as value
 use Rattle.mon_value.specs.declared.values.ValueType.TheVariants as type
-use Rattle.mql_ast.specs.NamedCells.{column_named, place_of}
-use Rattle.mql_ast.specs.SumWidths.{FitWidths}
-use Rattle.mql_ast.specs.Sums.{meets_no_values, sum_value}
+use Rattle.mql_ast.specs.Rows.{column_named, place_of, FitWidths, meets_no_values, sum_value}
 use Rattle.mql_ast.specs.Trees as tree
 use Rattle.mql_ast.specs.Trees.{ItemTree, SumTree}
 use Rattle.mql_ast.specs.declared.names.Name.{Name}

@@ -3,7 +3,7 @@ use Rattle.std.specs.Prelude.{ℕ, ◌+◌, List, sum_by}
 use Rattle.std.specs.List.{flat_map}
 use Rattle.mql_types.specs.declared.explanations.OpLevel.{OpLevel}
 use Rattle.mql_types.specs.declared.explanations.Below.{Below}
-use Rattle.mql_types.specs.Explanations.{lines_below}
+use Rattle.mql_types.specs.Plans.{lines_below}
 use Rattle.mql_types.specs.Nodes as node
 use Rattle.mql_types.specs.Nodes.{NodeTree, node_tree}
 

@@ -9,7 +9,7 @@ use Rattle.mon_value.specs.declared.aggregates.AggregateKind.TheVariants as kind
 use Rattle.mon_value.specs.declared.columns.Column.{Column}
 use Rattle.mon_value.specs.declared.values.ValueType.{ValueType}
 use Rattle.mon_value.specs.declared.values.ValueType.TheVariants as type
-use Rattle.mql_ast.specs.NamedCells.{column_named}
+use Rattle.mql_ast.specs.Rows.{column_named}
 use Rattle.mql_ast.specs.declared.names.Name.{Name}
 use Rattle.mql_ast.specs.declared.operations.Aggregate.{Aggregate}
 use Rattle.mql_ast.specs.declared.operations.FoldWord.{FoldWord}
@@ -17,10 +17,10 @@ use Rattle.mql_ast.specs.declared.operations.FoldWord.TheVariants as fold
 use Rattle.mql_types.specs.declared.faults.TypeFault.{TypeFault}
 use Rattle.mql_types.specs.declared.faults.TypeWord.{TypeWord}
 use Rattle.mql_types.specs.declared.faults.TypeWord.TheVariants as word
-use Rattle.mql_types.specs.Filters.{condition_faults, unknown_faults}
+use Rattle.mql_types.specs.Fetches.{condition_faults, unknown_faults}
 use Rattle.mql_types.specs.Items.{is_number_type, is_taken, plain_column, reserved_names, taken_faults, with_name}
 use Rattle.mql_types.specs.declared.widths.Width.{Width}
-use Rattle.mql_types.specs.Widths.{count_width, summed_width, width_of}
+use Rattle.mql_types.specs.Branches.{count_width, summed_width, width_of}
 
 -- where the column of a name stands
 abbrev pub place_found : List ℕ → List Column → Option ℕ

@@ -7,7 +7,7 @@ use Rattle.mon_value.specs.Same.{same_text}
 use Rattle.mon_value.specs.declared.columns.Column.{Column}
 use Rattle.mon_value.specs.declared.values.ValueType.{ValueType}
 use Rattle.mon_value.specs.declared.values.ValueType.TheVariants as type
-use Rattle.mql_ast.specs.NamedCells.{column_named}
+use Rattle.mql_ast.specs.Rows.{column_named}
 use Rattle.mql_ast.specs.Trees as tree
 use Rattle.mql_ast.specs.Trees.{ItemTree, SumTree}
 use Rattle.mql_ast.specs.declared.names.Name.{Name}
@@ -15,11 +15,11 @@ use Rattle.mql_types.specs.declared.faults.TypeFault.{TypeFault}
 use Rattle.mql_types.specs.declared.faults.TypeKind.TheVariants.{DuplicateColumn, Mismatch, TooWide, UnknownColumn}
 use Rattle.mql_types.specs.declared.faults.TypeWord.TheVariants as word
 use Rattle.mql_types.specs.Faults.{fault_at, fault_where}
-use Rattle.mon_value.specs.Columns.{column_names}
-use Rattle.mql_types.specs.Filters.{condition_faults, unknown_faults}
+use Rattle.mon_value.specs.Tables.{column_names}
+use Rattle.mql_types.specs.Fetches.{condition_faults, unknown_faults}
 use Rattle.mql_types.specs.declared.sums.Operand.{Operand}
 use Rattle.mql_types.specs.declared.widths.Width.{Width}
-use Rattle.mql_types.specs.Widths.{added_width, more_bits, point_width, width_faults, width_of}
+use Rattle.mql_types.specs.Branches.{added_width, more_bits, point_width, width_faults, width_of}
 
 abbrev pub is_number_type : ValueType → Bool
 is_number_type type.Int = true

@@ -4,8 +4,7 @@ use Rattle.std.specs.Prelude.{ℕ, ℤ, ◌+◌, Bool, true, false, List, length
 use Rattle.mon_value.specs.declared.grids.Grid.{Grid}
 use Rattle.mon_value.specs.declared.rows.Row.{Row}
 use Rattle.mql_types.specs.Levels.{is_leaf, is_root}
-use Rattle.mql_types.specs.Loads.{points_reached}
-use Rattle.mql_types.specs.Meaning.{grid_of, rows_meant}
+use Rattle.mql_types.specs.Meaning.{points_reached, grid_of, rows_meant}
 use Rattle.mql_types.specs.Nodes as node
 use Rattle.mql_types.specs.Nodes.{NodeTree, TypedTree}
 use Rattle.mql_types.specs.declared.levels.Level.{Level}

@@ -3,12 +3,10 @@
 use Rattle.std.specs.Prelude.{◌≡◌, ◌≤◌, ◌≤ℤ◌, ℕ, ℤ, pos, ◌+◌, ◌^◌, true, sum_by, List, [], ◌∷◌, length, Option, Some}
 use Rattle.std.specs.Prelude.{Ok}
 use Rattle.std.specs.List.{AllByRecursion}
-use Rattle.mon_value.specs.Alignments.{CanAlign, seconds_of}
-use Rattle.mon_value.specs.Columns.{FitColumns, IsWhole}
-use Rattle.mon_value.specs.GroupConditions.{CanGroup, rows_at}
-use Rattle.mon_value.specs.Grids.{IsDuration}
-use Rattle.mon_value.specs.Groups.{column_of}
-use Rattle.mon_value.specs.Sources.{points_by_series}
+use Rattle.mon_value.specs.Grids.{CanAlign, seconds_of, IsDuration}
+use Rattle.mon_value.specs.Tables.{FitColumns, IsWhole}
+use Rattle.mon_value.specs.Groups.{CanGroup, rows_at, column_of}
+use Rattle.mon_value.specs.LeafHistories.{points_by_series}
 use Rattle.mon_value.specs.Values.{magnitude}
 use Rattle.mon_value.specs.declared.columns.Column.{Column}
 use Rattle.mon_value.specs.declared.grids.Grid.{Grid}
@@ -18,20 +16,17 @@ use Rattle.mon_value.specs.declared.rows.Row.{Row}
 use Rattle.mon_value.specs.declared.rows.SeriesKey.{SeriesKey}
 use Rattle.mon_value.specs.declared.tables.Table.{Table}
 use Rattle.mon_value.specs.declared.tables.TimedRow.{TimedRow}
-use Rattle.mon_schema.specs.Fits.{fits, is_number}
-use Rattle.mon_schema.specs.HeldMetrics.{AreMetricsHeld}
-use Rattle.mon_schema.specs.HeldTargets.{AllTellLocations}
-use Rattle.mon_schema.specs.SchemaLists.{SchemaLists}
-use Rattle.mql_ast.specs.SumWidths.{CanCompute, FitWidths, HasShares, IsTypedSum}
+use Rattle.mon_schema.specs.Fits.{fits, is_number, AreMetricsHeld, AllTellLocations}
+use Rattle.mon_schema.specs.Names.{SchemaLists}
+use Rattle.mql_ast.specs.Rows.{CanCompute, FitWidths, HasShares, IsTypedSum}
 use Rattle.mql_ast.specs.Trees as tree
 use Rattle.mql_ast.specs.Trees.{BranchTrees, DeedTree, ItemTree, OpTree, PipeTree, SourceTree, SumTree}
 use Rattle.mql_ast.specs.declared.names.Name.{Name}
 use Rattle.mql_ast.specs.declared.operations.Aggregate.{Aggregate}
 use Rattle.mql_ast.specs.declared.operations.FoldWord.{FoldWord}
 use Rattle.mql_ast.specs.declared.operations.FoldWord.TheVariants as fold
-use Rattle.mql_types.specs.Durations.{HasDurations}
-use Rattle.mql_types.specs.Loads.{load, load_of, points_reached}
-use Rattle.mql_types.specs.Meaning.{meaning, points_meant, rows_meant}
+use Rattle.mql_types.specs.Times.{HasDurations}
+use Rattle.mql_types.specs.Meaning.{load, load_of, points_reached, meaning, points_meant, rows_meant}
 use Rattle.mql_types.specs.Nodes as node
 use Rattle.mql_types.specs.Nodes.{NodeTree, TypedTree, columns_of}
 use Rattle.mql_types.specs.Typing.{typing}

@@ -1,17 +1,18 @@
--- The grid of a query's times, and where `every` and `within` may stand.
-use Rattle.std.specs.Prelude.{ℕ, ℤ, pos, ◌*ℤ◌, ◌||◌, Bool, true, false, int_lt, List, [], ◌∷◌, ◌++◌, Option, Some}
-use Rattle.std.specs.Prelude.{None, unwrap_or, ◌+◌, if◌then◌else◌}
+-- The grid of a query's times, and the durations that it names.
+use Rattle.std.specs.Prelude.{ℕ, ℤ, pos, ◌*ℤ◌, ◌||◌, Bool, true, false, int_lt, List, [], ◌∷◌, ◌++◌, Option, Some, None}
+use Rattle.std.specs.Prelude.{unwrap_or, ◌+◌, if◌then◌else◌}
 use Rattle.std.specs.Int.{int_max}
-use Rattle.std.specs.List.{list_any}
+use Rattle.std.specs.List.{list_any, AllByRecursion}
 use Rattle.std.specs.Option.{option_or}
-use Rattle.mon_value.specs.Alignments.{seconds_of}
-use Rattle.mon_value.specs.Grids.{most_times}
+use Rattle.mon_value.specs.Grids.{seconds_of, most_times, IsDuration}
 use Rattle.mql_ast.specs.Trees as tree
 use Rattle.mql_ast.specs.Trees.{BranchTrees, DeedTree, OpTree, PipeTree, SourceTree}
 use Rattle.mql_types.specs.declared.faults.TypeFault.{TypeFault}
 use Rattle.mql_types.specs.declared.faults.TypeKind.TheVariants.{BadOrder, TooManyTimes}
 use Rattle.mql_types.specs.declared.times.Times.{Times}
 use Rattle.mql_types.specs.Faults.{fault_where}
+
+-- The grid of a query's times, and where `every` and `within` may stand.
 
 -- all operations of a pipe, in the order of the text
 abbrev mutual
@@ -138,3 +139,19 @@ abbrev mutual
   pub branch_order_faults : BranchTrees → List TypeFault
   branch_order_faults tree.NoBranch = []
   branch_order_faults (tree.Branch first rest) = pipe_order_faults true first ++ branch_order_faults rest
+
+-- The durations that a query names.
+
+-- whether the duration of an operation, if it has one, is one that a query may name
+abbrev pub HasDuration : DeedTree → Type 0
+HasDuration (tree.Every seconds) = IsDuration seconds
+HasDuration (tree.Within seconds) = IsDuration seconds
+HasDuration (tree.Align by) = IsDuration (seconds_of by)
+HasDuration (tree.Filter predicate) = Unit {0}
+HasDuration (tree.GroupBy names aggregates) = Unit {0}
+HasDuration (tree.Value items) = Unit {0}
+HasDuration (tree.Top most column) = Unit {0}
+
+-- whether all durations of a query are ones that a query may name, as those of a text are
+abbrev pub HasDurations : PipeTree → Type 0
+HasDurations query = AllByRecursion (λ (op : OpTree). HasDuration op.what) (pipe_ops query)

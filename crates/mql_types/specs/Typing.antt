@@ -7,7 +7,7 @@ use Rattle.mon_value.specs.declared.aligners.Aligner.TheVariants as aligner
 use Rattle.mon_value.specs.declared.columns.Column.{Column}
 use Rattle.mon_value.specs.declared.schemas.Kind.{Kind}
 use Rattle.mon_value.specs.declared.schemas.Kind.TheVariants as kind
-use Rattle.mon_schema.specs.SchemaLists.{SchemaLists, target_named, metric_named}
+use Rattle.mon_schema.specs.Names.{SchemaLists, target_named, metric_named}
 use Rattle.mql_ast.specs.Trees as tree
 use Rattle.mql_ast.specs.Trees.{BranchTrees, DeedTree, ItemTree, OpTree, PipeTree, PredicateTree, SourceTree}
 use Rattle.mql_ast.specs.declared.names.Name.{Name}
@@ -21,9 +21,9 @@ use Rattle.mql_types.specs.declared.levels.Level.{Level}
 use Rattle.mql_types.specs.declared.levels.Level.TheVariants as level
 use Rattle.mql_types.specs.declared.nodes.NodeInfo.{NodeInfo}
 use Rattle.mql_types.specs.Branches.{common_columns, join_columns, join_faults, union_columns, union_faults}
+use Rattle.mql_types.specs.Branches.{delta_width, point_width, with_width}
 use Rattle.mql_types.specs.Faults.{fault_at, first_fault}
-use Rattle.mql_types.specs.Fetches.{fetch_columns, fetch_faults, kind_of}
-use Rattle.mql_types.specs.Filters.{condition_faults, predicate_faults}
+use Rattle.mql_types.specs.Fetches.{fetch_columns, fetch_faults, kind_of, condition_faults, predicate_faults}
 use Rattle.mql_types.specs.Groupings.{aggregates_over, grouped_columns, group_faults, listed_columns, listed_places}
 use Rattle.mql_types.specs.Groupings.{place_found}
 use Rattle.mql_types.specs.Items.{is_number_type, reserved_names, value_columns, value_faults}
@@ -32,7 +32,6 @@ use Rattle.mql_types.specs.Nodes.{NodeTree, TypedTree, columns_of, level_of}
 use Rattle.mql_types.specs.Nodes as node
 use Rattle.mql_types.specs.Times.{every_said, pipe_order_faults, query_times, times_faults, within_said}
 use Rattle.mql_types.specs.declared.widths.Width.{Width}
-use Rattle.mql_types.specs.Widths.{delta_width, point_width, with_width}
 
 -- a part of a query: its tree, and the kind of its metric while its points aren't aligned
 pub record Part : Type 0 where

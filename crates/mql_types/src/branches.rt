@@ -1,11 +1,11 @@
 // What a join and a union of two tables give.
 ghost use Rattle.std.specs.Prelude.{◌≡◌, ◌++◌, ◌∷◌, [], IfOk, OnOk, Some, map, option_to_list};
 ghost use Rattle.std.specs.List.{flat_map, list_any};
-ghost use Rattle.mon_value.specs.Joins as join;
-ghost use Rattle.mql_ast.specs.NamedCells as named;
+ghost use Rattle.mon_value.specs.Tables as join;
+ghost use Rattle.mql_ast.specs.Rows as named;
 ghost use Rattle.mql_types.specs.Branches as spec;
 ghost use Rattle.mql_types.specs.Faults.{first_with};
-ghost use Rattle.mql_types.specs.Widths as widths;
+ghost use Rattle.mql_types.specs.Branches as widths;
 
 use crate::faults::{Faults, TypeKind, type_word};
 use crate::levels::common_anchor;

@@ -1,7 +1,7 @@
 // What explains a query: its sources and operations, each with its level.
 ghost use Rattle.std.specs.Prelude.{◌≡◌, ◌+◌, ◌++◌, ℕ, Option, IfOk, OnOk};
 ghost use Rattle.mql_types.specs.ExplanationParts.{nodes, remaining_lines, remaining_nodes};
-ghost use Rattle.mql_types.specs.Explanations as spec;
+ghost use Rattle.mql_types.specs.Plans as spec;
 ghost use Rattle.mql_types.specs.Nodes.{info_of, node_tree, typed_tree};
 
 use crate::levels::Level;

@@ -50,7 +50,7 @@ pub enum TypeWord {
 
 impl fmt::Display for TypeFault {
     ghost use Rattle.std.specs.Prelude.{Some};
-    ghost use Rattle.mql_types.specs.FaultTexts.{type_fault_text};
+    ghost use Rattle.mql_types.specs.Faults.{type_fault_text};
 
     ghost output = { λ fault. Some (type_fault_text fault) };
 
@@ -61,7 +61,7 @@ impl fmt::Display for TypeFault {
 
 impl fmt::Display for TypeKind {
     ghost use Rattle.std.specs.Prelude.{Some};
-    ghost use Rattle.mql_types.specs.FaultTexts.{type_kind_text};
+    ghost use Rattle.mql_types.specs.Faults.{type_kind_text};
 
     ghost output = { λ kind. Some (type_kind_text kind) };
 
@@ -84,7 +84,7 @@ impl fmt::Display for TypeKind {
 
 impl fmt::Display for TypeWord {
     ghost use Rattle.std.specs.Prelude.{Some};
-    ghost use Rattle.mql_types.specs.FaultTexts.{type_word_text};
+    ghost use Rattle.mql_types.specs.Faults.{type_word_text};
 
     ghost output = { λ word. Some (type_word_text word) };
 

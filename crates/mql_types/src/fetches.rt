@@ -2,7 +2,7 @@
 ghost use Rattle.std.specs.Prelude.{◌≡◌, ◌++◌, IfOk, OnOk, map};
 ghost use Rattle.std.specs.Option.{option_copied};
 ghost use Rattle.mon_schema.specs.Faults.{texts_repeat};
-ghost use Rattle.mon_value.specs.Columns.{column_names};
+ghost use Rattle.mon_value.specs.Tables.{column_names};
 ghost use Rattle.mql_types.specs.Fetches as spec;
 
 use crate::items::plain_column;

@@ -2,7 +2,7 @@
 ghost use Rattle.std.specs.Prelude.{◌≡◌, ◌+◌, ◌<◌, ◌++◌, List, OnOk};
 ghost use Rattle.mql_ast.specs.Trees.{predicate_tree};
 ghost use Rattle.mql_types.specs.Faults.{first_with};
-ghost use Rattle.mql_types.specs.Filters as spec;
+ghost use Rattle.mql_types.specs.Fetches as spec;
 ghost use Rattle.mql_types.specs.PredicateParts.{remaining_faults, remaining_nodes};
 ghost use Rattle.mql_ast.specs.PredicateParts.{nodes};
 ghost use Rattle.mon_value.specs.declared.columns.Column.{Column};

@@ -1,10 +1,10 @@
 // The times of a query that has a type.
 ghost use Rattle.std.specs.Prelude.{◌≡◌, ℕ, ℤ, pos, ◌≤ℤ◌, List, Ok};
-ghost use Rattle.mon_schema.specs.SchemaLists.{SchemaLists};
+ghost use Rattle.mon_schema.specs.Names.{SchemaLists};
 ghost use Rattle.mon_value.specs.Grids.{IsLawfulGrid};
 ghost use Rattle.mql_ast.specs.Grammar.{Spells};
 ghost use Rattle.mql_ast.specs.Trees.{PipeTree};
-ghost use Rattle.mql_types.specs.Durations.{HasDurations};
+ghost use Rattle.mql_types.specs.Times.{HasDurations};
 ghost use Rattle.mql_types.specs.Meaning.{grid_of};
 ghost use Rattle.mql_types.specs.Nodes.{TypedTree};
 ghost use Rattle.mql_types.specs.Typing.{typing};

@@ -3,7 +3,7 @@ ghost use Rattle.std.specs.Prelude.{◌≡◌, ◌++◌, [], IfOk, None, OnOk, S
 ghost use Rattle.mql_types.specs.Faults.{first_with};
 ghost use Rattle.mql_types.specs.Groupings as spec;
 ghost use Rattle.mql_types.specs.Items.{is_taken, name_texts, reserved_names, taken_faults, with_name, with_names};
-ghost use Rattle.mql_types.specs.Filters.{unknown_faults};
+ghost use Rattle.mql_types.specs.Fetches.{unknown_faults};
 ghost use Rattle.mql_types.specs.Faults.{fault_where};
 ghost use Rattle.mql_types.specs.declared.faults.TypeKind.TheVariants.{DuplicateColumn};
 ghost use Rattle.mql_types.specs.Levels.{meeting_level};

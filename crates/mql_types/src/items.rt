@@ -4,7 +4,7 @@ ghost use Rattle.std.specs.List.{filter_map, flat_map};
 ghost use Rattle.std.specs.Option.{option_copied};
 ghost use Rattle.mql_ast.specs.Trees.{item_tree, sum_tree};
 ghost use Rattle.mql_types.specs.Faults.{first_with};
-ghost use Rattle.mon_value.specs.Columns.{column_names};
+ghost use Rattle.mon_value.specs.Tables.{column_names};
 ghost use Rattle.mql_types.specs.Items as spec;
 
 use crate::faults::Faults;

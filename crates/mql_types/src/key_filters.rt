@@ -1,10 +1,10 @@
 // Which filters name keys alone.
 ghost use Rattle.std.specs.Prelude.{◌≡◌};
 ghost use Rattle.std.specs.Option.{option_copied};
-ghost use Rattle.mql_ast.specs.NamedCells as named;
+ghost use Rattle.mql_ast.specs.Rows as named;
 ghost use Rattle.mql_ast.specs.Trees.{predicate_tree};
 ghost use Rattle.mql_types.specs.Groupings.{place_found};
-ghost use Rattle.mql_types.specs.Loads as spec;
+ghost use Rattle.mql_types.specs.Meaning as spec;
 
 use mon_value::{Column, Columns, Text};
 use mql_ast::Predicate;

@@ -3,13 +3,11 @@ ghost use Rattle.std.specs.Prelude.{◌≡◌, ◌≤◌, ◌≤ℤ◌, ℕ, ℤ
 ghost use Rattle.std.specs.List.{AllByRecursion};
 ghost use Rattle.mon_value.specs.declared.grids.Grid.{Grid};
 ghost use Rattle.mon_value.specs.declared.rows.Row.{Row};
-ghost use Rattle.mon_schema.specs.Fits.{fits};
-ghost use Rattle.mon_schema.specs.HeldMetrics.{AreMetricsHeld};
-ghost use Rattle.mon_schema.specs.SchemaLists.{SchemaLists};
+ghost use Rattle.mon_schema.specs.Fits.{fits, AreMetricsHeld};
+ghost use Rattle.mon_schema.specs.Names.{SchemaLists};
 ghost use Rattle.mql_ast.specs.Grammar.{Spells};
 ghost use Rattle.mql_ast.specs.Trees.{PipeTree};
-ghost use Rattle.mql_types.specs.Loads.{load_of};
-ghost use Rattle.mql_types.specs.Meaning.{grid_of, rows_meant};
+ghost use Rattle.mql_types.specs.Meaning.{load_of, grid_of, rows_meant};
 ghost use Rattle.mql_types.specs.Nodes.{NodeTree, TypedTree, columns_of};
 ghost use Rattle.mql_types.specs.Soundness.{AreNarrow, IsEvaluable, IsTyped, WidthsHold};
 ghost use Rattle.mql_types.specs.Typing.{typing};

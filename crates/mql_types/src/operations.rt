@@ -2,7 +2,7 @@
 ghost use Rattle.std.specs.Prelude.{◌≡◌, IfOk, OnOk, map, Some, unwrap_or};
 ghost use Rattle.mql_ast.specs.Trees.{deed_tree, item_tree, op_tree, predicate_tree};
 ghost use Rattle.mql_types.specs.Faults.{first_with};
-ghost use Rattle.mql_types.specs.Filters.{condition_faults, predicate_faults};
+ghost use Rattle.mql_types.specs.Fetches.{condition_faults, predicate_faults};
 ghost use Rattle.mql_types.specs.Groupings.{group_faults, place_found};
 ghost use Rattle.mql_types.specs.Items.{is_number_type, value_faults};
 ghost use Rattle.mql_types.specs.declared.faults.TypeWord.TheVariants as word;

@@ -2,7 +2,7 @@
 ghost use Rattle.std.specs.Prelude.{◌≡◌, IfOk, OnOk, map, Some};
 ghost use Rattle.std.specs.Option.{option_copied};
 ghost use Rattle.mon_schema.specs.Faults.{texts_repeat};
-ghost use Rattle.mon_value.specs.Columns.{column_names};
+ghost use Rattle.mon_value.specs.Tables.{column_names};
 ghost use Rattle.mql_ast.specs.Trees.{branches, pipe_tree, source_tree};
 ghost use Rattle.mql_types.specs.Faults.{fault_where, first_with};
 ghost use Rattle.mql_types.specs.Branches as branch;

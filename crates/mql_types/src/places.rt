@@ -1,11 +1,11 @@
 // Columns by their names.
 ghost use Rattle.std.specs.Prelude.{◌≡◌, ◌++◌, IfOk, OnOk, option_to_list};
 ghost use Rattle.std.specs.Option.{option_copied};
-ghost use Rattle.mon_value.specs.Joins as join;
-ghost use Rattle.mql_ast.specs.NamedCells as named;
+ghost use Rattle.mon_value.specs.Tables as join;
+ghost use Rattle.mql_ast.specs.Rows as named;
 ghost use Rattle.mql_ast.specs.Trees as tree;
 ghost use Rattle.mql_types.specs.Faults.{first_with};
-ghost use Rattle.mql_types.specs.Filters.{condition_faults, unknown_faults};
+ghost use Rattle.mql_types.specs.Fetches.{condition_faults, unknown_faults};
 ghost use Rattle.mql_types.specs.Groupings.{place_found};
 ghost use Rattle.mql_types.specs.Items.{is_number_type, sum_width};
 ghost use Rattle.mql_types.specs.NamedPlaces.{AddsPlace};

@@ -1,6 +1,6 @@
 // What the sums of `value` are.
 ghost use Rattle.std.specs.Prelude.{◌≡◌, ◌+◌, ◌<◌, IfOk, OnOk};
-ghost use Rattle.mql_ast.specs.NamedCells.{column_named};
+ghost use Rattle.mql_ast.specs.Rows.{column_named};
 ghost use Rattle.mql_ast.specs.Trees.{sum_tree};
 ghost use Rattle.mql_types.specs.Faults.{first_with};
 ghost use Rattle.mql_types.specs.Items as spec;

@@ -3,7 +3,7 @@ ghost use Rattle.std.specs.Prelude.{◌≡◌, ◌||◌, nat_lt, map, false, Som
 ghost use Rattle.mql_ast.specs.Trees.{op_tree, deed_tree, pipe_tree, source_tree, branches};
 ghost use Rattle.mql_types.specs.Faults.{first_with};
 ghost use Rattle.mql_types.specs.Times as spec;
-ghost use Rattle.mon_value.specs.Alignments.{seconds_of};
+ghost use Rattle.mon_value.specs.Grids.{seconds_of};
 
 use crate::faults::{Faults, TypeKind};
 use mon_value::Aligner;

@@ -1,7 +1,7 @@
 // How many bits the numbers of a column may have, and their sum.
 ghost use Rattle.std.specs.Prelude.{◌≡◌};
 ghost use Rattle.mql_types.specs.Faults.{first_with};
-ghost use Rattle.mql_types.specs.Widths as spec;
+ghost use Rattle.mql_types.specs.Branches as spec;
 
 use crate::faults::{Faults, TypeKind};
 use mon_value::{Column, NUMBER_BITS, ROW_BITS, SUM_BITS, WIDEST_SUM};

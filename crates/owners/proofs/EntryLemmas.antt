@@ -5,8 +5,7 @@ use Rattle.std.proofs.Common.{refl, sym, ap, subst, ◌∙◌, arith, cond}
 use Rattle.std.specs.Prelude.{◌&&◌, ◌||◌, nat_eq}
 use Rattle.std.specs.List.{flat_map}
 use Rattle.mon_value.specs.LeafHistories as leaf
-use Rattle.mon_value.specs.LeafHistories.{entry_rows, is_down, is_opened, replica_rows, same_replica}
-use Rattle.mon_value.specs.Sources.{IsSource}
+use Rattle.mon_value.specs.LeafHistories.{entry_rows, is_down, is_opened, replica_rows, same_replica, IsSource}
 use Rattle.mon_value.specs.declared.histories.Entry.{Entry}
 use Rattle.mon_value.specs.declared.histories.Entry.TheVariants as entry
 use Rattle.mon_value.specs.declared.histories.Histories.{Histories}
@@ -15,16 +14,14 @@ use Rattle.mon_value.specs.declared.positions.Leaf.{Leaf}
 use Rattle.mon_value.specs.declared.positions.Range.{Range}
 use Rattle.mon_value.specs.declared.positions.Slot.{Slot}
 use Rattle.mon_value.specs.declared.rows.Row.{Row}
-use Rattle.mon_value.specs.Histories.{leaf_history, range_history}
+use Rattle.mon_value.specs.Histories.{leaf_history, range_history, same_range}
 use Rattle.history_book.proofs.ListLemmas.{added_here}
-use Rattle.mon_value.specs.Positions.{same_range}
 use Rattle.mon_hints.specs.Covers.{Covers, IsRaised}
-use Rattle.mon_hints.specs.HistoryBuckets.{history_buckets}
-use Rattle.mon_hints.specs.Listings.{is_among}
+use Rattle.mon_hints.specs.Hints.{history_buckets}
+use Rattle.mon_hints.specs.Formulas.{is_among}
 use Rattle.mon_hints.proofs.CoverLemmas.{covers-push}
-use Rattle.mon_topo.specs.HeldHistories.{AreAtHome}
+use Rattle.mon_topo.specs.HeldHistories.{AreAtHome, with_leaf_entry, with_range_entry}
 use Rattle.mon_topo.specs.Settings.{Setting, zone_of_leaf}
-use Rattle.mon_topo.specs.SeenHistories.{with_leaf_entry, with_range_entry}
 use Rattle.mon_topo.proofs.HeldLemmas.{leaf_entry_by, leaf_entry_held}
 use Rattle.history_book.specs.Histories.{added_at, entries, is_about, leaf_entry_is_about, with_book_entry}
 use Rattle.history_book.specs.declared.views.BookEntry.{BookEntry}

@@ -7,8 +7,7 @@ use Rattle.mon_topo.specs.HeldHistories.{IsAtHome}
 use Rattle.mon_topo.specs.Settings.{Setting}
 use Rattle.mon_topo.specs.Zones.{leaves_in}
 use Rattle.mon_value.specs.Histories.{leaf_history}
-use Rattle.mon_value.specs.LeafHistories.{is_opened}
-use Rattle.mon_value.specs.Sources.{IsSource}
+use Rattle.mon_value.specs.LeafHistories.{is_opened, IsSource}
 use Rattle.mon_value.specs.declared.histories.Entry.{Entry}
 use Rattle.mon_value.specs.declared.positions.Leaf.{Leaf}
 use Rattle.mon_value.specs.declared.positions.Range.{Range}

@@ -21,8 +21,7 @@ use Rattle.mon_store.specs.Passes.{IsPass}
 use Rattle.mon_topo.specs.HeldHistories.{AreHeld}
 use Rattle.mon_topo.specs.Settings.{Setting}
 use Rattle.mon_value.specs.declared.histories.Histories.{Histories}
-use Rattle.run_theory.specs.Marks.{IsWithin}
-use Rattle.run_theory.specs.Parts.{Beside}
+use Rattle.run_theory.specs.Parts.{IsWithin, Beside}
 use Rattle.run_theory.specs.Writings.{EachWrote, Wrote}
 use Rattle.run_theory.proofs.Marks.{all_as}
 use Rattle.run_traces.specs.LineClaims.{Finds, HaveGrown, Makes}

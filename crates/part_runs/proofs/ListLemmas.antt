@@ -5,7 +5,7 @@ use Rattle.std.proofs.Common.{length, map, get_or, refl, sym, subst, arith}
 use Rattle.std.specs.List.{AllByRecursion, Contains, list_any}
 use Rattle.std.proofs.lemmas.Bool.Decides.{nat_tests}
 use Rattle.history_book.specs.Histories.{numbers_on}
-use Rattle.run_theory.specs.Marks.{AreApart}
+use Rattle.run_theory.specs.Parts.{AreApart}
 
 module _ {X : Type 0} where
   pub first_of : (x : X) (xs : List X) → Contains (x ∷ xs) x

@@ -22,9 +22,7 @@ use Rattle.run_theory.specs.Parts.{Alone}
 use Rattle.run_traces.specs.LineDues.{IsDueBy, due_outcome, due_told, stands_behind, undue_fault}
 use Rattle.run_traces.specs.declared.traces.DueTrace.{DueTrace}
 use Rattle.run_traces.specs.declared.traces.LineTrace.TheVariants as came
-use Rattle.standing.specs.Adding.{add_fault}
-use Rattle.standing.specs.DueLists.{due_answer}
-use Rattle.standing.specs.StandingStates.{StandingState, at_moment}
+use Rattle.standing.specs.DueLists.{add_fault, due_answer, StandingState, at_moment}
 use Rattle.standing.specs.declared.dues.Due.{Due}
 use Rattle.standing.specs.declared.faults.DueFault.{DueFault}
 

@@ -8,16 +8,15 @@ use Rattle.know.specs.Knowledge.{Knowledge}
 use Rattle.line_runs.specs.LineWrites.{ran_line}
 use Rattle.line_runs.specs.declared.lines.LineRan.{LineRan}
 use Rattle.mon_config.specs.declared.config.Config.{Config}
-use Rattle.mon_schema.specs.SchemaLists.{SchemaLists}
-use Rattle.mon_script.specs.Places.{mark_of}
+use Rattle.mon_schema.specs.Names.{SchemaLists}
+use Rattle.mon_script.specs.Blocks.{mark_of}
 use Rattle.mon_script.specs.declared.forms.LineForm.{LineForm}
 use Rattle.mon_script.specs.declared.forms.LineForm.TheVariants as form
 use Rattle.mon_script.specs.declared.places.Mark.TheVariants as mark
 use Rattle.mon_script.specs.declared.script.ScriptLine.{ScriptLine}
 use Rattle.mon_value.specs.declared.histories.Histories.{Histories}
 use Rattle.part_runs.specs.PartsDone.{AloneDid, PartDid, PartTells, ran_beside}
-use Rattle.run_theory.specs.Marks.{IsWithin}
-use Rattle.run_theory.specs.Parts.{Alone, Part, lines_of}
+use Rattle.run_theory.specs.Parts.{IsWithin, Alone, Part, lines_of}
 use Rattle.run_theory.specs.Writings.{EachWrote}
 use Rattle.run_traces.specs.LineClaims.{AllRan, Finds, HasFound, HasWritten, HaveGrown, Makes}
 use Rattle.run_traces.specs.LineDues.{IsDueBy, asked_by, asked_part, is_ticked, stands_behind}
@@ -25,7 +24,7 @@ use Rattle.run_traces.specs.LineTexts.{line_text}
 use Rattle.run_traces.specs.RanLines.{RanLine}
 use Rattle.run_traces.specs.declared.traces.LineTrace.{LineTrace}
 use Rattle.run_traces.specs.declared.traces.LineTrace.TheVariants as came
-use Rattle.standing.specs.StandingStates.{StandingState}
+use Rattle.standing.specs.DueLists.{StandingState}
 
 -- ---- the laws of runs
 

@@ -5,7 +5,7 @@ use Rattle.know.specs.Knowledge.{Knowledge}
 use Rattle.line_runs.specs.LineWrites.{ran_line}
 use Rattle.line_runs.specs.declared.lines.LineRan.{LineRan}
 use Rattle.mon_config.specs.declared.config.Config.{Config}
-use Rattle.mon_script.specs.Places.{mark_of}
+use Rattle.mon_script.specs.Blocks.{mark_of}
 use Rattle.mon_script.specs.declared.forms.LineForm.{LineForm}
 use Rattle.mon_script.specs.declared.places.Mark.TheVariants as mark
 use Rattle.mon_script.specs.declared.script.ScriptLine.{ScriptLine}
@@ -16,7 +16,7 @@ use Rattle.run_traces.specs.LineDues.{IsDueBy, asked_part, stands_behind}
 use Rattle.run_traces.specs.LineTexts.{line_text}
 use Rattle.run_traces.specs.RanLines.{RanLine}
 use Rattle.run_traces.specs.declared.traces.LineTrace.{LineTrace}
-use Rattle.standing.specs.StandingStates.{StandingState}
+use Rattle.standing.specs.DueLists.{StandingState}
 
 -- lines that ran beside each other, with what their files hold and what they came to
 abbrev pub ran_beside : List ScriptLine → List (List ℕ) → List LineTrace → List RanLine

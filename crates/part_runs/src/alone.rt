@@ -4,7 +4,7 @@ ghost use Rattle.history_book.specs.Histories.{AreFronts};
 ghost use Rattle.history_book.specs.Seats.{HasEveryNumber};
 ghost use Rattle.line_runs.specs.LineWrites.{ran_line};
 ghost use Rattle.mon_script.specs.Lawful.{IsLawfulForm};
-ghost use Rattle.mon_script.specs.Places.{mark_of};
+ghost use Rattle.mon_script.specs.Blocks.{mark_of};
 ghost use Rattle.mon_script.specs.declared.places.Mark.TheVariants.{Acts, Lone};
 ghost use Rattle.part_runs.specs.PartsDone.{AloneDid, PartTells};
 ghost use Rattle.run_theory.specs.Parts.{Alone};

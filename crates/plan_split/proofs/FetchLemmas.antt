@@ -9,21 +9,17 @@ use Rattle.mon_value.specs.declared.columns.Column.{Column}
 use Rattle.mon_value.specs.declared.rows.SeriesKey.{SeriesKey}
 use Rattle.mon_value.specs.declared.schemas.MetricSchema.{MetricSchema}
 use Rattle.mon_value.specs.declared.schemas.TargetSchema.{TargetSchema}
-use Rattle.mon_hints.specs.Formulas.{FormulaTree, holds}
+use Rattle.mon_hints.specs.Formulas.{FormulaTree, holds, is_among}
 use Rattle.mon_hints.specs.Hints.{field_buckets, metric_bucket, series_buckets}
-use Rattle.mon_hints.specs.Listings.{is_among}
-use Rattle.mon_schema.specs.SchemaLists.{SchemaLists, metric_named, target_named}
-use Rattle.mql_ast.specs.Truths.{predicate_truth}
+use Rattle.mon_schema.specs.Names.{SchemaLists, metric_named, target_named}
+use Rattle.mql_ast.specs.Rows.{predicate_truth}
 use Rattle.mql_types.specs.Fetches.{columns_fetched, fetch_columns}
-use Rattle.mql_types.specs.Loads.{lets_in, meets, names_keys, series_cells}
-use Rattle.mql_types.specs.Meaning.{is_fetched}
+use Rattle.mql_types.specs.Meaning.{lets_in, meets, names_keys, series_cells, is_fetched}
 use Rattle.mql_types.specs.Nodes as node
 use Rattle.mql_types.specs.Nodes.{NodeTree, columns_of}
 use Rattle.mql_types.specs.Plans.{HasFetchColumns}
-use Rattle.plan_split.specs.FetchFormulas.{fetch_formula, schema_fetched}
-use Rattle.plan_split.specs.JoinedFormulas.{both}
-use Rattle.plan_split.specs.PredicateFormulas.{predicate_formula}
-use Rattle.plan_split.specs.Promises.{AllHoldWhereMet, HasFields, HoldsWhereMet}
+use Rattle.plan_split.specs.FetchFormulas.{fetch_formula, schema_fetched, both, predicate_formula}
+use Rattle.plan_split.specs.Meeting.{AllHoldWhereMet, HasFields, HoldsWhereMet}
 use Rattle.plan_split.proofs.HintLemmas.{among-self}
 use Rattle.plan_split.proofs.JoinedLemmas.{holds-both}
 use Rattle.plan_split.proofs.PredicateLemmas.{Holds, predicate_promise}

@@ -8,7 +8,7 @@ use Rattle.mon_value.specs.declared.schemas.Field.{Field}
 use Rattle.mon_value.specs.declared.schemas.MetricSchema.{MetricSchema}
 use Rattle.mon_value.specs.declared.schemas.TargetSchema.{TargetSchema}
 use Rattle.mon_value.specs.declared.values.FieldValue.{FieldValue}
-use Rattle.plan_split.specs.Promises.{HasFields}
+use Rattle.plan_split.specs.Meeting.{HasFields}
 
 as_many : (fields : List Field) (values : List FieldValue) → fields_fit fields values ≡ true
     → length values ≡ length fields

@@ -17,15 +17,14 @@ use Rattle.mon_value.specs.declared.schemas.MetricSchema.{MetricSchema}
 use Rattle.mon_value.specs.declared.schemas.TargetSchema.{TargetSchema}
 use Rattle.mon_value.specs.declared.values.FieldValue.{FieldValue}
 use Rattle.mon_value.specs.declared.values.Value.{Value}
-use Rattle.mon_hints.specs.Excerpts.{value_excerpts}
-use Rattle.mon_hints.specs.Fingerprints.{bucket_of}
-use Rattle.mon_hints.specs.Hints.{field_buckets, metric_bucket, series_buckets, value_buckets}
-use Rattle.mon_hints.specs.Listings.{AreAmong, is_among}
-use Rattle.mql_ast.specs.NamedCells.{cell_named, place_of}
-use Rattle.mon_value.specs.Columns.{column_names}
+use Rattle.mon_hints.specs.Hints.{value_excerpts, bucket_of, field_buckets, metric_bucket, series_buckets}
+use Rattle.mon_hints.specs.Hints.{value_buckets}
+use Rattle.mon_hints.specs.Formulas.{AreAmong, is_among}
+use Rattle.mql_ast.specs.Rows.{cell_named, place_of}
+use Rattle.mon_value.specs.Tables.{column_names}
 use Rattle.mql_types.specs.Fetches.{columns_fetched, key_column, target_columns, value_column}
-use Rattle.mql_types.specs.Loads.{series_cells}
-use Rattle.plan_split.specs.Promises.{HasFields}
+use Rattle.mql_types.specs.Meaning.{series_cells}
+use Rattle.plan_split.specs.Meeting.{HasFields}
 
 -- ---- lists of buckets
 

@@ -10,7 +10,7 @@ use Rattle.mon_hints.specs.Formulas.{FormulaTree, All, Bucket, And, Or, FormulaT
 use Rattle.mon_hints.specs.Formulas.{any_holds, formulas, formula_tree, holds}
 use Rattle.mon_hints.specs.declared.formulas.Formula.{Formula}
 use Rattle.mon_hints.specs.declared.formulas.Formula.TheVariants as formula
-use Rattle.plan_split.specs.JoinedFormulas.{all_of, both, choices, formula_list, one_of, wanted_formulas}
+use Rattle.plan_split.specs.FetchFormulas.{all_of, both, choices, formula_list, one_of, wanted_formulas}
 
 pub formula_list-formulas : (trees : List FormulaTree) → formula_list (formulas trees) ≡ trees
 formula_list-formulas [] = refl

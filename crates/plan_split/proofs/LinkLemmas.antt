@@ -4,8 +4,7 @@ use Rattle.mon_hints.specs.Formulas.{FormulaTree}
 use Rattle.mql_ast.specs.Trees.{predicate_tree}
 use Rattle.mql_ast.specs.declared.predicates.Predicate.{Predicate}
 use Rattle.plan_split.specs.FormulaLinks.{filtered_formula, link_formula, link_nodes, linked_formula, linked_nodes}
-use Rattle.plan_split.specs.JoinedFormulas.{both}
-use Rattle.plan_split.specs.PredicateFormulas.{predicate_formula}
+use Rattle.plan_split.specs.FetchFormulas.{both, predicate_formula}
 use Rattle.plan_split.specs.declared.predicates.Link.{Link}
 use denote.Ref.{Bor}
 

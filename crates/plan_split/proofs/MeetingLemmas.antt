@@ -2,7 +2,7 @@
 use Rattle.std.proofs.Common.{◌≡◌, ◌∙◌, ℕ, ◌+◌, ◌<◌, Bool, List, [], ◌∷◌, ◌++◌, ap, arith, map, sym}
 use Rattle.std.proofs.lemmas.List.FromFn.{map-range_with_len_more}
 use Rattle.std.specs.List.{range_with_len}
-use Rattle.mon_hints.specs.Words.{IsMask, has_bit}
+use Rattle.mon_hints.specs.Hints.{IsMask, has_bit}
 use Rattle.mql_types.specs.declared.plans.Plan.{Plan}
 use Rattle.plan_split.specs.Meeting.{lets_child_in}
 

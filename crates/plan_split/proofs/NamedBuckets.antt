@@ -4,8 +4,7 @@ use Rattle.std.proofs.Common.{eqb, refl, inl, inr}
 use Rattle.std.proofs.lemmas.Bool.{and_from, and_parts, eq-eqb, or_cases, or_left, or_right}
 use Rattle.std.proofs.lemmas.List.Folds.{list_any-append}
 use Rattle.mon_hints.specs.Formulas.{All as Always, And, Bucket, FormulaTree, FormulaTrees, NoFormula, Or, Then}
-use Rattle.mon_hints.specs.Formulas.{all_hold, all_named, any_holds, holds, named_buckets}
-use Rattle.mon_hints.specs.Listings.{is_among}
+use Rattle.mon_hints.specs.Formulas.{all_hold, all_named, any_holds, holds, named_buckets, is_among}
 
 -- what a formula names of these buckets is among those
 abbrev pub NamedAreAmong : List ℕ → List ℕ → List ℕ → Type 0

@@ -4,24 +4,22 @@ use Rattle.std.proofs.Common.{length, map, get_or, inl, inr, sym, subst, arith}
 use Rattle.std.specs.List.{AllByRecursion as All}
 use Rattle.std.proofs.lemmas.Bool.{eqb-true, or_cases}
 use Rattle.mon_hints.proofs.ListingLemmas.{place_among}
-use Rattle.mon_hints.specs.Fingerprints.{bucket_of}
-use Rattle.mon_hints.specs.Excerpts.{pattern_excerpts, value_excerpts}
+use Rattle.mon_hints.specs.Hints.{bucket_of, pattern_excerpts, value_excerpts}
 use Rattle.mon_hints.specs.Formulas.{All as Always, And, Bucket, FormulaTree, FormulaTrees, NoFormula, Or, Then}
-use Rattle.mon_hints.specs.Formulas.{all_named, formulas, named_buckets}
-use Rattle.mon_hints.specs.Listings.{IsListing, is_among}
+use Rattle.mon_hints.specs.Formulas.{all_named, formulas, named_buckets, IsListing, is_among}
 use Rattle.mon_value.specs.declared.values.FieldValue.{FieldValue}
 use Rattle.mql_ast.specs.Trees as tree
 use Rattle.mql_ast.specs.Trees.{PredicateTree}
 use Rattle.mql_ast.specs.declared.predicates.Comparison.{Comparison}
 use Rattle.mql_ast.specs.declared.predicates.Comparison.TheVariants as comparison
 use Rattle.mql_types.proofs.DurationLemmas.{all_append}
-use Rattle.mql_types.specs.Loads.{names_keys}
+use Rattle.mql_types.specs.Meaning.{names_keys}
 use Rattle.mql_types.specs.Nodes as node
 use Rattle.mql_types.specs.Nodes.{NodeTree}
 use Rattle.mql_types.specs.Plans.{fetches}
-use Rattle.plan_split.specs.FetchFormulas.{fetch_formula, plan_formulas, schema_fetched}
-use Rattle.plan_split.specs.JoinedFormulas.{all_of, both, choices, formula_list, one_of, wanted_formulas}
-use Rattle.plan_split.specs.PredicateFormulas.{bucket_formula, comparison_formula, predicate_formula}
+use Rattle.plan_split.specs.FetchFormulas.{fetch_formula, plan_formulas, schema_fetched, all_of, both, choices}
+use Rattle.plan_split.specs.FetchFormulas.{formula_list, one_of, wanted_formulas, bucket_formula, comparison_formula}
+use Rattle.plan_split.specs.FetchFormulas.{predicate_formula}
 
 module _ (count : ℕ) (some : 0 < count) where
   abbrev pub AreBelow : List ℕ → Type 0

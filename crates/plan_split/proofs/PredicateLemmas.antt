@@ -15,22 +15,18 @@ use Rattle.mon_value.specs.declared.values.FieldValue.{FieldValue}
 use Rattle.mon_value.specs.declared.values.FieldValue.TheVariants as field
 use Rattle.mon_value.specs.declared.values.Value.{Value}
 use Rattle.mon_hints.proofs.PatternLemmas.{test_passes}
-use Rattle.mon_hints.specs.Excerpts.{front, pattern_excerpts, value_excerpts}
-use Rattle.mon_hints.specs.Fingerprints.{bucket_of}
-use Rattle.mon_hints.specs.Formulas.{FormulaTree, holds}
-use Rattle.mon_hints.specs.Hints.{series_buckets}
-use Rattle.mon_hints.specs.Listings.{is_among}
-use Rattle.mql_ast.specs.NamedCells.{cell_named}
+use Rattle.mon_hints.specs.Hints.{front, pattern_excerpts, value_excerpts, bucket_of, series_buckets}
+use Rattle.mon_hints.specs.Formulas.{FormulaTree, holds, is_among}
+use Rattle.mql_ast.specs.Rows.{cell_named, is_compared, is_like, is_passed, predicate_truth}
 use Rattle.mql_ast.specs.Trees as tree
 use Rattle.mql_ast.specs.Trees.{PredicateTree}
-use Rattle.mql_ast.specs.Truths.{is_compared, is_like, is_passed, predicate_truth}
 use Rattle.mql_ast.specs.declared.predicates.Comparison.{Comparison}
 use Rattle.mql_ast.specs.declared.predicates.Comparison.TheVariants as comparison
 use Rattle.mql_types.specs.Fetches.{columns_fetched}
-use Rattle.mql_types.specs.Loads.{series_cells}
-use Rattle.plan_split.specs.PredicateFormulas.{bucket_formula, comparison_formula, excerpts_formula}
-use Rattle.plan_split.specs.PredicateFormulas.{likeness_formula, predicate_formula}
-use Rattle.plan_split.specs.Promises.{HasFields, HoldsWhereTrue}
+use Rattle.mql_types.specs.Meaning.{series_cells}
+use Rattle.plan_split.specs.FetchFormulas.{bucket_formula, comparison_formula, excerpts_formula, likeness_formula}
+use Rattle.plan_split.specs.FetchFormulas.{predicate_formula}
+use Rattle.plan_split.specs.Meeting.{HasFields, HoldsWhereTrue}
 use Rattle.plan_split.proofs.HintLemmas.{IsHinted, excerpts_hinted, field_hinted}
 use Rattle.plan_split.proofs.JoinedLemmas.{holds-all_of, holds-both, holds-one_of}
 

@@ -4,8 +4,7 @@ use Rattle.mon_hints.specs.Formulas.{FormulaTree}
 use Rattle.mql_ast.specs.PredicateParts.{nodes}
 use Rattle.mql_ast.specs.Trees.{predicate_tree}
 use Rattle.mql_ast.specs.declared.predicates.Predicate.{Predicate}
-use Rattle.plan_split.specs.JoinedFormulas.{both, one_of}
-use Rattle.plan_split.specs.PredicateFormulas.{predicate_formula}
+use Rattle.plan_split.specs.FetchFormulas.{both, one_of, predicate_formula}
 use Rattle.plan_split.specs.declared.predicates.Link.{Link}
 use Rattle.plan_split.specs.declared.predicates.Link.TheVariants as link
 use denote.Ref.{Bor}

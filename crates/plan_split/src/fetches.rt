@@ -2,12 +2,12 @@
 ghost use Rattle.std.specs.Prelude.{◌≡◌, ◌<◌, ℕ, List, if◌then◌else◌, IfOk, OnOk};
 ghost use Rattle.mon_hints.specs.Formulas.{FormulaTree, formula_tree};
 ghost use Rattle.mql_ast.specs.Trees.{predicate_tree};
-ghost use Rattle.mql_types.specs.Loads as loads;
+ghost use Rattle.mql_types.specs.Meaning as loads;
 ghost use Rattle.mql_types.specs.Nodes.{node_tree};
 ghost use Rattle.plan_split.specs.FetchFormulas as spec;
 ghost use Rattle.plan_split.specs.FormulaLinks.{filtered_formula};
-ghost use Rattle.plan_split.specs.JoinedFormulas as joined;
-ghost use Rattle.plan_split.specs.PredicateFormulas.{predicate_formula};
+ghost use Rattle.plan_split.specs.FetchFormulas as joined;
+ghost use Rattle.plan_split.specs.FetchFormulas.{predicate_formula};
 
 use crate::joined_formulas::both;
 use crate::predicates::BucketSetting;

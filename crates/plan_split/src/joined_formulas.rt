@@ -1,7 +1,7 @@
 // Formulas joined to one, in one list for a whole chain.
 ghost use Rattle.std.specs.Prelude.{◌≡◌, ◌∷◌, ◌++◌, [], map, IfOk};
 ghost use Rattle.mon_hints.specs.Formulas.{formula_tree};
-ghost use Rattle.plan_split.specs.JoinedFormulas as spec;
+ghost use Rattle.plan_split.specs.FetchFormulas as spec;
 
 use mon_hints::Formula;
 use mon_value::OutOfMemory;

@@ -1,7 +1,7 @@
 // Which children the hint words let in.
 ghost use Rattle.std.specs.Prelude.{◌≡◌, ◌≤◌, ◌<◌, map, IfOk};
 ghost use Rattle.mon_hints.specs.Formulas.{any_holds, formula_tree, formulas};
-ghost use Rattle.mon_hints.specs.Words.{IsMask, buckets_of_child, has_bit};
+ghost use Rattle.mon_hints.specs.Hints.{IsMask, buckets_of_child, has_bit};
 ghost use Rattle.plan_split.specs.Meeting as spec;
 
 use mon_hints::{Buckets, Formula, Words, mask};

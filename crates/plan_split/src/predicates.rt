@@ -1,12 +1,12 @@
 // The formula of a predicate.
 ghost use Rattle.std.specs.Prelude.{◌≡◌, ◌+◌, ◌<◌, IfOk};
-ghost use Rattle.mon_hints.specs.Fingerprints as hint;
+ghost use Rattle.mon_hints.specs.Hints as hint;
 ghost use Rattle.mon_hints.specs.Formulas.{formula_tree};
 ghost use Rattle.mql_ast.specs.PredicateParts.{nodes};
 ghost use Rattle.mql_ast.specs.Trees.{predicate_tree};
 ghost use Rattle.plan_split.specs.FormulaLinks.{link_formula, linked_formula, linked_nodes};
-ghost use Rattle.plan_split.specs.PredicateFormulas as spec;
-ghost use Rattle.plan_split.specs.Promises.{HoldsWhereTrue};
+ghost use Rattle.plan_split.specs.FetchFormulas as spec;
+ghost use Rattle.plan_split.specs.Meeting.{HoldsWhereTrue};
 
 use crate::joined_formulas::{all_of, both, one_of};
 use mon_hints::{Excerpt, Formula, bucket_of, excerpts_of, excerpts_of_value};

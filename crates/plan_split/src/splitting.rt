@@ -1,9 +1,8 @@
 // The plan of a query.
 ghost use Rattle.std.specs.Prelude.{◌≡◌, ◌<◌, ◌+◌, ◌++◌, map, Ok, IfOk, OnOk};
 ghost use Rattle.std.specs.List.{AllByRecursion};
-ghost use Rattle.mon_hints.specs.Formulas.{all_named, formula_tree, formulas};
-ghost use Rattle.mon_hints.specs.Listings.{IsListing};
-ghost use Rattle.mon_schema.specs.SchemaLists.{SchemaLists};
+ghost use Rattle.mon_hints.specs.Formulas.{all_named, formula_tree, formulas, IsListing};
+ghost use Rattle.mon_schema.specs.Names.{SchemaLists};
 ghost use Rattle.mql_ast.specs.Trees.{PipeTree};
 ghost use Rattle.mql_types.specs.ExplanationParts.{nodes};
 ghost use Rattle.mql_types.specs.Nodes.{node_tree, typed_tree};
@@ -11,7 +10,7 @@ ghost use Rattle.mql_types.specs.Plans.{fetches};
 ghost use Rattle.mql_types.specs.Typing.{typing};
 ghost use Rattle.plan_split.specs.FetchFormulas as spec;
 ghost use Rattle.plan_split.specs.FetchParts.{remaining_fetches, remaining_nodes};
-ghost use Rattle.plan_split.specs.Promises.{AllHoldWhereMet};
+ghost use Rattle.plan_split.specs.Meeting.{AllHoldWhereMet};
 
 use crate::fetches::fetch_formula;
 use mon_hints::buckets_of_all;

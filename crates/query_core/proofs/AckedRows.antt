@@ -22,13 +22,12 @@ use Rattle.mon_value.specs.declared.positions.Range.{Range}
 use Rattle.mon_value.specs.declared.positions.Slot.{Slot}
 use Rattle.mon_value.specs.declared.positions.SlotLeaf.{SlotLeaf}
 use Rattle.mon_value.specs.declared.rows.Row.{Row}
-use Rattle.mon_schema.specs.SchemaLists.{SchemaLists}
+use Rattle.mon_schema.specs.Names.{SchemaLists}
 use Rattle.mon_topo.proofs.RangeHistoryLemmas.{AreNumbered, IsLegal-push, all_append, all_on, get_there, numbered}
-use Rattle.mon_value.specs.Histories.{leaf_history}
+use Rattle.mon_value.specs.Histories.{leaf_history, same_slot}
 use Rattle.mon_value.specs.declared.histories.Histories.{Histories}
 use Rattle.mon_topo.specs.HeldHistories.{IsBorneOut}
 use Rattle.mon_topo.specs.RangeHistories as spec
-use Rattle.mon_value.specs.Positions.{same_slot}
 use Rattle.mon_topo.specs.RangeHistories.{acknowledged_rows, acked_row, is_missed, opened_slots, serving}
 use Rattle.mon_topo.specs.RangeHistories.{serving_after, times}
 use Rattle.mon_topo.specs.Replicas.{HasReplicas}

@@ -9,7 +9,7 @@ use Rattle.mon_topo.specs.declared.places.Place.TheVariants as place
 use Rattle.mon_topo.specs.declared.zones.ZoneSpec.{ZoneSpec}
 use Rattle.mon_topo.proofs.LawfulLemmas.{few}
 use Rattle.mon_topo.proofs.SizeLemmas.{parts_so_far}
-use Rattle.query_core.specs.Areas.{IsSmall, area_of, areas_of}
+use Rattle.query_core.specs.Rounds.{IsSmall, area_of, areas_of}
 
 small_at : (zones : List ZoneSpec) → AreLawfulZones zones → (i : ℕ) → i < length zones → IsSmall (area_of zones i)
 small_at zones lawful i there =

@@ -8,14 +8,14 @@ use Rattle.std.proofs.lemmas.List.{length-append}
 use Rattle.std.proofs.lemmas.List.Folds.{list_any-append}
 use Rattle.mon_topo.proofs.PartLemmas.{IsPart, length-zones_of, part_at, zone_of_part}
 use Rattle.mon_topo.specs.RangeHistories.{IsInZoneOf}
-use Rattle.mon_value.specs.Positions.{same_leaf, zone_numbered}
+use Rattle.mon_value.specs.Histories.{same_leaf, zone_numbered}
 use Rattle.mon_topo.specs.Zones.{first_leaf, first_range, leaf_zones, no_zone, range_zones, zone_at}
 use Rattle.mon_topo.specs.declared.zones.ZoneSpec.{ZoneSpec}
 use Rattle.mon_value.specs.declared.positions.Leaf.{Leaf}
 use Rattle.mon_value.specs.declared.positions.Range.{Range}
 use Rattle.mon_value.specs.declared.positions.Zone.{Zone}
 use Rattle.mql_types.proofs.JoinedRows.{all-map}
-use Rattle.query_core.specs.Areas.{area_of}
+use Rattle.query_core.specs.Rounds.{area_of}
 use Rattle.query_core.proofs.DividedRows.{AreLeavesOf, AreOtherLeaves, AreOtherZones, SomeLeaves, all_leaves}
 use Rattle.query_core.proofs.ReadLeaves.{Ascend, among_from, ascend_append, ascend_before, ascend_once, ascend_within}
 use Rattle.query_core.proofs.ReadLeaves.{leaves_ascend, leaves_from}

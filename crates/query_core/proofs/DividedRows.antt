@@ -10,7 +10,7 @@ use Rattle.std.proofs.lemmas.List.Concat.{flat_map-append}
 use Rattle.std.proofs.lemmas.List.Elements.{filter-append}
 use Rattle.mon_value.proofs.SameLemmas.{same_series-Decides, same_text-Decides}
 use Rattle.mon_value.specs.Same.{same_series, same_text}
-use Rattle.mon_value.specs.Sources.{points_of, rows_of}
+use Rattle.mon_value.specs.LeafHistories.{points_of, rows_of}
 use Rattle.mon_value.specs.declared.positions.Leaf.{Leaf}
 use Rattle.mon_value.specs.declared.positions.Range.{Range}
 use Rattle.mon_value.specs.declared.positions.Zone.{Zone}
@@ -18,16 +18,16 @@ use Rattle.mon_value.specs.declared.rows.Point.{Point}
 use Rattle.mon_value.specs.declared.rows.Row.{Row}
 use Rattle.mon_value.specs.declared.rows.SeriesKey.{SeriesKey}
 use Rattle.mon_schema.specs.Fits.{fits}
-use Rattle.mon_schema.specs.SchemaLists.{SchemaLists}
+use Rattle.mon_schema.specs.Names.{SchemaLists}
 use Rattle.mon_topo.specs.HeldHistories.{IsAtHome}
 use Rattle.mon_topo.specs.Locations.{location_of, range_for}
 use Rattle.mon_topo.specs.RangeHistories.{IsInZoneOf}
-use Rattle.mon_value.specs.Positions.{same_leaf, zone_numbered}
+use Rattle.mon_value.specs.Histories.{same_leaf, zone_numbered}
 use Rattle.mon_topo.specs.Zones.{leaf_zones, zone_of}
 use Rattle.mon_topo.specs.declared.zones.ZoneSpec.{ZoneSpec}
 use Rattle.mixer.proofs.ApartTargets as apart_targets
 use Rattle.mixer.specs.Divisions.{ShareNoLocation, all_rows, has_location}
-use Rattle.mon_meaning.specs.ApartTargets.{AreApart, ShareNoTarget}
+use Rattle.mon_meaning.specs.ReadableSlots.{AreApart, ShareNoTarget}
 use Rattle.mixer.specs.Divisions.{together}
 use Rattle.mql_types.proofs.JoinedRows.{all-map}
 use Rattle.mql_types.proofs.KeptRows.{all-append, all-filter}

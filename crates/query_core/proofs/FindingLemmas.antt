@@ -7,11 +7,10 @@ use Rattle.std.proofs.lemmas.List.{map-append}
 use Rattle.mon_topo.proofs.FrontLemmas.{begins_length, take_on}
 use Rattle.mon_topo.proofs.HeldLemmas.{down_on}
 use Rattle.mon_topo.proofs.RangeHistoryLemmas.{all_append}
-use Rattle.mon_value.specs.Histories.{leaf_history, range_history}
+use Rattle.mon_value.specs.Histories.{leaf_history, range_history, same_leaf, zone_numbered}
 use Rattle.mon_value.specs.declared.histories.Histories.{Histories}
-use Rattle.mon_topo.specs.RangeHistories.{serving}
-use Rattle.mon_topo.specs.SeenHistories.{AreWithin}
-use Rattle.mon_value.specs.Positions.{same_leaf, zone_numbered}
+use Rattle.mon_topo.specs.RangeHistories.{serving, is_avoided}
+use Rattle.mon_topo.specs.HeldHistories.{AreWithin}
 use Rattle.mon_topo.specs.Zones.{range_zones}
 use Rattle.mon_topo.specs.declared.zones.ZoneSpec.{ZoneSpec}
 use Rattle.mon_value.specs.declared.histories.RangeEntry.{RangeEntry}
@@ -22,13 +21,11 @@ use Rattle.mon_value.specs.declared.positions.SlotLeaf.{SlotLeaf}
 use Rattle.query_core.proofs.Spans.{between_on}
 use Rattle.query_core.specs.declared.areas.Area.{Area}
 use Rattle.query_core.specs.declared.courses.Course.{Course}
-use Rattle.query_core.specs.Areas.{area_of, has_leaf}
-use Rattle.query_core.specs.Courses.{found_down, founds_of_zone, with_found}
-use Rattle.query_core.specs.Findings.{AreFoundThen, HasNoReplica, IsFoundThen}
+use Rattle.query_core.specs.Rounds.{area_of, has_leaf}
+use Rattle.query_core.specs.Courses.{found_down, founds_of_zone, with_found, AreFoundThen, HasNoReplica, IsFoundThen}
 use Rattle.query_core.specs.Sessions.{IsFoundSo, IsResolvedSo}
 use Rattle.mon_topo.specs.Views.{View}
 use Rattle.query_core.specs.Traces.{found_leaves}
-use Rattle.mon_topo.specs.Serving.{is_avoided}
 use Rattle.query_core.proofs.LeafLemmas.{same_leaves}
 
 -- ---- what stays as histories grow

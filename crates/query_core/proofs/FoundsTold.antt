@@ -12,18 +12,16 @@ use Rattle.mon_value.specs.declared.positions.Range.{Range}
 use Rattle.mon_value.specs.declared.positions.RangeSlot.{RangeSlot}
 use Rattle.mon_value.specs.declared.tables.Table.{Table}
 use Rattle.mql_types.proofs.KeptRows.{all-filter}
-use Rattle.query_core.specs.Areas.{has_leaf}
+use Rattle.query_core.specs.Rounds.{has_leaf, read_at, unread_look, Round, next_range, round_of, with_slot}
+use Rattle.query_core.specs.Rounds.{QuerySetting}
 use Rattle.query_core.specs.Courses.{course_of, found_down, is_entered, left, with_found, with_next_zone}
 use Rattle.query_core.specs.Courses.{with_zone_answer}
 use Rattle.query_core.specs.Loadings.{is_whole, no_word, with_word}
-use Rattle.query_core.specs.Looks.{read_at, unread_look}
 use Rattle.query_core.specs.Mixtures.{Settles, TurnSettles, root_stage, zone_turn}
 use Rattle.query_core.specs.Program as spec
 use Rattle.query_core.specs.Program.{ask_of, let_some_in, next_zone}
-use Rattle.query_core.specs.Rounds.{Round, next_range, round_of, with_slot}
 use Rattle.query_core.specs.Sessions as session
 use Rattle.mon_topo.specs.Views.{View}
-use Rattle.query_core.specs.Settings.{QuerySetting}
 use Rattle.query_core.specs.Visits as visit
 use Rattle.query_core.specs.Visits.{Visits, next_leaf, with_look}
 use Rattle.query_core.specs.declared.answers.Answer.{Answer}

@@ -4,11 +4,8 @@ use Rattle.std.proofs.Common.{get_or, eqb, Contains, refl, sym, ap, subst, inl, 
 use Rattle.std.specs.List.{AllByRecursion as All}
 use Rattle.std.proofs.lemmas.Bool.{eqb-true, or_cases, or_left, or_right}
 use Rattle.std.proofs.lemmas.List.Folds.{list_any-append}
-use Rattle.mon_hints.specs.Formulas.{FormulaTrees}
-use Rattle.mon_hints.specs.Formulas.{all_named, any_holds}
-use Rattle.mon_hints.specs.HistoryBuckets.{rows_buckets}
-use Rattle.mon_hints.specs.Listings.{AreAmong, is_among}
-use Rattle.mon_hints.specs.Words.{buckets_of_child, has_bit}
+use Rattle.mon_hints.specs.Formulas.{FormulaTrees, all_named, any_holds, AreAmong, is_among}
+use Rattle.mon_hints.specs.Hints.{rows_buckets, buckets_of_child, has_bit}
 use Rattle.mon_topo.proofs.RangeHistoryLemmas.{all_at, all_from}
 use Rattle.mon_value.specs.declared.rows.Row.{Row}
 use Rattle.mon_value.specs.declared.rows.SeriesKey.{SeriesKey}

@@ -4,7 +4,7 @@ use Rattle.std.proofs.Common.{◌≡◌, ℕ, ℤ, Bool, true, false, List, [], 
 use Rattle.std.proofs.Common.{Result, Ok, Err, IfOk}
 use Rattle.std.specs.List.{AllByRecursion}
 use Rattle.mixer.specs.Divisions.{all_rows, together}
-use Rattle.mon_meaning.specs.ApartTargets.{AreApart, ShareNoTarget}
+use Rattle.mon_meaning.specs.ReadableSlots.{AreApart, ShareNoTarget}
 use Rattle.mixer.specs.ZoneAnswers.{AllZoneParts, AreLeafParts, AreZoneParts, HasLeafParts, HasZoneParts, IsZoneAnswer}
 use Rattle.mixer.specs.ZoneAnswers.{IsZonePart}
 use Rattle.mixer.specs.declared.zone_answers.ZoneAnswer.{ZoneAnswer}
@@ -28,8 +28,7 @@ use Rattle.query_core.specs.Courses.{with_next_zone, is_entered, with_zone_answe
 use Rattle.query_core.specs.Loadings.{no_word}
 use Rattle.query_core.specs.Mixtures.{HasParts, IsRootMixed, IsZoneMixed, MayMixRoot, TurnSettles, root_stage, typed_of}
 use Rattle.query_core.specs.Program.{next_zone, stopped_stage}
-use Rattle.query_core.specs.Rounds.{round_of}
-use Rattle.query_core.specs.Settings.{QuerySetting}
+use Rattle.query_core.specs.Rounds.{round_of, QuerySetting}
 
 -- ---- the last zone of several
 

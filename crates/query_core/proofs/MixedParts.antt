@@ -20,9 +20,8 @@ use Rattle.query_core.specs.declared.areas.Area.{Area}
 use Rattle.query_core.specs.declared.courses.Course.{Course}
 use Rattle.query_core.specs.declared.looks.Look.{Look}
 use Rattle.query_core.specs.Courses.{with_zone_behind, trace_of}
-use Rattle.query_core.specs.Looks.{unread_look}
+use Rattle.query_core.specs.Rounds.{unread_look, QuerySetting}
 use Rattle.query_core.specs.Mixtures.{HasParts, typed_of}
-use Rattle.query_core.specs.Settings.{QuerySetting}
 use Rattle.query_core.proofs.ChosenLeaves.{ChosenAscend, chosen_append, chosen_leaves}
 use Rattle.query_core.proofs.DividedRows.{SomeLeaves, divided_rows, rows_at, zone_rows}
 use Rattle.query_core.proofs.PartClaims.{CourseIn}

@@ -13,7 +13,7 @@ use Rattle.mon_value.specs.declared.histories.Histories.{Histories}
 use Rattle.mon_topo.specs.Settings.{Setting}
 use Rattle.mon_value.specs.declared.positions.Leaf.{Leaf}
 use Rattle.mon_value.specs.declared.rows.Row.{Row}
-use Rattle.mql_types.specs.Explanations.{op_levels}
+use Rattle.mql_types.specs.Plans.{op_levels}
 use Rattle.query_core.specs.declared.answers.Answer.{Answer}
 use Rattle.query_core.specs.declared.answers.Resolved.{Resolved}
 use Rattle.query_core.specs.declared.answers.RoundFault.{RoundFault}
@@ -29,11 +29,9 @@ use Rattle.query_core.specs.declared.stages.Step.{Step}
 use Rattle.query_core.specs.declared.stages.Step.TheVariants as step
 use Rattle.query_core.specs.declared.stages.Turn.{Turn}
 use Rattle.query_core.specs.declared.stages.Turn.TheVariants as turn
-use Rattle.query_core.specs.Areas.{area_of, leaf_at, range_at}
+use Rattle.query_core.specs.Rounds.{area_of, leaf_at, range_at, Round, slots_on, QuerySetting}
 use Rattle.query_core.specs.Courses.{with_zone_behind, trace_of}
 use Rattle.query_core.specs.Mixtures.{typed_of}
-use Rattle.query_core.specs.Rounds.{Round, slots_on}
-use Rattle.query_core.specs.Settings.{QuerySetting}
 use Rattle.mon_meaning.specs.ReadableSlots.{slot_rows}
 use Rattle.query_core.specs.Visits.{Visits}
 use Rattle.query_core.proofs.ReadLeaves.{IsUnread}

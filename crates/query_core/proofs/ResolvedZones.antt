@@ -3,22 +3,20 @@ use Rattle.std.proofs.Common.{◌≡◌, ◌∙◌, ◌<◌, ◌≤◌, ◌⊎�
 use Rattle.std.proofs.Common.{get_or, take, refl, sym, ap, arith}
 use Rattle.std.specs.List.{AllByRecursion, filter}
 use Rattle.std.proofs.lemmas.Bool.{cases_lt}
-use Rattle.mon_value.specs.Histories.{range_history}
+use Rattle.mon_value.specs.Histories.{range_history, range_numbered}
 use Rattle.mon_value.specs.declared.histories.Histories.{Histories}
 use Rattle.mon_topo.specs.HeldHistories.{AreHeld}
-use Rattle.mon_topo.specs.RangeHistories.{IsInZoneOf, serving}
+use Rattle.mon_topo.specs.RangeHistories.{IsInZoneOf, serving, first_serving, is_avoided}
 use Rattle.mon_topo.specs.Replicas.{HasReplicas}
-use Rattle.mon_value.specs.Positions.{range_numbered}
 use Rattle.mon_topo.specs.Zones.{ranges_in}
 use Rattle.mon_topo.specs.declared.zones.ZoneSpec.{ZoneSpec}
-use Rattle.mon_schema.specs.SchemaLists.{SchemaLists}
+use Rattle.mon_schema.specs.Names.{SchemaLists}
 use Rattle.mon_value.specs.declared.positions.Leaf.{Leaf}
 use Rattle.mon_value.specs.declared.positions.SlotLeaf.{SlotLeaf}
 use Rattle.mql_types.proofs.JoinedRows.{all-map, column_of_all}
 use Rattle.mql_types.proofs.KeptRows.{all-filter}
 use Rattle.query_core.specs.declared.answers.Resolved.{Resolved}
 use Rattle.query_core.specs.Traces.{IsFirstServing, replica_of}
-use Rattle.mon_topo.specs.Serving.{first_serving, is_avoided}
 use Rattle.query_core.proofs.AckedRows.{HasRows, serve_at}
 
 nothing_past : {X : Type 0} (lists : List (List X)) (n : ℕ) → length lists ≤ n → get_or lists n [] ≡ []

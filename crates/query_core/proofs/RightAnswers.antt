@@ -2,13 +2,11 @@
 use Rattle.std.proofs.Common.{◌≡◌, ◌∙◌, ◌≤ℤ◌, ◌-◌, ◌+◌, ◌⊎◌, inl, inr, ℕ, ℤ, pos, zero, suc, false, List, [], ◌∷◌}
 use Rattle.std.proofs.Common.{length, map, take, get_or, refl, sym, ap, subst, arith, Result, Ok, Err}
 use Rattle.std.specs.List.{AllByRecursion, sum}
-use Rattle.mon_hints.specs.Formulas.{all_named, formula_tree, formulas}
-use Rattle.mon_hints.specs.Listings.{AreAmong}
+use Rattle.mon_hints.specs.Formulas.{all_named, formula_tree, formulas, AreAmong}
 use Rattle.mon_topo.proofs.HeldLemmas.{seen_within_itself, seen_within_through}
 use Rattle.mon_value.specs.Histories.{leaf_history}
 use Rattle.mon_value.specs.declared.histories.Histories.{Histories}
-use Rattle.mon_topo.specs.HeldHistories.{AreHeld}
-use Rattle.mon_topo.specs.SeenHistories.{AreWithin}
+use Rattle.mon_topo.specs.HeldHistories.{AreHeld, AreWithin}
 use Rattle.mon_topo.specs.Settings.{Setting}
 use Rattle.mon_topo.specs.Zones.{first_leaf}
 use Rattle.mon_value.specs.declared.positions.FoundDown.{FoundDown}
@@ -29,16 +27,14 @@ use Rattle.query_core.specs.declared.stages.Step.{Step}
 use Rattle.query_core.specs.declared.stages.Step.TheVariants as step
 use Rattle.query_core.specs.declared.stages.Turn.{Turn}
 use Rattle.query_core.specs.declared.stages.Turn.TheVariants as turn
-use Rattle.query_core.specs.Findings.{HasNoReplica}
-use Rattle.query_core.specs.Looks.{unread_look}
+use Rattle.query_core.specs.Courses.{HasNoReplica}
+use Rattle.query_core.specs.Rounds.{unread_look, slots_on, QuerySetting}
 use Rattle.query_core.specs.Machine.{Query, avoided_after, new_query, slots_at}
 use Rattle.query_core.specs.Mixtures.{typed_of, zone_turn}
 use Rattle.query_core.specs.Program as spec
-use Rattle.query_core.specs.Rounds.{slots_on}
 use Rattle.query_core.specs.SentTold.{sent_told}
 use Rattle.query_core.specs.Sessions as session
 use Rattle.mon_topo.specs.Views.{IsSound, View}
-use Rattle.query_core.specs.Settings.{QuerySetting}
 use Rattle.query_core.specs.Traces.{IsFirstServing, is_wanted}
 use Rattle.mon_meaning.specs.ReadableSlots.{slot_rows}
 use Rattle.query_core.proofs.SentSums.{StageSent, sent_session}

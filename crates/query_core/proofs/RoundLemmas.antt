@@ -15,9 +15,9 @@ use Rattle.mon_value.specs.declared.positions.Slot.{Slot}
 use Rattle.std.proofs.lemmas.List.FromFn.{length-map-range_with_len}
 use Rattle.query_core.specs.declared.answers.Resolved.{Resolved}
 use Rattle.query_core.specs.declared.areas.Area.{Area}
-use Rattle.mon_value.specs.Positions.{leaf_numbered, same_leaf}
-use Rattle.query_core.specs.Areas.{has_leaf, leaf_at}
-use Rattle.query_core.specs.Rounds.{Round, is_to_visit, resolution, slot_added_at, slot_of, slots_by_leaf, slots_on}
+use Rattle.mon_value.specs.Histories.{leaf_numbered, same_leaf}
+use Rattle.query_core.specs.Rounds.{has_leaf, leaf_at, Round, is_to_visit, resolution, slot_added_at, slot_of}
+use Rattle.query_core.specs.Rounds.{slots_by_leaf, slots_on}
 
 slots_more : (leaf : Leaf) (resolved : List Resolved) (one : Resolved)
     → slots_on leaf (resolved ++ one ∷ [])

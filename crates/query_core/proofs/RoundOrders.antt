@@ -11,15 +11,14 @@ use Rattle.mon_value.specs.declared.positions.Range.{Range}
 use Rattle.mon_value.specs.declared.positions.Slot.{Slot}
 use Rattle.query_core.proofs.OrderLemmas.{chosen_whole, leaf_visited, none_left, one_on, resolves_all, resolves_next}
 use Rattle.query_core.proofs.OrderLemmas.{resolves_none, round_begins, words_next, words_none, zones_last}
-use Rattle.query_core.specs.Areas.{leaf_at, range_at}
+use Rattle.query_core.specs.Rounds.{leaf_at, range_at, Round, is_to_visit, resolution, round_of, with_slot}
+use Rattle.query_core.specs.Rounds.{QuerySetting}
 use Rattle.query_core.specs.Courses.{with_found}
 use Rattle.query_core.specs.Loadings.{is_whole, next_bucket, with_word}
 use Rattle.plan_split.specs.Meeting.{let_in}
 use Rattle.query_core.specs.Orders.{ComeInOrder, ComeWholeInOrder, IsRoundInOrder, IsZoneInOrder, ZoneCourse}
 use Rattle.query_core.specs.Orders.{areas_of_zones, chosen_areas, entered_areas, query_events, resolve_events}
 use Rattle.query_core.specs.Program as spec
-use Rattle.query_core.specs.Rounds.{Round, is_to_visit, resolution, round_of, with_slot}
-use Rattle.query_core.specs.Settings.{QuerySetting}
 use Rattle.query_core.specs.Visits as visit
 use Rattle.query_core.specs.Visits.{Visits, first_left}
 use Rattle.query_core.specs.declared.answers.Answer.{Answer}

@@ -4,14 +4,13 @@ use Rattle.std.proofs.Common.{subst, append_assoc, arith}
 use Rattle.std.specs.Prelude.{Option, Some, None, filter, slice_get}
 use Rattle.std.specs.List.{AllByRecursion as All, range_with_len}
 use Rattle.std.proofs.lemmas.List.FromFn.{get_or-map-range_with_len}
-use Rattle.mon_schema.specs.SchemaLists.{SchemaLists}
-use Rattle.mon_value.specs.Histories.{range_history}
+use Rattle.mon_schema.specs.Names.{SchemaLists}
+use Rattle.mon_value.specs.Histories.{range_history, range_numbered}
 use Rattle.mon_value.specs.declared.histories.Histories.{Histories}
-use Rattle.mon_topo.specs.HeldHistories.{AreHeld, BeginsWith}
-use Rattle.mon_topo.specs.RangeHistories.{serving}
+use Rattle.mon_topo.specs.HeldHistories.{AreHeld, BeginsWith, AreWithin, first_histories, first_range_history}
+use Rattle.mon_topo.specs.HeldHistories.{openings_from, slot_numbered}
+use Rattle.mon_topo.specs.RangeHistories.{serving, first_serving, is_avoided}
 use Rattle.mon_topo.specs.Replicas.{HasReplicas}
-use Rattle.mon_topo.specs.SeenHistories.{AreWithin}
-use Rattle.mon_value.specs.Positions.{range_numbered}
 use Rattle.mon_topo.specs.Zones.{first_replicas, ranges_in}
 use Rattle.mon_topo.specs.declared.zones.ZoneSpec.{ZoneSpec}
 use Rattle.mon_value.specs.declared.histories.RangeEntry.{RangeEntry}
@@ -20,10 +19,8 @@ use Rattle.mon_value.specs.declared.positions.Range.{Range}
 use Rattle.mon_value.specs.declared.positions.SlotLeaf.{SlotLeaf}
 use Rattle.query_core.specs.Sessions.{IsSeenSo}
 use Rattle.query_core.specs.Traces.{replica_of}
-use Rattle.mon_topo.specs.Serving.{first_serving, is_avoided}
 use Rattle.query_core.specs.declared.answers.Resolved.{Resolved}
 use Rattle.mon_topo.proofs.ServingLemmas.{HasFirst, first_serves}
-use Rattle.mon_topo.specs.FirstHistories.{first_histories, first_range_history, openings_from, slot_numbered}
 use Rattle.query_core.specs.SeenSights.{firsts_from, seen_of, with_first_replica}
 use Rattle.mon_topo.specs.Sights.{range_sight, sight_of}
 use Rattle.mon_topo.specs.declared.sights.RangeSight.{RangeSight}

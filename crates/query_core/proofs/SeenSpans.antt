@@ -8,18 +8,16 @@ use Rattle.std.proofs.lemmas.List.{get_or-drop, get_or-map, get_or-take, length-
 use Rattle.std.proofs.lemmas.List.{drop-map, take-map, take-take, take_all}
 use Rattle.std.proofs.lemmas.List.Elements.{Contains-append_right}
 use Rattle.std.proofs.lemmas.List.FromFn.{length-map-range_with_len}
-use Rattle.mon_hints.specs.HistoryBuckets.{history_buckets}
+use Rattle.mon_hints.specs.Hints.{history_buckets}
 use Rattle.mon_schema.specs.Fits.{fits}
-use Rattle.mon_schema.specs.SchemaLists.{SchemaLists}
+use Rattle.mon_schema.specs.Names.{SchemaLists}
 use Rattle.mon_topo.proofs.FrontLemmas.{begins-flat_map, begins_length, begins_to}
 use Rattle.mon_topo.proofs.RangeHistoryLemmas.{all_at, all_back, all_from, all_front, all_on}
 use Rattle.mon_topo.specs.Replicas.{HasReplicas}
-use Rattle.mon_value.specs.Histories.{leaf_history, range_history}
+use Rattle.mon_value.specs.Histories.{leaf_history, range_history, range_numbered}
 use Rattle.mon_value.specs.declared.histories.Histories.{Histories}
-use Rattle.mon_topo.specs.HeldHistories.{AreAtHome, AreHeld, BeginsWith}
-use Rattle.mon_topo.specs.RangeHistories.{acknowledged_rows, acked_row, serving}
-use Rattle.mon_topo.specs.SeenHistories.{AreWithin}
-use Rattle.mon_value.specs.Positions.{range_numbered}
+use Rattle.mon_topo.specs.HeldHistories.{AreAtHome, AreHeld, BeginsWith, AreWithin}
+use Rattle.mon_topo.specs.RangeHistories.{acknowledged_rows, acked_row, serving, first_serving, is_avoided}
 use Rattle.mon_topo.specs.Zones.{first_leaf, first_range, no_zone, ranges_in}
 use Rattle.mon_topo.specs.declared.zones.ZoneSpec.{ZoneSpec}
 use Rattle.mon_value.specs.LeafHistories.{brought_rows, entry_rows, leaf_rows, replica_rows, same_replica}
@@ -38,12 +36,9 @@ use Rattle.query_core.proofs.Spans.{IsLookedAt, ResolvedSo, SpanSo, StandsAt, St
 use Rattle.query_core.proofs.Spans.{outside, range_of, resolved_on, up_to}
 use Rattle.mon_topo.proofs.SizeLemmas.{parts_so_far}
 use Rattle.query_core.proofs.ZoneFacts.{leaf_zoned, leaves_next, ranges_next}
-use Rattle.query_core.specs.Areas.{area_of}
-use Rattle.query_core.specs.Looks.{unread_look}
-use Rattle.query_core.specs.Rounds.{slots_on}
+use Rattle.query_core.specs.Rounds.{area_of, unread_look, slots_on}
 use Rattle.query_core.specs.Traces.{IsFirstServing, replica_of}
 use Rattle.mon_meaning.specs.ReadableSlots.{slot_rows}
-use Rattle.mon_topo.specs.Serving.{first_serving, is_avoided}
 use Rattle.query_core.specs.declared.answers.Resolved.{Resolved}
 use Rattle.query_core.specs.declared.looks.Look.{Look}
 

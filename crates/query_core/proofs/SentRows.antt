@@ -7,24 +7,22 @@ use Rattle.std.proofs.lemmas.List.{map-append}
 use Rattle.mon_value.specs.declared.histories.Histories.{Histories}
 use Rattle.mon_topo.specs.HeldHistories.{AreHeld}
 use Rattle.mon_topo.specs.Settings.{Setting}
-use Rattle.mon_value.specs.Positions.{leaf_numbered}
+use Rattle.mon_value.specs.Histories.{leaf_numbered}
 use Rattle.mon_topo.specs.Zones.{first_leaf}
 use Rattle.mon_value.specs.declared.positions.Leaf.{Leaf}
 use Rattle.mon_value.specs.declared.rows.Row.{Row}
 use Rattle.mon_fold.specs.declared.answers.LeafAnswer.{LeafAnswer}
 use Rattle.mql_types.proofs.KeptRows.{all-append}
-use Rattle.mql_types.specs.Pieces.{sent_amount}
+use Rattle.mql_types.specs.Levels.{sent_amount}
 use Rattle.query_core.specs.Askings.{IsAskedOf}
 use Rattle.query_core.specs.declared.answers.Resolved.{Resolved}
 use Rattle.query_core.specs.declared.answers.Trace.{Trace}
 use Rattle.query_core.specs.declared.areas.Area.{Area}
 use Rattle.query_core.specs.declared.courses.Course.{Course}
 use Rattle.query_core.specs.declared.looks.Look.{Look}
-use Rattle.query_core.specs.Areas.{area_of}
+use Rattle.query_core.specs.Rounds.{area_of, unread_look, QuerySetting}
 use Rattle.query_core.specs.Courses.{with_zone_behind, trace_of}
-use Rattle.query_core.specs.Looks.{unread_look}
 use Rattle.query_core.specs.Mixtures.{typed_of}
-use Rattle.query_core.specs.Settings.{QuerySetting}
 use Rattle.query_core.specs.Traces.{rows_on, sent_by, sent_if, was_read}
 use Rattle.query_core.proofs.DividedRows.{all_both}
 use Rattle.query_core.proofs.MixedParts.{stand_before}

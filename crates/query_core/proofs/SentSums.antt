@@ -17,20 +17,18 @@ use Rattle.query_core.proofs.PartClaims.{StageParts, VisitSo}
 use Rattle.query_core.proofs.ReadLeaves.{IsUnread, SendsNothing}
 use Rattle.query_core.proofs.SessionParts.{Keeps, step_parts}
 use Rattle.query_core.proofs.VisitParts.{looks_at}
-use Rattle.query_core.specs.Areas.{areas_of}
+use Rattle.query_core.specs.Rounds.{areas_of, read_at, unread_look, Round, next_range, round_of, with_slot}
+use Rattle.query_core.specs.Rounds.{QuerySetting}
 use Rattle.query_core.specs.Courses.{course_of, cuts_seen, found_down, is_entered, left, with_found}
 use Rattle.query_core.specs.Courses.{with_next_zone, with_zone_answer}
 use Rattle.query_core.specs.Loadings.{is_whole, no_word, with_word}
-use Rattle.query_core.specs.Looks.{read_at, unread_look}
 use Rattle.query_core.specs.Machine.{Query, slots_at}
 use Rattle.query_core.specs.Mixtures.{Settles, TurnSettles, root_stage, zone_turn}
 use Rattle.query_core.specs.Program as spec
 use Rattle.query_core.specs.Program.{ask_of, let_some_in, next_zone}
-use Rattle.query_core.specs.Rounds.{Round, next_range, round_of, with_slot}
 use Rattle.query_core.specs.SentTold.{answer_sent, sent_told}
 use Rattle.query_core.specs.Sessions as session
 use Rattle.mon_topo.specs.Views.{IsSound, View}
-use Rattle.query_core.specs.Settings.{QuerySetting}
 use Rattle.query_core.specs.Visits as visit
 use Rattle.query_core.specs.Visits.{Visits, next_leaf, with_look}
 use Rattle.query_core.specs.declared.answers.Answer.{Answer}

@@ -1,13 +1,12 @@
 -- What a licensed session keeps up to its last event.
 use Rattle.std.proofs.Common.{◌≡◌, ℤ, List, [], ◌∷◌}
 use Rattle.mon_topo.proofs.HeldLemmas.{seen_within_itself, seen_within_through}
-use Rattle.mon_topo.specs.SeenHistories.{AreWithin}
+use Rattle.mon_topo.specs.HeldHistories.{AreWithin}
 use Rattle.mon_topo.specs.Settings.{Setting}
-use Rattle.query_core.specs.Areas.{areas_of}
+use Rattle.query_core.specs.Rounds.{areas_of, QuerySetting}
 use Rattle.query_core.specs.Machine.{Query, new_query}
 use Rattle.query_core.specs.Sessions as session
 use Rattle.mon_topo.specs.Views.{IsSound, View}
-use Rattle.query_core.specs.Settings.{QuerySetting}
 use Rattle.query_core.proofs.PartClaims.{StageParts}
 use Rattle.query_core.proofs.SessionParts.{Keeps, session_parts}
 use Rattle.query_core.proofs.UnreadLeaves.{TellsOf}

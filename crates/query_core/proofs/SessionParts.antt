@@ -15,7 +15,7 @@ use Rattle.query_core.specs.declared.stages.Step.{Step}
 use Rattle.query_core.specs.declared.stages.Step.TheVariants as step
 use Rattle.query_core.specs.declared.stages.Turn.{Turn}
 use Rattle.query_core.specs.declared.stages.Turn.TheVariants as turn
-use Rattle.query_core.specs.Areas.{areas_of}
+use Rattle.query_core.specs.Rounds.{areas_of, QuerySetting}
 use Rattle.query_core.specs.Courses.{with_zone_answer}
 use Rattle.query_core.specs.Machine.{Query}
 use Rattle.mon_value.specs.declared.rows.Row.{Row}
@@ -23,7 +23,6 @@ use Rattle.query_core.specs.Mixtures.{RootMixes, Settles, TurnSettles, ZoneMixes
 use Rattle.query_core.specs.Program as spec
 use Rattle.query_core.specs.Sessions as session
 use Rattle.mon_topo.specs.Views.{IsSound, View}
-use Rattle.query_core.specs.Settings.{QuerySetting}
 use Rattle.query_core.proofs.AnswerParts.{answer_parts}
 use Rattle.query_core.proofs.PartClaims.{CourseAt, CourseThrough, GatheredSo, StageParts, StepParts, TurnParts}
 use Rattle.query_core.proofs.ZoneParts.{next_so}

@@ -8,15 +8,13 @@ use Rattle.std.proofs.lemmas.Bool.Decides.{nat_tests}
 use Rattle.std.proofs.lemmas.List.{get_or_append_left, get_or-append_right, map-append}
 use Rattle.std.proofs.lemmas.List.Elements.{filter-append}
 use Rattle.std.proofs.lemmas.List.Folds.{list_any-append}
-use Rattle.mon_hints.specs.HistoryBuckets.{history_buckets}
+use Rattle.mon_hints.specs.Hints.{history_buckets}
 use Rattle.mon_topo.proofs.FrontLemmas.{begins-flat_map, begins_length, begins_to, contains_on, take_on}
 use Rattle.mon_topo.proofs.RangeHistoryLemmas.{all_append, all_on}
-use Rattle.mon_value.specs.Histories.{leaf_history, range_history}
+use Rattle.mon_value.specs.Histories.{leaf_history, range_history, range_numbered, same_leaf}
 use Rattle.mon_value.specs.declared.histories.Histories.{Histories}
-use Rattle.mon_topo.specs.HeldHistories.{BeginsWith}
-use Rattle.mon_topo.specs.RangeHistories.{acknowledged_rows, serving}
-use Rattle.mon_topo.specs.SeenHistories.{AreWithin}
-use Rattle.mon_value.specs.Positions.{range_numbered, same_leaf}
+use Rattle.mon_topo.specs.HeldHistories.{BeginsWith, AreWithin}
+use Rattle.mon_topo.specs.RangeHistories.{acknowledged_rows, serving, first_serving, is_avoided}
 use Rattle.mon_value.proofs.LeafHistoryLemmas.{is_opened-append}
 use Rattle.mon_value.specs.LeafHistories.{entry_rows, is_opened, replica_rows}
 use Rattle.mon_value.specs.declared.histories.Entry.{Entry}
@@ -27,11 +25,9 @@ use Rattle.mon_value.specs.declared.positions.RangeSlot.{RangeSlot}
 use Rattle.mon_value.specs.declared.positions.SlotLeaf.{SlotLeaf}
 use Rattle.mon_value.specs.declared.rows.Row.{Row}
 use Rattle.mon_value.specs.declared.rows.SeriesKey.{SeriesKey}
-use Rattle.query_core.specs.Looks.{unread_look}
-use Rattle.query_core.specs.Rounds.{slot_of, slots_on}
+use Rattle.query_core.specs.Rounds.{unread_look, slot_of, slots_on}
 use Rattle.query_core.specs.Traces.{IsBetween, IsFirstServing}
 use Rattle.mon_meaning.specs.ReadableSlots.{slot_rows}
-use Rattle.mon_topo.specs.Serving.{first_serving, is_avoided}
 use Rattle.query_core.specs.declared.answers.Resolved.{Resolved}
 use Rattle.query_core.specs.declared.looks.Look.{Look}
 

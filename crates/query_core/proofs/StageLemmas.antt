@@ -16,10 +16,8 @@ use Rattle.query_core.specs.Loadings.{no_word, with_word}
 use Rattle.query_core.specs.Mixtures.{LeadsTo, MayBeTold, MayMix, Settles}
 use Rattle.query_core.specs.declared.asks.Told.{Told}
 use Rattle.query_core.specs.Program.{after, loaded_again, next_zone}
-use Rattle.query_core.specs.Areas.{has_leaf}
+use Rattle.query_core.specs.Rounds.{has_leaf, Round, round_of, slots_on, QuerySetting}
 use Rattle.query_core.specs.Machine.{slots_in}
-use Rattle.query_core.specs.Rounds.{Round, round_of, slots_on}
-use Rattle.query_core.specs.Settings.{QuerySetting}
 use Rattle.query_core.specs.Visits.{but_first, first_left}
 
 next_by : (course : Course) (area : Area) (areas : List Area) (enter : Bool) → is_entered course ≡ enter

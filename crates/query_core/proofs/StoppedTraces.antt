@@ -12,16 +12,15 @@ use Rattle.mon_fold.specs.declared.answers.LeafAnswer.{LeafAnswer}
 use Rattle.mon_meaning.specs.Central.{IsOver}
 use Rattle.mon_meaning.specs.LeafAnswers.{IsOverLeaf}
 use Rattle.mon_meaning.specs.declared.meter.OverLimit.{OverLimit}
-use Rattle.mon_value.specs.Histories.{leaf_history}
+use Rattle.mon_value.specs.Histories.{leaf_history, leaf_numbered, same_leaf}
 use Rattle.mon_value.specs.declared.histories.Histories.{Histories}
 use Rattle.mon_topo.specs.HeldHistories.{AreHeld}
-use Rattle.mon_value.specs.Positions.{leaf_numbered, same_leaf}
 use Rattle.mon_topo.specs.Zones.{first_leaf, leaf_zones}
 use Rattle.mon_value.specs.declared.positions.Leaf.{Leaf}
 use Rattle.mon_value.specs.declared.refusals.Refusal.TheVariants as refusal
 use Rattle.mon_value.specs.declared.rows.Row.{Row}
 use Rattle.mql_types.proofs.JoinedRows.{all-map}
-use Rattle.mql_types.specs.Loads.{load}
+use Rattle.mql_types.specs.Meaning.{load}
 use Rattle.mon_topo.specs.Settings.{Setting}
 use Rattle.query_core.specs.Askings.{IsAskedOf}
 use Rattle.query_core.specs.declared.answers.Resolved.{Resolved}
@@ -29,12 +28,9 @@ use Rattle.query_core.specs.declared.answers.Trace.{Trace}
 use Rattle.query_core.specs.declared.areas.Area.{Area}
 use Rattle.query_core.specs.declared.courses.Course.{Course}
 use Rattle.query_core.specs.declared.looks.Look.{Look}
-use Rattle.query_core.specs.Areas.{area_of, leaf_at}
+use Rattle.query_core.specs.Rounds.{area_of, leaf_at, unread_look, slots_on, QuerySetting}
 use Rattle.query_core.specs.Courses.{with_zone_behind, trace_of}
-use Rattle.query_core.specs.Looks.{unread_look}
 use Rattle.query_core.specs.Mixtures.{typed_of}
-use Rattle.query_core.specs.Rounds.{slots_on}
-use Rattle.query_core.specs.Settings.{QuerySetting}
 use Rattle.query_core.specs.Traces.{source_of}
 use Rattle.mon_meaning.specs.ReadableSlots.{slot_rows}
 use Rattle.query_core.proofs.ChosenLeaves.{ChosenAscend, among_append, among_behind, among_zones, front_among}

@@ -10,9 +10,8 @@ use Rattle.query_core.specs.declared.answers.Resolved.{Resolved}
 use Rattle.query_core.specs.declared.areas.Area.{Area}
 use Rattle.query_core.specs.declared.courses.Course.{Course}
 use Rattle.query_core.specs.declared.looks.Look.{Look}
-use Rattle.query_core.specs.Areas.{area_of}
+use Rattle.query_core.specs.Rounds.{area_of, QuerySetting}
 use Rattle.query_core.specs.Courses.{with_zone_behind, trace_of}
-use Rattle.query_core.specs.Settings.{QuerySetting}
 use Rattle.query_core.proofs.SegmentFacts.{AreFrom, Behind, IsWhole, Mixed, Passed, RangesFrom, Segment, SegmentSo}
 use Rattle.query_core.proofs.SegmentFacts.{SeenSo, area_in, looks_in, ranges_append, ranges_behind, resolved_in}
 use Rattle.query_core.proofs.ZoneFacts.{leaves_next, ranges_next}

@@ -1,14 +1,14 @@
 -- What a licensed session asks of is there, and may be told truly; and the slots of a leaf that it visits can be read.
 use Rattle.std.proofs.Common.{◌≡◌, ◌≤ℤ◌, ℕ, ℤ, pos, true, List, length, take, sym, ap, subst}
 use Rattle.mon_value.specs.Histories.{leaf_history}
-use Rattle.mon_topo.specs.SeenHistories.{AreWithin}
+use Rattle.mon_topo.specs.HeldHistories.{AreWithin}
 use Rattle.mon_topo.specs.Settings.{Setting}
 use Rattle.mon_topo.specs.Zones.{first_leaf}
 use Rattle.mon_value.specs.declared.positions.Leaf.{Leaf}
 use Rattle.mon_value.specs.declared.positions.RangeSlot.{RangeSlot}
 use Rattle.query_core.specs.AskedPlaces.{IsThere}
 use Rattle.query_core.specs.Askings.{IsAskedOf}
-use Rattle.query_core.specs.Areas.{has_leaf}
+use Rattle.query_core.specs.Rounds.{has_leaf, Round, QuerySetting}
 use Rattle.query_core.specs.declared.asks.Ask.TheVariants as ask
 use Rattle.query_core.specs.declared.asks.Told.{Told}
 use Rattle.query_core.specs.declared.courses.Course.{Course}
@@ -24,10 +24,8 @@ use Rattle.query_core.specs.Mixtures.{HasParts, MayBeTold, MayMix, MayMixRoot, t
 use Rattle.query_core.specs.Program as spec
 use Rattle.query_core.specs.Program.{ask_of}
 use Rattle.mon_meaning.specs.ReadableSlots.{CanBeRead}
-use Rattle.query_core.specs.Rounds.{Round}
 use Rattle.query_core.specs.Sessions as session
 use Rattle.mon_topo.specs.Views.{IsSound, IsViewWithin, View}
-use Rattle.query_core.specs.Settings.{QuerySetting}
 use Rattle.query_core.specs.Traces.{IsBetween}
 use Rattle.query_core.specs.Visits.{Visits}
 use Rattle.query_core.proofs.MixedParts.{zone_mixes}

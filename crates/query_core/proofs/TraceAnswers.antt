@@ -6,18 +6,15 @@ use Rattle.std.proofs.lemmas.Bool.{or_cases, or_left, or_right}
 use Rattle.std.proofs.lemmas.List.{get_or-map, length-map}
 use Rattle.std.proofs.lemmas.List.Elements.{Contains-append_right}
 use Rattle.mon_hints.specs.Formulas.{FormulaTree, any_holds, formula_tree, formulas, holds}
-use Rattle.mon_hints.specs.Hints.{series_buckets}
-use Rattle.mon_hints.specs.HistoryBuckets.{history_buckets}
+use Rattle.mon_hints.specs.Hints.{series_buckets, history_buckets}
 use Rattle.mon_schema.specs.Fits.{fits, fits_both, row_fits}
-use Rattle.mon_schema.specs.SchemaLists.{SchemaLists, metric_named, target_named}
+use Rattle.mon_schema.specs.Names.{SchemaLists, metric_named, target_named}
 use Rattle.mon_topo.proofs.RangeHistoryLemmas.{all_at, all_on}
-use Rattle.mon_value.specs.Histories.{leaf_history, range_history}
+use Rattle.mon_value.specs.Histories.{leaf_history, range_history, range_numbered}
 use Rattle.mon_value.specs.declared.histories.Histories.{Histories}
-use Rattle.mon_topo.specs.HeldHistories.{AreHeld}
+use Rattle.mon_topo.specs.HeldHistories.{AreHeld, AreWithin}
 use Rattle.mon_topo.specs.RangeHistories.{acknowledged_rows}
-use Rattle.mon_topo.specs.SeenHistories.{AreWithin}
 use Rattle.mon_topo.specs.Settings.{Setting}
-use Rattle.mon_value.specs.Positions.{range_numbered}
 use Rattle.mon_topo.specs.Zones.{first_leaf}
 use Rattle.mon_value.specs.LeafHistories.{IsDownAt, is_opened, leaf_rows, replica_rows}
 use Rattle.mon_value.specs.declared.histories.Entry.{Entry}
@@ -28,25 +25,22 @@ use Rattle.mon_value.specs.declared.positions.Range.{Range}
 use Rattle.mon_value.specs.declared.rows.Row.{Row}
 use Rattle.mon_value.specs.declared.schemas.MetricSchema.{MetricSchema}
 use Rattle.mon_value.specs.declared.schemas.TargetSchema.{TargetSchema}
-use Rattle.mql_types.specs.Loads.{meets}
+use Rattle.mql_types.specs.Meaning.{meets}
 use Rattle.mql_types.specs.Nodes.{NodeTree}
-use Rattle.mql_types.specs.Pieces.{sent_amount}
+use Rattle.mql_types.specs.Levels.{sent_amount}
 use Rattle.mql_types.specs.Plans.{fetches}
 use Rattle.plan_split.proofs.FitLemmas.{fields_of_fitting}
-use Rattle.plan_split.specs.Promises.{AllHoldWhereMet}
+use Rattle.plan_split.specs.Meeting.{AllHoldWhereMet, is_plan_met}
 use Rattle.query_core.proofs.AckedRows.{in_flat_map}
 use Rattle.query_core.proofs.HintFacts.{none_wanted}
 use Rattle.query_core.proofs.Spans.{ResolvedSo, StandsAt, look_at, range_of, up_to}
 use Rattle.query_core.proofs.TraceClaims as claim
 use Rattle.query_core.proofs.ZoneFacts.{all_leaves, all_ranges}
 use Rattle.query_core.specs.Askings.{IsAskedOf}
-use Rattle.query_core.specs.Findings.{IsFoundThen}
-use Rattle.query_core.specs.Looks.{unread_look}
+use Rattle.query_core.specs.Courses.{IsFoundThen}
+use Rattle.query_core.specs.Rounds.{unread_look, slots_on, QuerySetting}
 use Rattle.query_core.specs.Mixtures.{typed_of}
-use Rattle.plan_split.specs.Meeting.{is_plan_met}
-use Rattle.query_core.specs.Rounds.{slots_on}
 use Rattle.mon_topo.specs.Views.{View}
-use Rattle.query_core.specs.Settings.{QuerySetting}
 use Rattle.query_core.specs.Traces.{IsFirstServing, IsFresh, IsReadRightly, IsTraceOf, cut_of, is_wanted, looked_at}
 use Rattle.query_core.specs.Traces.{resolved_rows}
 use Rattle.query_core.specs.Traces.{rows_on, sent_by, sent_if, source_of, was_read}

@@ -2,15 +2,14 @@
 use Rattle.std.proofs.Common.{◌≡◌, ℕ, ◌+◌, ◌<◌, ◌≤◌, Bool, false, List, [], ◌∷◌, length, map, Contains, Ok, Err, Result}
 use Rattle.std.specs.List.{AllByRecursion as All, range_with_len}
 use Rattle.mon_hints.specs.Covers.{AreBitsWithin, StaysSet, Bits}
-use Rattle.mon_hints.specs.HistoryBuckets.{history_buckets}
+use Rattle.mon_hints.specs.Hints.{history_buckets}
 use Rattle.mon_topo.proofs.HeldLemmas.{seen_within_through}
 use Rattle.mon_topo.proofs.RangeHistoryLemmas.{all_on}
-use Rattle.mon_value.specs.Histories.{leaf_history, range_history}
+use Rattle.mon_value.specs.Histories.{leaf_history, range_history, range_numbered}
 use Rattle.mon_value.specs.declared.histories.Histories.{Histories}
 use Rattle.mon_topo.specs.RangeHistories.{acknowledged_rows}
-use Rattle.mon_topo.specs.SeenHistories.{AreWithin}
+use Rattle.mon_topo.specs.HeldHistories.{AreWithin}
 use Rattle.mon_topo.specs.Settings.{Setting}
-use Rattle.mon_value.specs.Positions.{range_numbered}
 use Rattle.mon_topo.specs.Zones.{first_leaf, first_range}
 use Rattle.mon_topo.specs.declared.zones.ZoneSpec.{ZoneSpec}
 use Rattle.mon_value.specs.declared.positions.FoundDown.{FoundDown}
@@ -20,14 +19,12 @@ use Rattle.mon_value.specs.declared.rows.Row.{Row}
 use Rattle.query_core.proofs.FindingLemmas.{KeepsFounds, founds_on, no_replica_on}
 use Rattle.query_core.proofs.HintFacts.{AreKnown}
 use Rattle.query_core.proofs.Spans.{ResolvedSo, SpanSo, StandsIn, range_of, resolved_on, span_on, stands_on}
-use Rattle.query_core.specs.Areas.{area_of, range_at}
-use Rattle.query_core.specs.Findings.{HasNoReplica}
+use Rattle.query_core.specs.Rounds.{area_of, range_at, Round, QuerySetting}
+use Rattle.query_core.specs.Courses.{HasNoReplica}
 use Rattle.query_core.specs.Mixtures.{typed_of}
 use Rattle.plan_split.specs.Meeting.{flag_at, is_plan_met}
-use Rattle.query_core.specs.Rounds.{Round}
 use Rattle.query_core.specs.Sessions.{IsSeenSo}
 use Rattle.mon_topo.specs.Views.{IsSound, IsViewWithin, View}
-use Rattle.query_core.specs.Settings.{QuerySetting}
 use Rattle.query_core.specs.Traces.{is_wanted}
 use Rattle.query_core.specs.Visits.{Visits}
 use Rattle.query_core.specs.declared.answers.Answer.{Answer}

@@ -4,7 +4,7 @@ use Rattle.std.proofs.Common.{◌≡◌, ◌∙◌, ◌<◌, ◌≤ℤ◌, inl, 
 use Rattle.mon_meaning.specs.Central.{IsMeant}
 use Rattle.mon_value.specs.declared.histories.Histories.{Histories}
 use Rattle.mon_topo.specs.HeldHistories.{AreHeld}
-use Rattle.mql_types.specs.Loads.{load}
+use Rattle.mql_types.specs.Meaning.{load}
 use Rattle.mon_topo.specs.Settings.{Setting}
 use Rattle.query_core.specs.Askings.{IsAskedOf}
 use Rattle.query_core.specs.declared.answers.Answer.{Answer}
@@ -12,7 +12,7 @@ use Rattle.query_core.specs.declared.answers.Trace.{Trace}
 use Rattle.query_core.specs.declared.courses.Course.{Course}
 use Rattle.query_core.specs.Courses.{with_zone_behind, trace_of}
 use Rattle.query_core.specs.Mixtures.{typed_of}
-use Rattle.query_core.specs.Settings.{QuerySetting}
+use Rattle.query_core.specs.Rounds.{QuerySetting}
 use Rattle.query_core.specs.Traces.{source_of}
 use Rattle.query_core.proofs.PartClaims.{AnsweredSo, LeafOver, OverSo, RootOver, ZoneOver}
 use Rattle.query_core.proofs.SentRows.{AllSent, stopped_sends, whole_sends}

@@ -6,11 +6,11 @@ use Rattle.std.specs.List.{AllByRecursion as All, flat_map}
 use Rattle.std.proofs.lemmas.Bool.Decides.{nat_tests}
 use Rattle.std.proofs.lemmas.List.{get_or_past, take-append-drop, take-take}
 use Rattle.std.proofs.lemmas.List.Concat.{flat_map-append}
-use Rattle.mon_hints.specs.HistoryBuckets.{history_buckets}
+use Rattle.mon_hints.specs.Hints.{history_buckets}
 use Rattle.mon_topo.proofs.FrontLemmas.{take_on}
 use Rattle.mon_topo.proofs.HeldLemmas.{down_on}
 use Rattle.mon_topo.proofs.RangeHistoryLemmas.{all_front, all_on}
-use Rattle.mon_topo.specs.RangeHistories.{acked_row, acknowledged_rows}
+use Rattle.mon_topo.specs.RangeHistories.{acked_row, acknowledged_rows, first_serving}
 use Rattle.mon_value.specs.Histories.{leaf_history, range_history}
 use Rattle.mon_value.specs.LeafHistories.{IsDownAt, is_opened, replica_rows}
 use Rattle.mon_value.specs.declared.histories.Entry.{Entry}
@@ -21,16 +21,15 @@ use Rattle.mon_value.specs.declared.positions.Leaf.{Leaf}
 use Rattle.mon_value.specs.declared.rows.Row.{Row}
 use Rattle.mon_value.specs.declared.rows.SeriesKey.{SeriesKey}
 use Rattle.mql_types.specs.Nodes.{TypedTree}
-use Rattle.mql_types.specs.Pieces.{sent_amount}
+use Rattle.mql_types.specs.Levels.{sent_amount}
 use Rattle.mql_types.specs.declared.plans.Plan.{Plan}
-use Rattle.query_core.specs.Findings.{IsFoundBetween}
+use Rattle.query_core.specs.Courses.{IsFoundBetween}
 use Rattle.plan_split.specs.Meeting.{is_plan_met}
 use Rattle.query_core.specs.Rounds.{slots_on}
 use Rattle.query_core.specs.Traces.{IsFirstServingBetween, IsFreshSince, IsReadRightly, IsTraceBetween, Lengths, cut_of}
 use Rattle.query_core.specs.Traces.{AreWider, IsOfRanges, found_leaves, is_wanted, looked_at, resolved_rows, rows_on}
 use Rattle.query_core.specs.Traces.{sent_if, source_of, was_read}
 use Rattle.mon_meaning.specs.ReadableSlots.{slot_rows}
-use Rattle.mon_topo.specs.Serving.{first_serving}
 use Rattle.query_core.specs.declared.answers.Resolved.{Resolved}
 use Rattle.query_core.specs.declared.answers.Trace.{Trace}
 

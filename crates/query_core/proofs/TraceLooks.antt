@@ -6,17 +6,16 @@ use Rattle.std.specs.List.{AllByRecursion as All}
 use Rattle.std.proofs.lemmas.Bool.{cases_eq}
 use Rattle.std.proofs.lemmas.Bool.Decides.{nat_tests}
 use Rattle.std.proofs.lemmas.List.{get_or-set_other, get_or-set_same, length-map, length-set}
-use Rattle.mon_hints.specs.HistoryBuckets.{history_buckets}
+use Rattle.mon_hints.specs.Hints.{history_buckets}
 use Rattle.mon_schema.specs.Fits.{fits}
 use Rattle.mon_topo.proofs.FrontLemmas.{begins_length}
 use Rattle.mon_topo.proofs.HeldLemmas.{leaf_same}
-use Rattle.mon_value.specs.Histories.{leaf_history, range_history}
+use Rattle.mon_value.specs.Histories.{leaf_history, range_history, range_numbered}
 use Rattle.mon_value.specs.declared.histories.Histories.{Histories}
 use Rattle.mon_topo.specs.RangeHistories.{acknowledged_rows}
 use Rattle.mon_topo.specs.Replicas.{HasReplicas}
-use Rattle.mon_topo.specs.SeenHistories.{AreWithin}
+use Rattle.mon_topo.specs.HeldHistories.{AreWithin}
 use Rattle.mon_topo.specs.Settings.{Setting}
-use Rattle.mon_value.specs.Positions.{range_numbered}
 use Rattle.mon_topo.specs.Zones.{first_leaf, first_range, ranges_in}
 use Rattle.mon_value.specs.LeafHistories.{leaf_rows}
 use Rattle.mon_value.specs.declared.histories.Entry.{Entry}
@@ -28,10 +27,8 @@ use Rattle.query_core.proofs.TraceClaims as claim
 use Rattle.query_core.proofs.TraceVisits.{fronts_begin}
 use Rattle.query_core.proofs.TraceWords.{rest_seen}
 use Rattle.query_core.specs.Courses.{all_looks, trace_of}
-use Rattle.query_core.specs.Looks.{unread_look}
-use Rattle.query_core.specs.Rounds.{slots_on}
+use Rattle.query_core.specs.Rounds.{unread_look, slots_on, QuerySetting}
 use Rattle.mon_topo.specs.Views.{IsViewWithin, View}
-use Rattle.query_core.specs.Settings.{QuerySetting}
 use Rattle.query_core.specs.Traces.{IsBetween}
 use Rattle.query_core.specs.Visits.{Visits, with_look}
 use Rattle.query_core.specs.declared.answers.Resolved.{Resolved}

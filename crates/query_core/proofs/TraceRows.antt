@@ -7,9 +7,8 @@ use Rattle.std.specs.List.{AllByRecursion, filter, flat_map, list_any}
 use Rattle.std.proofs.lemmas.Bool.Decides.{nat_tests}
 use Rattle.std.proofs.lemmas.List.Sorted.{IsPermutation-sym, IsPermutation-trans}
 use Rattle.mon_value.proofs.SameLemmas.{same_series-Decides}
-use Rattle.mon_value.specs.LeafHistories.{entry_rows, replica_rows, same_replica}
+use Rattle.mon_value.specs.LeafHistories.{entry_rows, replica_rows, same_replica, points_by_series, points_of}
 use Rattle.mon_value.specs.Same.{same_series}
-use Rattle.mon_value.specs.Sources.{points_by_series, points_of}
 use Rattle.mon_value.specs.declared.histories.Entry.{Entry}
 use Rattle.mon_value.specs.declared.histories.Entry.TheVariants as entry
 use Rattle.mon_value.specs.declared.positions.Leaf.{Leaf}
@@ -19,14 +18,13 @@ use Rattle.mon_value.specs.declared.rows.Row.{Row}
 use Rattle.mon_value.specs.declared.rows.SeriesKey.{SeriesKey}
 use Rattle.mon_value.specs.declared.tables.Table.{Table}
 use Rattle.mon_schema.specs.Fits.{fits}
-use Rattle.mon_schema.specs.SchemaLists.{SchemaLists}
+use Rattle.mon_schema.specs.Names.{SchemaLists}
 use Rattle.mon_topo.proofs.RangeHistoryLemmas.{all_from}
-use Rattle.mon_value.specs.Histories.{leaf_history}
+use Rattle.mon_value.specs.Histories.{leaf_history, same_leaf}
 use Rattle.mon_value.specs.declared.histories.Histories.{Histories}
 use Rattle.mon_topo.specs.HeldHistories.{AreAtHome, AreHeld, IsAtHome}
 use Rattle.mon_topo.specs.RangeHistories.{IsInZoneOf}
 use Rattle.mon_topo.specs.Settings.{Setting}
-use Rattle.mon_value.specs.Positions.{same_leaf}
 use Rattle.mon_topo.specs.declared.zones.ZoneSpec.{ZoneSpec}
 use Rattle.mon_meaning.proofs.FilterLemmas.{filter_twice}
 use Rattle.mon_meaning.specs.Central.{IsMeant, IsOver}
@@ -34,8 +32,7 @@ use Rattle.mon_meaning.specs.declared.meter.OverLimit.{OverLimit}
 use Rattle.mixer.specs.Divisions.{IsDivided, all_rows}
 use Rattle.mql_types.proofs.JoinedRows.{all-map}
 use Rattle.mql_types.proofs.KeptRows.{all-take}
-use Rattle.mql_types.specs.Loads.{load, meets}
-use Rattle.mql_types.specs.Meaning.{meaning}
+use Rattle.mql_types.specs.Meaning.{load, meets, meaning}
 use Rattle.mql_types.specs.Nodes.{TypedTree}
 use Rattle.mql_types.specs.Plans.{fetches}
 use Rattle.mql_types.specs.Soundness.{IsTyped}
@@ -43,8 +40,7 @@ use Rattle.query_core.specs.Askings.{IsAskedOf}
 use Rattle.query_core.specs.declared.answers.Resolved.{Resolved}
 use Rattle.query_core.specs.declared.answers.Trace.{Trace}
 use Rattle.query_core.specs.Mixtures.{typed_of}
-use Rattle.query_core.specs.Rounds.{slot_of, slots_on}
-use Rattle.query_core.specs.Settings.{QuerySetting}
+use Rattle.query_core.specs.Rounds.{slot_of, slots_on, QuerySetting}
 use Rattle.query_core.specs.Traces as trace
 use Rattle.query_core.specs.Traces.{is_wanted, looked_at, rows_on, source_of}
 use Rattle.mon_meaning.specs.ReadableSlots.{slot_rows}

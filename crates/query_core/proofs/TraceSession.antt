@@ -10,21 +10,17 @@ use Rattle.std.proofs.lemmas.List.FromFn.{length-map-range_with_len}
 use Rattle.mixer.specs.declared.zone_answers.ZoneAnswer.{ZoneAnswer}
 use Rattle.mon_fold.specs.declared.answers.LeafAnswer.{LeafAnswer}
 use Rattle.mon_hints.specs.Covers.{AreBitsWithin, Bits}
-use Rattle.mon_hints.specs.Formulas.{all_named, formula_tree, formulas}
-use Rattle.mon_hints.specs.HistoryBuckets.{history_buckets}
-use Rattle.mon_hints.specs.Listings.{AreAmong}
-use Rattle.mon_hints.specs.Words.{has_bit}
+use Rattle.mon_hints.specs.Formulas.{all_named, formula_tree, formulas, AreAmong}
+use Rattle.mon_hints.specs.Hints.{history_buckets, has_bit}
 use Rattle.mon_meaning.specs.declared.meter.OverLimit.{OverLimit}
 use Rattle.mon_schema.specs.Fits.{fits}
 use Rattle.mon_topo.proofs.FrontLemmas.{begins_from, contains_on}
 use Rattle.mon_topo.proofs.HeldLemmas.{seen_within_itself, seen_within_through}
-use Rattle.mon_value.specs.Histories.{leaf_history}
+use Rattle.mon_value.specs.Histories.{leaf_history, leaf_numbered, range_numbered, zone_numbered}
 use Rattle.mon_value.specs.declared.histories.Histories.{Histories}
-use Rattle.mon_topo.specs.HeldHistories.{AreAtHome}
+use Rattle.mon_topo.specs.HeldHistories.{AreAtHome, AreWithin}
 use Rattle.mon_topo.specs.Replicas.{HasReplicas}
-use Rattle.mon_topo.specs.SeenHistories.{AreWithin}
 use Rattle.mon_topo.specs.Settings.{Setting}
-use Rattle.mon_value.specs.Positions.{leaf_numbered, range_numbered, zone_numbered}
 use Rattle.mon_topo.specs.Zones.{first_leaf, first_range, ranges_in}
 use Rattle.mon_topo.specs.declared.zones.ZoneSpec.{ZoneSpec}
 use Rattle.mon_value.specs.LeafHistories.{leaf_rows}
@@ -42,20 +38,17 @@ use Rattle.query_core.proofs.TraceSteps.{below_more, left_so, next_so, resolving
 use Rattle.query_core.proofs.TraceVisits.{down_so, none_so, slot_so, visits_begun}
 use Rattle.query_core.proofs.TraceWords.{loading_from, root_shut, word_loaded, zone_shut}
 use Rattle.query_core.proofs.ZoneFacts.{leaves_next, zone_of_leaf_at}
-use Rattle.query_core.specs.Areas.{area_of, areas_of}
+use Rattle.query_core.specs.Rounds.{area_of, areas_of, read_at, unread_look, Round, slots_on, QuerySetting}
 use Rattle.query_core.specs.Courses.{course_of, with_zone_answer, left, trace_of}
 use Rattle.query_core.specs.Loadings.{is_whole, with_word}
-use Rattle.query_core.specs.Looks.{read_at, unread_look}
 use Rattle.query_core.specs.Machine.{Query, avoided_after, new_query, slots_at}
 use Rattle.query_core.specs.Mixtures.{Settles, TurnSettles, root_stage, zone_turn}
 use Rattle.plan_split.specs.Meeting.{flag_at, let_in}
 use Rattle.query_core.specs.Program as spec
 use Rattle.query_core.specs.Program.{ask_of, begin_visits, let_some_in, next_zone, resolving, visiting, with_zone}
-use Rattle.query_core.specs.Rounds.{Round, slots_on}
 use Rattle.query_core.specs.Sessions as session
 use Rattle.query_core.specs.Sessions.{IsFoundSo, IsZoneWord}
 use Rattle.mon_topo.specs.Views.{IsSound, IsViewWithin, View}
-use Rattle.query_core.specs.Settings.{QuerySetting}
 use Rattle.query_core.specs.Traces.{IsBetween}
 use Rattle.query_core.specs.Visits as visit
 use Rattle.query_core.specs.Visits.{Visits, with_look}

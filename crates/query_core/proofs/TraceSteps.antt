@@ -5,14 +5,13 @@ use Rattle.std.specs.List.{AllByRecursion as All}
 use Rattle.std.proofs.lemmas.Bool.{ltb-false, ltb-true}
 use Rattle.std.proofs.lemmas.List.{length-drop}
 use Rattle.std.proofs.lemmas.List.FromFn.{length-map-range_with_len}
-use Rattle.mon_hints.specs.HistoryBuckets.{history_buckets}
+use Rattle.mon_hints.specs.Hints.{history_buckets}
 use Rattle.mon_schema.specs.Fits.{fits}
 use Rattle.mon_topo.proofs.RangeHistoryLemmas.{all_on}
-use Rattle.mon_value.specs.Histories.{leaf_history}
+use Rattle.mon_value.specs.Histories.{leaf_history, range_numbered}
 use Rattle.mon_value.specs.declared.histories.Histories.{Histories}
 use Rattle.mon_topo.specs.Replicas.{HasReplicas}
 use Rattle.mon_topo.specs.Settings.{Setting}
-use Rattle.mon_value.specs.Positions.{range_numbered}
 use Rattle.mon_topo.specs.Zones.{first_leaf, first_range, ranges_in}
 use Rattle.mon_topo.specs.declared.zones.ZoneSpec.{ZoneSpec}
 use Rattle.mon_value.specs.LeafHistories.{leaf_rows}
@@ -23,14 +22,12 @@ use Rattle.query_core.proofs.TraceClaims as claim
 use Rattle.query_core.proofs.TraceClaims.{Below, Nobody}
 use Rattle.query_core.proofs.TraceWords.{zone_seen}
 use Rattle.query_core.proofs.ZoneFacts.{areas_from, leaves_next}
-use Rattle.query_core.specs.Areas.{area_of, areas_of, range_at}
+use Rattle.query_core.specs.Rounds.{area_of, areas_of, range_at, Round, round_of, QuerySetting}
 use Rattle.query_core.specs.Courses.{with_next_zone, is_entered, left}
 use Rattle.query_core.specs.Loadings.{no_word}
 use Rattle.plan_split.specs.Meeting.{flag_at}
 use Rattle.query_core.specs.Program.{next_zone, resolving, resolving_at, visiting, visiting_at, with_zone}
-use Rattle.query_core.specs.Rounds.{Round, round_of}
 use Rattle.mon_topo.specs.Views.{View}
-use Rattle.query_core.specs.Settings.{QuerySetting}
 use Rattle.query_core.specs.Visits.{Visits, but_first, first_left, gone_on}
 use Rattle.query_core.specs.declared.areas.Area.{Area}
 use Rattle.query_core.specs.declared.asks.Seen.{Seen}

@@ -7,21 +7,18 @@ use Rattle.std.proofs.lemmas.Bool.{and_cases}
 use Rattle.std.proofs.lemmas.List.{map-append, take-append-drop, take-take}
 use Rattle.std.proofs.lemmas.List.Elements.{Contains-append_right}
 use Rattle.std.proofs.lemmas.List.FromFn.{get_or-map-range_with_len, map-range_with_len_more}
-use Rattle.mon_hints.specs.Formulas.{all_named, formula_tree, formulas}
-use Rattle.mon_hints.specs.HistoryBuckets.{history_buckets}
-use Rattle.mon_hints.specs.Listings.{AreAmong}
+use Rattle.mon_hints.specs.Formulas.{all_named, formula_tree, formulas, AreAmong}
+use Rattle.mon_hints.specs.Hints.{history_buckets}
 use Rattle.mon_schema.specs.Fits.{fits}
 use Rattle.mon_topo.proofs.FrontLemmas.{begins_from, begins_length, take_on}
 use Rattle.mon_topo.proofs.HeldLemmas.{leaf_same, seen_within_through}
 use Rattle.mon_topo.proofs.RangeHistoryLemmas.{all_append, all_filter, all_on}
-use Rattle.mon_value.specs.Histories.{leaf_history, range_history}
+use Rattle.mon_value.specs.Histories.{leaf_history, range_history, range_numbered}
 use Rattle.mon_value.specs.declared.histories.Histories.{Histories}
-use Rattle.mon_topo.specs.HeldHistories.{BeginsWith}
-use Rattle.mon_topo.specs.RangeHistories.{acknowledged_rows, serving}
+use Rattle.mon_topo.specs.HeldHistories.{BeginsWith, AreWithin}
+use Rattle.mon_topo.specs.RangeHistories.{acknowledged_rows, serving, is_avoided}
 use Rattle.mon_topo.specs.Replicas.{HasReplicas}
-use Rattle.mon_topo.specs.SeenHistories.{AreWithin}
 use Rattle.mon_topo.specs.Settings.{Setting}
-use Rattle.mon_value.specs.Positions.{range_numbered}
 use Rattle.mon_topo.specs.Zones.{first_leaf, first_range, range_zones, ranges_in}
 use Rattle.mon_topo.specs.declared.zones.ZoneSpec.{ZoneSpec}
 use Rattle.mon_value.specs.LeafHistories.{leaf_rows}
@@ -41,20 +38,16 @@ use Rattle.query_core.proofs.TraceClaims.{Anybody}
 use Rattle.query_core.proofs.TraceSteps.{resolving_so}
 use Rattle.query_core.proofs.TraceWords.{zone_seen, zone_shut}
 use Rattle.query_core.proofs.ZoneFacts.{leaves_next, ranges_next, zone_of_range_at}
-use Rattle.query_core.specs.Areas.{area_of, has_leaf, leaf_at}
-use Rattle.query_core.specs.Courses.{cuts_seen, firsts_seen, founds_in, with_found}
-use Rattle.query_core.specs.Findings.{HasNoReplica}
-use Rattle.query_core.specs.Looks.{unread_look}
+use Rattle.query_core.specs.Rounds.{area_of, has_leaf, leaf_at, unread_look, Round, is_none, is_to_visit}
+use Rattle.query_core.specs.Rounds.{leaves_to_visit, resolution, round_of, slots_by_leaf, slots_on, with_slot}
+use Rattle.query_core.specs.Rounds.{QuerySetting}
+use Rattle.query_core.specs.Courses.{cuts_seen, firsts_seen, founds_in, with_found, HasNoReplica}
 use Rattle.plan_split.specs.Meeting.{flag_at, let_in}
 use Rattle.query_core.specs.Program.{resolving}
-use Rattle.query_core.specs.Rounds.{Round, is_none, is_to_visit, leaves_to_visit, resolution, round_of, slots_by_leaf}
-use Rattle.query_core.specs.Rounds.{slots_on, with_slot}
 use Rattle.query_core.specs.Sessions.{IsFoundSo, IsResolvedSo}
 use Rattle.mon_topo.specs.Views.{IsSound, IsViewWithin, View}
-use Rattle.query_core.specs.Settings.{QuerySetting}
 use Rattle.query_core.specs.Traces.{IsFirstServing}
 use Rattle.mon_meaning.specs.ReadableSlots.{slot_rows}
-use Rattle.mon_topo.specs.Serving.{is_avoided}
 use Rattle.query_core.specs.Visits.{Visits, visits_of}
 use Rattle.query_core.specs.declared.answers.Resolved.{Resolved}
 use Rattle.query_core.specs.declared.areas.Area.{Area}

@@ -8,19 +8,16 @@ use Rattle.std.proofs.lemmas.List.{drop-drop, drop_all, get_or_append_left, get_
 use Rattle.std.proofs.lemmas.List.{take-append-drop}
 use Rattle.std.proofs.lemmas.List.FromFn.{get_or-map-range_with_len, length-map-range_with_len}
 use Rattle.mon_hints.specs.Covers.{AreBitsWithin, Bits}
-use Rattle.mon_hints.specs.Formulas.{all_named, formula_tree, formulas}
-use Rattle.mon_hints.specs.HistoryBuckets.{history_buckets}
-use Rattle.mon_hints.specs.Listings.{AreAmong, is_among}
-use Rattle.mon_hints.specs.Words.{has_bit}
+use Rattle.mon_hints.specs.Formulas.{all_named, formula_tree, formulas, AreAmong, is_among}
+use Rattle.mon_hints.specs.Hints.{history_buckets, has_bit}
 use Rattle.mon_schema.specs.Fits.{fits}
 use Rattle.mon_topo.proofs.RangeHistoryLemmas.{all_on}
-use Rattle.mon_value.specs.Histories.{leaf_history}
+use Rattle.mon_value.specs.Histories.{leaf_history, range_numbered, zone_numbered}
 use Rattle.mon_value.specs.declared.histories.Histories.{Histories}
 use Rattle.mon_topo.specs.Replicas.{HasReplicas}
-use Rattle.mon_topo.specs.SeenHistories.{AreWithin}
+use Rattle.mon_topo.specs.HeldHistories.{AreWithin}
 use Rattle.mon_topo.specs.Settings.{Setting}
 use Rattle.mon_topo.specs.Settings.{zone_of_leaf}
-use Rattle.mon_value.specs.Positions.{range_numbered, zone_numbered}
 use Rattle.mon_topo.specs.Zones.{first_leaf, first_range, leaf_zones, no_zone, ranges_in}
 use Rattle.mon_topo.specs.declared.zones.ZoneSpec.{ZoneSpec}
 use Rattle.mon_value.specs.LeafHistories.{leaf_rows}
@@ -34,14 +31,12 @@ use Rattle.query_core.proofs.TraceClaims.{Below, KnownOf, LoadedSo, LoadingSo, S
 use Rattle.query_core.proofs.TraceClaims.{then_on, wanted, zone_known}
 use Rattle.mon_topo.proofs.SizeLemmas.{parts_so_far}
 use Rattle.query_core.proofs.ZoneFacts.{all_leaves, all_ranges, leaves_next, ranges_next, zone_of_leaf_at}
-use Rattle.query_core.specs.Areas.{area_of}
+use Rattle.query_core.specs.Rounds.{area_of, unread_look, QuerySetting}
 use Rattle.query_core.specs.Courses.{cuts_seen, firsts_seen}
 use Rattle.query_core.specs.Loadings.{seen_first}
-use Rattle.query_core.specs.Looks.{unread_look}
 use Rattle.query_core.specs.Sessions.{IsSeenSo}
 use Rattle.mon_topo.specs.Views.{IsSound, IsViewWithin, View}
 use Rattle.plan_split.specs.Meeting.{flag_at, let_in, lets_child_in}
-use Rattle.query_core.specs.Settings.{QuerySetting}
 use Rattle.query_core.specs.declared.answers.Resolved.{Resolved}
 use Rattle.query_core.specs.declared.asks.Seen.{Seen}
 use Rattle.query_core.specs.declared.looks.Look.{Look}

@@ -9,7 +9,7 @@ use Rattle.mon_fold.specs.declared.answers.LeafAnswer.{LeafAnswer}
 use Rattle.mon_meaning.specs.LeafAnswers.{IsLeafPart}
 use Rattle.mon_value.specs.Histories.{leaf_history}
 use Rattle.mon_value.specs.declared.histories.Histories.{Histories}
-use Rattle.mon_topo.specs.SeenHistories.{AreWithin}
+use Rattle.mon_topo.specs.HeldHistories.{AreWithin}
 use Rattle.mon_topo.specs.Settings.{Setting}
 use Rattle.mon_value.specs.declared.positions.Leaf.{Leaf}
 use Rattle.mon_value.specs.declared.positions.RangeSlot.{RangeSlot}
@@ -20,16 +20,13 @@ use Rattle.query_core.specs.declared.courses.Course.{Course}
 use Rattle.query_core.specs.declared.loadings.Loading.{Loading}
 use Rattle.query_core.specs.declared.looks.Look.{Look}
 use Rattle.query_core.specs.declared.stages.Stage.TheVariants as at
-use Rattle.query_core.specs.Areas.{has_leaf, leaf_at}
+use Rattle.query_core.specs.Rounds.{has_leaf, leaf_at, read_at, unread_look, Round, is_to_visit, slots_on, QuerySetting}
 use Rattle.query_core.specs.Courses.{cuts_seen}
-use Rattle.query_core.specs.Looks.{read_at, unread_look}
 use Rattle.query_core.specs.Machine.{slots_in}
 use Rattle.query_core.specs.Mixtures.{typed_of}
 use Rattle.plan_split.specs.Meeting.{let_in}
 use Rattle.query_core.specs.Program as spec
 use Rattle.query_core.specs.Program.{begin_visits, visiting}
-use Rattle.query_core.specs.Rounds.{Round, is_to_visit, slots_on}
-use Rattle.query_core.specs.Settings.{QuerySetting}
 use Rattle.mon_meaning.specs.ReadableSlots.{slot_rows}
 use Rattle.query_core.specs.Visits as visit
 use Rattle.query_core.specs.Visits.{Visits, with_look}

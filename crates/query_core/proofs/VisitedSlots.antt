@@ -3,16 +3,14 @@ use Rattle.std.proofs.Common.{◌≡◌, ◌∙◌, ℕ, Bool, true, false, cond
 use Rattle.std.proofs.Common.{nat_eq, take, sym, ap, subst, refl, arith}
 use Rattle.std.specs.List.{AllByRecursion}
 use Rattle.mixer.proofs.ApartTargets as apart_targets
-use Rattle.mon_meaning.specs.ApartTargets.{AreApart, ShareNoTarget}
+use Rattle.mon_meaning.specs.ReadableSlots.{AreApart, ShareNoTarget, CanBeRead, slot_rows}
 use Rattle.mon_schema.specs.Fits.{fits}
 use Rattle.mon_topo.proofs.RangeHistoryLemmas.{all_from}
-use Rattle.mon_value.specs.Histories.{leaf_history, range_history}
+use Rattle.mon_value.specs.Histories.{leaf_history, range_history, same_leaf}
 use Rattle.mon_value.specs.declared.histories.Histories.{Histories}
-use Rattle.mon_topo.specs.HeldHistories.{AreAtHome, AreHeld, IsAtHome}
+use Rattle.mon_topo.specs.HeldHistories.{AreAtHome, AreHeld, IsAtHome, AreWithin}
 use Rattle.mon_topo.specs.Locations.{range_for}
 use Rattle.mon_topo.specs.RangeHistories.{acknowledged_rows}
-use Rattle.mon_value.specs.Positions.{same_leaf}
-use Rattle.mon_topo.specs.SeenHistories.{AreWithin}
 use Rattle.mon_topo.specs.Settings.{Setting}
 use Rattle.mon_value.specs.LeafHistories.{is_opened, replica_rows}
 use Rattle.mon_value.specs.declared.histories.Entry.{Entry}
@@ -26,9 +24,7 @@ use Rattle.query_core.specs.Askings.{IsAskedOf}
 use Rattle.query_core.specs.declared.answers.Resolved.{Resolved}
 use Rattle.query_core.specs.declared.looks.Look.{Look}
 use Rattle.query_core.specs.Mixtures.{typed_of}
-use Rattle.mon_meaning.specs.ReadableSlots.{CanBeRead, slot_rows}
-use Rattle.query_core.specs.Rounds.{slot_of, slots_on}
-use Rattle.query_core.specs.Settings.{QuerySetting}
+use Rattle.query_core.specs.Rounds.{slot_of, slots_on, QuerySetting}
 use Rattle.query_core.specs.Traces.{IsBetween}
 use Rattle.query_core.proofs.DividedRows.{AreOthers, IsOther, all_flat, itself}
 use Rattle.query_core.proofs.Spans.{IsLookedAt, StandsAt, StandsIn, look_at, stands_on, up_to}

@@ -4,10 +4,9 @@ use Rattle.std.proofs.Common.{length, refl, sym, ap}
 use Rattle.std.specs.List.{AllByRecursion, filter, filter_map, flat_map, list_any}
 use Rattle.std.proofs.lemmas.Bool.{and_from, and_parts, false≢true, or_left, or_right}
 use Rattle.mon_value.proofs.SameLemmas.{same_text-Decides}
-use Rattle.mon_value.specs.Groups.{group_rows}
-use Rattle.mon_value.specs.Joins.{pairs_of}
+use Rattle.mon_value.specs.Groups.{group_rows, top_rows}
+use Rattle.mon_value.specs.Tables.{pairs_of}
 use Rattle.mon_value.specs.Same.{same_text}
-use Rattle.mon_value.specs.Tops.{top_rows}
 use Rattle.mon_value.specs.declared.aligners.Aligner.{Aligner}
 use Rattle.mon_value.specs.declared.grids.Grid.{Grid}
 use Rattle.mon_value.specs.declared.rows.Row.{Row}
@@ -15,12 +14,11 @@ use Rattle.mon_value.specs.declared.schemas.MetricSchema.{MetricSchema}
 use Rattle.mon_value.specs.declared.schemas.TargetSchema.{TargetSchema}
 use Rattle.mon_value.specs.declared.tables.TimedRow.{TimedRow}
 use Rattle.mon_schema.specs.Fits.{fits, fits_both, row_fits}
-use Rattle.mon_schema.specs.SchemaLists.{SchemaLists, metric_named, target_named}
-use Rattle.mql_ast.specs.Truths.{predicate_truth}
+use Rattle.mon_schema.specs.Names.{SchemaLists, metric_named, target_named}
+use Rattle.mql_ast.specs.Rows.{predicate_truth}
 use Rattle.mql_types.specs.Fetches.{columns_fetched, fetch_columns}
-use Rattle.mql_types.specs.Loads.{is_reached, lets_in, load, load_of, meets, points_reached}
-use Rattle.mql_types.specs.Meaning.{aligned_rows, grid_of, is_fetched, is_point_kept, meaning, points_meant}
-use Rattle.mql_types.specs.Meaning.{rows_meant, value_row}
+use Rattle.mql_types.specs.Meaning.{is_reached, lets_in, load, load_of, meets, points_reached, aligned_rows, grid_of}
+use Rattle.mql_types.specs.Meaning.{is_fetched, is_point_kept, meaning, points_meant, rows_meant, value_row}
 use Rattle.mql_types.specs.Nodes as node
 use Rattle.mql_types.specs.Nodes.{NodeTree, TypedTree, columns_of}
 use Rattle.mql_types.specs.Plans.{HasFetchColumns, fetches}

@@ -13,12 +13,12 @@ use Rattle.mon_meaning.specs.Central.{IsMeant, IsOver}
 use Rattle.mon_meaning.specs.declared.meter.OverLimit.{OverLimit}
 use Rattle.mon_value.specs.declared.histories.Histories.{Histories}
 use Rattle.mon_topo.specs.HeldHistories.{AreHeld}
-use Rattle.mon_value.specs.Positions.{leaf_numbered, same_leaf}
+use Rattle.mon_value.specs.Histories.{leaf_numbered, same_leaf}
 use Rattle.mon_topo.specs.Zones.{first_leaf, first_range}
 use Rattle.mon_value.specs.declared.positions.Leaf.{Leaf}
 use Rattle.mon_value.specs.declared.rows.Row.{Row}
 use Rattle.mon_value.specs.declared.tables.Table.{Table}
-use Rattle.mql_types.specs.Loads.{load}
+use Rattle.mql_types.specs.Meaning.{load}
 use Rattle.mon_topo.specs.Settings.{Setting}
 use Rattle.query_core.specs.Askings.{IsAskedOf}
 use Rattle.query_core.specs.declared.answers.Resolved.{Resolved}
@@ -26,11 +26,9 @@ use Rattle.query_core.specs.declared.answers.Trace.{Trace}
 use Rattle.query_core.specs.declared.areas.Area.{Area}
 use Rattle.query_core.specs.declared.courses.Course.{Course}
 use Rattle.query_core.specs.declared.looks.Look.{Look}
-use Rattle.query_core.specs.Areas.{area_of}
+use Rattle.query_core.specs.Rounds.{area_of, unread_look, QuerySetting}
 use Rattle.query_core.specs.Courses.{trace_of}
-use Rattle.query_core.specs.Looks.{unread_look}
 use Rattle.query_core.specs.Mixtures.{typed_of}
-use Rattle.query_core.specs.Settings.{QuerySetting}
 use Rattle.query_core.specs.Traces.{source_of}
 use Rattle.query_core.proofs.ChosenLeaves.{ChosenAscend, chosen_append, chosen_leaves, chosen_once}
 use Rattle.query_core.proofs.DividedRows.{SomeLeaves, all_leaves, divided_rows, rows_at, zone_rows}

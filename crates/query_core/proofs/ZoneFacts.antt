@@ -7,13 +7,13 @@ use Rattle.std.proofs.lemmas.List.FromFn.{get_or-map-range_with_len, length-map-
 use Rattle.mon_topo.proofs.PartLemmas.{IsPart, length-zones_of, part_at, zone_of_part}
 use Rattle.mon_topo.specs.RangeHistories.{IsInZoneOf}
 use Rattle.mon_topo.specs.Zones.{first_leaf, first_range, leaf_zones, leaves_in, no_zone, range_zones, ranges_in}
-use Rattle.mon_value.specs.Positions.{zone_numbered}
+use Rattle.mon_value.specs.Histories.{zone_numbered}
 use Rattle.mon_topo.specs.Zones.{zone_at}
 use Rattle.mon_topo.specs.declared.zones.ZoneSpec.{ZoneSpec}
 use Rattle.mon_value.specs.declared.positions.Leaf.{Leaf}
 use Rattle.mon_value.specs.declared.positions.Range.{Range}
 use Rattle.mon_value.specs.declared.positions.Zone.{Zone}
-use Rattle.query_core.specs.Areas.{area_of, areas_of}
+use Rattle.query_core.specs.Rounds.{area_of, areas_of}
 use Rattle.query_core.specs.declared.areas.Area.{Area}
 
 parts_next : {X Y : Type 0} (parts : X → List Y) (xs : List X) (i : ℕ) (d : X) → i < length xs

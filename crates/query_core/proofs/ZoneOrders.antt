@@ -20,7 +20,7 @@ use Rattle.query_core.proofs.RoundOrders.{no_slot_told, over_told, slot_told, st
 use Rattle.query_core.proofs.RoundOrders.{zone_of, zone_words}
 use Rattle.query_core.specs.Courses.{course_of, is_entered, left, with_next_zone, with_zone_answer}
 use Rattle.query_core.specs.Loadings.{is_whole, next_bucket, no_word, with_word}
-use Rattle.query_core.specs.Looks.{read_at, unread_look}
+use Rattle.query_core.specs.Rounds.{read_at, unread_look, Round, round_of, QuerySetting}
 use Rattle.query_core.specs.Machine.{Query, new_query, slots_at}
 use Rattle.query_core.specs.Mixtures.{Settles, TurnSettles, root_stage, zone_turn}
 use Rattle.plan_split.specs.Meeting.{let_in}
@@ -28,10 +28,8 @@ use Rattle.query_core.specs.Orders.{ComeInOrder, ComeWholeInOrder, IsZoneInOrder
 use Rattle.query_core.specs.Orders.{chosen_areas, events_told, query_events, words_loaded}
 use Rattle.query_core.specs.Program as spec
 use Rattle.query_core.specs.Program.{ask_of, let_some_in, next_zone}
-use Rattle.query_core.specs.Rounds.{Round, round_of}
 use Rattle.query_core.specs.Sessions as session
 use Rattle.mon_topo.specs.Views.{View}
-use Rattle.query_core.specs.Settings.{QuerySetting}
 use Rattle.query_core.specs.Visits as visit
 use Rattle.query_core.specs.Visits.{with_look}
 use Rattle.query_core.specs.declared.answers.Answer.{Answer}

@@ -5,11 +5,11 @@ use Rattle.mon_value.specs.Histories.{leaf_history}
 use Rattle.mon_value.specs.declared.histories.Histories.{Histories}
 use Rattle.mon_topo.specs.Settings.{Setting}
 use Rattle.mon_value.specs.declared.positions.Leaf.{Leaf}
-use Rattle.mql_types.specs.Explanations.{op_levels}
-use Rattle.mql_types.specs.Loads.{load}
-use Rattle.query_core.specs.Findings.{AreFoundThen}
+use Rattle.mql_types.specs.Plans.{op_levels}
+use Rattle.mql_types.specs.Meaning.{load}
+use Rattle.query_core.specs.Courses.{AreFoundThen}
 use Rattle.query_core.specs.Mixtures.{typed_of}
-use Rattle.query_core.specs.Settings.{QuerySetting}
+use Rattle.query_core.specs.Rounds.{QuerySetting}
 use Rattle.query_core.specs.Traces.{IsFresh, IsReadRightly, IsTraceOf, cut_of, source_of}
 use Rattle.query_core.specs.declared.answers.Answer.{Answer}
 use Rattle.query_core.specs.declared.answers.Trace.{Trace}

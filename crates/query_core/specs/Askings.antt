@@ -1,28 +1,25 @@
 -- A query that is asked of a store.
 use Rattle.std.specs.Prelude.{◌≡◌, ◌<◌, ℕ, length, map, Some, Ok}
-use Rattle.mon_hints.specs.Formulas.{all_named, formula_tree, formulas}
+use Rattle.mon_hints.specs.Formulas.{all_named, formula_tree, formulas, IsListing}
 use Rattle.mon_hints.specs.Hints.{series_buckets}
-use Rattle.mon_hints.specs.Listings.{IsListing}
-use Rattle.mon_schema.specs.HeldMetrics.{AreMetricsHeld}
-use Rattle.mon_schema.specs.HeldTargets.{AllTellLocations}
-use Rattle.mon_schema.specs.SchemaLists.{metric_named, target_named}
+use Rattle.mon_schema.specs.Fits.{AreMetricsHeld, AllTellLocations}
+use Rattle.mon_schema.specs.Names.{metric_named, target_named}
 use Rattle.mon_topo.specs.Faults.{AreLawfulZones}
 use Rattle.mon_topo.specs.Replicas.{HasReplicas}
 use Rattle.mon_topo.specs.Settings.{Setting}
-use Rattle.mon_value.specs.Positions.{range_numbered}
+use Rattle.mon_value.specs.Histories.{range_numbered}
 use Rattle.mon_topo.specs.Zones.{ranges_in}
 use Rattle.mon_value.specs.declared.rows.SeriesKey.{SeriesKey}
 use Rattle.mon_value.specs.declared.schemas.MetricSchema.{MetricSchema}
 use Rattle.mon_value.specs.declared.schemas.TargetSchema.{TargetSchema}
 use Rattle.mql_ast.specs.Trees.{PipeTree}
-use Rattle.mql_types.specs.Durations.{HasDurations}
+use Rattle.mql_types.specs.Times.{HasDurations}
 use Rattle.mql_types.specs.Plans.{fetches}
 use Rattle.mql_types.specs.Soundness.{IsPipeSpelled}
 use Rattle.mql_types.specs.Typing.{typing}
-use Rattle.plan_split.specs.Promises.{AllHoldWhereMet}
-use Rattle.query_core.specs.Areas.{areas_of}
+use Rattle.plan_split.specs.Meeting.{AllHoldWhereMet}
+use Rattle.query_core.specs.Rounds.{areas_of, QuerySetting}
 use Rattle.query_core.specs.Mixtures.{typed_of}
-use Rattle.query_core.specs.Settings.{QuerySetting}
 
 -- the zones of the store, and the plan of a query that has a type over its schemas: a formula for each fetch, which
 -- holds of the buckets of every series that meets it

@@ -1,8 +1,8 @@
 -- What a query prints that has no table.
 use Rattle.std.specs.Prelude.{ℕ, List, ◌++◌, codes}
-use Rattle.mon_topo.specs.NameTexts.{down_text}
+use Rattle.mon_topo.specs.Zones.{down_text}
 use Rattle.mon_topo.specs.declared.zones.ZoneSpec.{ZoneSpec}
-use Rattle.mql_types.specs.FaultTexts.{limit_text}
+use Rattle.mql_types.specs.Faults.{limit_text}
 use Rattle.query_core.specs.declared.answers.RoundFault.{RoundFault}
 use Rattle.query_core.specs.declared.answers.RoundFault.TheVariants as fault
 

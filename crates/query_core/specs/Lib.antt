@@ -1,12 +1,9 @@
 pub mod Answers
-pub mod Areas
 pub mod AskedPlaces
 pub mod Askings
 pub mod Courses
 pub mod FaultTexts
-pub mod Findings
 pub mod Loadings
-pub mod Looks
 pub mod Machine
 pub mod Mixtures
 pub mod Orders
@@ -15,7 +12,6 @@ pub mod Rounds
 pub mod SeenSights
 pub mod SentTold
 pub mod Sessions
-pub mod Settings
 pub mod Sides
 pub mod ToldDowns
 pub mod Traces

@@ -8,11 +8,9 @@ use Rattle.query_core.specs.declared.asks.Told.{Told}
 use Rattle.query_core.specs.declared.asks.Told.TheVariants as told
 use Rattle.query_core.specs.declared.stages.Stage.{Stage}
 use Rattle.query_core.specs.declared.stages.Stage.TheVariants as at
-use Rattle.query_core.specs.Areas.{has_leaf}
+use Rattle.query_core.specs.Rounds.{has_leaf, Round, slots_on, QuerySetting}
 use Rattle.query_core.specs.Loadings.{no_word}
 use Rattle.query_core.specs.Program.{round_in}
-use Rattle.query_core.specs.Rounds.{Round, slots_on}
-use Rattle.query_core.specs.Settings.{QuerySetting}
 
 -- with the leaves that were found down
 pub record Query : Type 0 where

@@ -9,7 +9,7 @@ use Rattle.mon_meaning.specs.Central.{IsMeant, IsOver}
 use Rattle.mon_meaning.specs.declared.meter.OverLimit.{OverLimit}
 use Rattle.mon_value.specs.declared.rows.Row.{Row}
 use Rattle.mon_value.specs.declared.tables.Table.{Table}
-use Rattle.mql_types.specs.Explanations.{op_levels}
+use Rattle.mql_types.specs.Plans.{op_levels}
 use Rattle.mql_types.specs.Nodes.{TypedTree, typed_tree}
 use Rattle.query_core.specs.declared.answers.Answer.{Answer}
 use Rattle.query_core.specs.declared.asks.Told.{Told}
@@ -22,7 +22,7 @@ use Rattle.query_core.specs.declared.stages.Turn.{Turn}
 use Rattle.query_core.specs.declared.stages.Turn.TheVariants as turn
 use Rattle.query_core.specs.Courses.{with_zone_answer, trace_of}
 use Rattle.query_core.specs.Program.{after, next_zone, stopped_stage}
-use Rattle.query_core.specs.Settings.{QuerySetting}
+use Rattle.query_core.specs.Rounds.{QuerySetting}
 
 abbrev pub typed_of : QuerySetting → TypedTree
 typed_of setting = typed_tree setting.plan.typed

@@ -25,10 +25,9 @@ use Rattle.query_core.specs.Courses.{with_next_zone, with_zone_behind, course_of
 use Rattle.query_core.specs.Courses.{left, trace_of}
 use Rattle.query_core.specs.Courses.{with_found}
 use Rattle.query_core.specs.Loadings.{is_whole, next_bucket, no_word, with_word}
-use Rattle.query_core.specs.Looks.{read_at, unread_look}
+use Rattle.query_core.specs.Rounds.{read_at, unread_look, Round, leaves_to_visit, next_range, round_of, with_slot}
+use Rattle.query_core.specs.Rounds.{QuerySetting}
 use Rattle.plan_split.specs.Meeting.{let_in}
-use Rattle.query_core.specs.Rounds.{Round, leaves_to_visit, next_range, round_of, with_slot}
-use Rattle.query_core.specs.Settings.{QuerySetting}
 use Rattle.query_core.specs.Visits.{Visits, gone_on, with_leaf_answer, with_look, next_leaf, visits_of}
 
 -- ---- the next event

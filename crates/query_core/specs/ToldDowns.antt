@@ -6,7 +6,7 @@ use Rattle.mon_value.specs.declared.positions.FoundDown.{FoundDown}
 use Rattle.query_core.specs.Courses.{found_down}
 use Rattle.query_core.specs.Machine.{Query}
 use Rattle.query_core.specs.Sessions.{Event, told_then}
-use Rattle.query_core.specs.Settings.{QuerySetting}
+use Rattle.query_core.specs.Rounds.{QuerySetting}
 use Rattle.query_core.specs.declared.answers.Answer.{Answer}
 use Rattle.query_core.specs.declared.answers.RoundFault.{RoundFault}
 use Rattle.query_core.specs.declared.answers.RoundFault.TheVariants as fault

@@ -2,13 +2,11 @@
 use Rattle.std.specs.Prelude.{◌≡◌, ◌≤◌, ◌<◌, ℕ, ℤ, Bool, true, false, List, length, map, take, get_or}
 use Rattle.std.specs.Prelude.{Some, Contains, if◌then◌else◌}
 use Rattle.std.specs.List.{AllByRecursion, flat_map, list_any, range_with_len}
-use Rattle.mon_hints.specs.HistoryBuckets.{history_buckets}
-use Rattle.mon_value.specs.Histories.{leaf_history, range_history}
+use Rattle.mon_hints.specs.Hints.{history_buckets}
+use Rattle.mon_value.specs.Histories.{leaf_history, range_history, range_numbered}
 use Rattle.mon_value.specs.declared.histories.Histories.{Histories}
-use Rattle.mon_topo.specs.RangeHistories.{acknowledged_rows}
-use Rattle.mon_topo.specs.SeenHistories.{AreWithin}
-use Rattle.mon_value.specs.Positions.{range_numbered}
-use Rattle.mon_topo.specs.Serving.{first_serving}
+use Rattle.mon_topo.specs.RangeHistories.{acknowledged_rows, first_serving}
+use Rattle.mon_topo.specs.HeldHistories.{AreWithin}
 use Rattle.mon_value.specs.LeafHistories.{IsDownAt, is_opened, replica_rows}
 use Rattle.mon_value.specs.declared.histories.Entry.{Entry}
 use Rattle.mon_value.specs.declared.positions.FoundDown.{FoundDown}
@@ -17,9 +15,9 @@ use Rattle.mon_value.specs.declared.positions.Range.{Range}
 use Rattle.mon_value.specs.declared.positions.SlotLeaf.{SlotLeaf}
 use Rattle.mon_value.specs.declared.rows.Row.{Row}
 use Rattle.mon_value.specs.declared.rows.SeriesKey.{SeriesKey}
-use Rattle.mql_types.specs.Loads.{meets}
+use Rattle.mql_types.specs.Meaning.{meets}
 use Rattle.mql_types.specs.Nodes.{TypedTree}
-use Rattle.mql_types.specs.Pieces.{sent_amount}
+use Rattle.mql_types.specs.Levels.{sent_amount}
 use Rattle.mql_types.specs.Plans.{fetches}
 use Rattle.mql_types.specs.declared.plans.Plan.{Plan}
 use Rattle.mon_meaning.specs.ReadableSlots.{slot_rows}

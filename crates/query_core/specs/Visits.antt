@@ -3,7 +3,7 @@ use Rattle.std.specs.Prelude.{ℕ, ◌-◌, nat_le, List, [], ◌∷◌, ◌++�
 use Rattle.mon_fold.specs.declared.answers.LeafAnswer.{LeafAnswer}
 use Rattle.mon_value.specs.declared.positions.Leaf.{Leaf}
 use Rattle.query_core.specs.declared.looks.Look.{Look}
-use Rattle.query_core.specs.Looks.{unread_look}
+use Rattle.query_core.specs.Rounds.{unread_look}
 
 -- the leaves that are still to be visited, what is known of each leaf of the zone from its first one on, and the
 -- answers of those that were read

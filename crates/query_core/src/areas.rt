@@ -1,7 +1,7 @@
 // The leaves and the ranges of each zone, by their numbers.
 ghost use Rattle.std.specs.Prelude.{◌≡◌, ◌+◌, ◌≤◌, ◌<◌, ◌^◌, length, IfOk};
 ghost use Rattle.std.specs.List.{AllByRecursion};
-ghost use Rattle.query_core.specs.Areas as spec;
+ghost use Rattle.query_core.specs.Rounds as spec;
 
 use mon_topo::Topology;
 use mon_value::{Leaf, OutOfMemory, Range, Zone};

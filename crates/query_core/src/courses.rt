@@ -1,6 +1,6 @@
 // What a query came to in the zones that it is through with.
 ghost use Rattle.std.specs.Prelude.{◌≡◌, ◌+◌, ◌<◌, ◌^◌, ◌++◌, filter, IfOk, OnOk};
-ghost use Rattle.query_core.specs.Areas.{has_leaf};
+ghost use Rattle.query_core.specs.Rounds.{has_leaf};
 ghost use Rattle.query_core.specs.Courses as spec;
 
 use crate::answers::{Flags, Resolved, Resolveds, Trace};

@@ -1,6 +1,6 @@
 // What a query knows of leaves that it looked at, or didn't.
 ghost use Rattle.std.specs.Prelude.{◌≡◌, ◌++◌, map, IfOk, OnOk};
-ghost use Rattle.query_core.specs.Looks as spec;
+ghost use Rattle.query_core.specs.Rounds as spec;
 
 use crate::answers::{Cuts, Flags};
 use mon_value::{ListOf, OutOfMemory};

@@ -1,7 +1,7 @@
 // The machine of a query.
 ghost use Rattle.std.specs.Prelude.{◌≡◌, ◌≢◌, ◌≤◌, ◌^◌, false, IfOk, IsTrue, OnErr, OnOk};
 ghost use Rattle.mon_value.specs.declared.limits.TheConstants.{ROW_BITS};
-ghost use Rattle.query_core.specs.Areas.{areas_of};
+ghost use Rattle.query_core.specs.Rounds.{areas_of};
 ghost use Rattle.query_core.specs.Machine as spec;
 ghost use Rattle.query_core.specs.Mixtures.{LeadsTo, MayBeTold};
 ghost use Rattle.query_core.specs.Program.{ask_of};

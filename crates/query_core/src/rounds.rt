@@ -1,6 +1,6 @@
 // What the ranges of a zone resolved to in a round.
 ghost use Rattle.std.specs.Prelude.{◌≡◌, ◌++◌, ◌∷◌, [], false, true, length, if◌then◌else◌, IfOk, IfSome, IsNone, OnOk};
-ghost use Rattle.query_core.specs.Areas.{IsSmall, has_leaf};
+ghost use Rattle.query_core.specs.Rounds.{IsSmall, has_leaf};
 ghost use Rattle.query_core.specs.Rounds as spec;
 
 use crate::answers::{Flags, Resolved, Resolveds};
@@ -20,7 +20,7 @@ pub(crate) struct Round {
 
 impl Model for Round {
     ghost use Rattle.std.specs.Prelude.{◌≡◌};
-    ghost use Rattle.query_core.specs.Areas.{IsSmall};
+    ghost use Rattle.query_core.specs.Rounds.{IsSmall};
     ghost use Rattle.query_core.specs.Rounds as spec;
 
     ghost Value = { spec.Round };

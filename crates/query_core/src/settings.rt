@@ -2,7 +2,7 @@
 ghost use Rattle.std.specs.Prelude.{◌≡◌, ◌≤◌, ◌^◌, length, IfOk};
 ghost use Rattle.std.specs.List.{AllByRecursion};
 ghost use Rattle.mon_value.specs.declared.limits.TheConstants.{ROW_BITS};
-ghost use Rattle.query_core.specs.Areas.{areas_of, IsSmall};
+ghost use Rattle.query_core.specs.Rounds.{areas_of, IsSmall};
 
 use crate::areas::{Area, areas_of};
 use mon_topo::Topology;
@@ -24,8 +24,8 @@ impl Model for QuerySetting {
     ghost use Rattle.std.specs.Prelude.{◌≤◌, ◌^◌, length};
     ghost use Rattle.mon_value.specs.declared.limits.TheConstants.{ROW_BITS};
     ghost use Rattle.std.specs.List.{AllByRecursion};
-    ghost use Rattle.query_core.specs.Areas.{IsSmall};
-    ghost use Rattle.query_core.specs.Settings as spec;
+    ghost use Rattle.query_core.specs.Rounds.{IsSmall};
+    ghost use Rattle.query_core.specs.Rounds as spec;
     ghost use Rattle.std.specs.Coded.{codes};
     ghost use Rattle.mon_hints.specs.contracts.formulas.Formula as formula;
     ghost use Rattle.mql_types.specs.contracts.nodes.Node as node;

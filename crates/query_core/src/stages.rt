@@ -1,11 +1,10 @@
 // How far a query is, and what each answer makes of that.
 ghost use Rattle.std.specs.Prelude.{◌≡◌, drop, IfOk, OnOk};
 ghost use Rattle.std.specs.Option.{option_copied};
-ghost use Rattle.query_core.specs.Areas.{IsSmall};
+ghost use Rattle.query_core.specs.Rounds.{IsSmall, round_of, with_slot};
 ghost use Rattle.query_core.specs.Courses.{left, with_found};
 ghost use Rattle.query_core.specs.Loadings.{no_word, with_word};
 ghost use Rattle.query_core.specs.Program as spec;
-ghost use Rattle.query_core.specs.Rounds.{round_of, with_slot};
 
 use crate::answers::{Answer, RoundFault};
 use crate::areas::Area;

@@ -1,6 +1,6 @@
 // The visits of a round.
 ghost use Rattle.std.specs.Prelude.{◌≡◌, IfOk, OnOk};
-ghost use Rattle.query_core.specs.Looks.{read_at};
+ghost use Rattle.query_core.specs.Rounds.{read_at};
 ghost use Rattle.query_core.specs.Visits as spec;
 
 use crate::looks::{Look, unread_looks};

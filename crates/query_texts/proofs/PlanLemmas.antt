@@ -1,11 +1,9 @@
 -- A text's plan, step by step.
 use Rattle.std.proofs.Common.{◌≡◌, ◌<◌, ℕ, List, Result, Ok, map, sym, ap, subst}
 use Rattle.std.specs.List.{AllByRecursion}
-use Rattle.mon_hints.specs.Formulas.{all_named, formula_tree, formulas}
-use Rattle.mon_hints.specs.Listings.{IsListing}
-use Rattle.mon_schema.specs.HeldMetrics.{AreMetricsHeld}
-use Rattle.mon_schema.specs.HeldTargets.{AllTellLocations}
-use Rattle.mon_schema.specs.SchemaLists.{SchemaLists}
+use Rattle.mon_hints.specs.Formulas.{all_named, formula_tree, formulas, IsListing}
+use Rattle.mon_schema.specs.Fits.{AreMetricsHeld, AllTellLocations}
+use Rattle.mon_schema.specs.Names.{SchemaLists}
 use Rattle.mon_value.specs.Answers.{◌>>=◌, GivesView}
 use Rattle.mon_value.specs.declared.refusals.Refusal.{Refusal}
 use Rattle.mql_ast.specs.Grammar.{Spells}
@@ -19,9 +17,8 @@ use Rattle.mql_types.specs.Soundness.{IsQueryType}
 use Rattle.mql_types.specs.Typing.{typing}
 use Rattle.mql_types.specs.declared.plans.Plan.{Plan}
 use Rattle.plan_split.specs.FetchFormulas.{plan_formulas}
-use Rattle.plan_split.specs.Promises.{AllHoldWhereMet}
-use Rattle.query_texts.specs.Plans.{IsPlanOver}
-use Rattle.query_texts.specs.TextTypes.{refused_as, text_type, tree_type}
+use Rattle.plan_split.specs.Meeting.{AllHoldWhereMet}
+use Rattle.query_texts.specs.TextTypes.{IsPlanOver, refused_as, text_type, tree_type}
 use Rattle.query_texts.specs.declared.faults.TextFault.{TextFault}
 use Rattle.query_texts.specs.declared.faults.TextFault.TheVariants as fault
 

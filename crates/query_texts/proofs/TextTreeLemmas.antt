@@ -9,11 +9,10 @@ use Rattle.mql_parse.proofs.TextComplete.{text_complete}
 use Rattle.mql_parse.proofs.TextKinds.{fault_kind}
 use Rattle.mql_parse.proofs.TextSound.{text_sound}
 use Rattle.mql_parse.proofs.TextSteady.{fault_place, long_fault}
-use Rattle.mql_parse.specs.FaultPlaces.{too_long}
+use Rattle.mql_parse.specs.Faults.{too_long}
 use Rattle.mql_parse.specs.PipeReading.{text_outcome}
 use Rattle.mql_parse.specs.declared.faults.ParseFault.{ParseFault}
-use Rattle.query_texts.specs.TextTrees.{GoesByTree, HasNoTree, IsAlwaysRefused, IsTextFault}
-use Rattle.query_texts.specs.TextTypes.{refused_as, tree_type}
+use Rattle.query_texts.specs.TextTypes.{GoesByTree, HasNoTree, IsAlwaysRefused, IsTextFault, refused_as, tree_type}
 use Rattle.query_texts.specs.declared.faults.TextFault.TheVariants as fault
 
 pub goes_by_tree : (text : List ℕ) → GoesByTree text

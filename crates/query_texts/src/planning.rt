@@ -5,8 +5,7 @@ ghost use Rattle.mql_ast.specs.Trees.{query_tree};
 ghost use Rattle.mql_types.specs.Nodes.{typed_tree};
 ghost use Rattle.mql_types.specs.Soundness.{IsQueryType};
 ghost use Rattle.mql_types.specs.Typing.{typing};
-ghost use Rattle.query_texts.specs.Plans.{IsPlanOver, plan_type};
-ghost use Rattle.query_texts.specs.TextTypes.{text_type, tree_type};
+ghost use Rattle.query_texts.specs.TextTypes.{IsPlanOver, plan_type, text_type, tree_type};
 
 use crate::faults::TextFault;
 use mon_schema::Schemas;

@@ -5,7 +5,7 @@ use Rattle.mon_value.specs.declared.positions.Zone.{Zone}
 use Rattle.mon_hints.specs.declared.places.Place.{Place}
 use Rattle.mon_hints.specs.declared.places.Place.TheVariants as at
 use Rattle.raise_table.specs.declared.places.ZoneLeaf.{ZoneLeaf}
-use Rattle.mon_value.specs.Positions.{zone_numbered}
+use Rattle.mon_value.specs.Histories.{zone_numbered}
 use Rattle.mon_value.specs.declared.limits.TheConstants.{MOST_BUCKETS}
 
 abbrev pub zone_leaf : ℕ → ℕ → ZoneLeaf

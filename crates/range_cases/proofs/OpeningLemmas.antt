@@ -14,14 +14,13 @@ use Rattle.know.specs.Knowledge.{Knowledge, from_seats}
 use Rattle.know.specs.Sound.{IsSound}
 use Rattle.leaf_cell.specs.NewLeaves.{NewLeafView}
 use Rattle.leaf_cell.specs.Rest.{IsAtRest}
-use Rattle.leaf_store.specs.LeafBuckets.{key_buckets}
+use Rattle.leaf_store.specs.LeafStates.{key_buckets}
 use Rattle.leaf_store.specs.LeafStates as store
-use Rattle.mon_topo.specs.FirstHistories.{opening, slot_numbered}
+use Rattle.mon_topo.specs.HeldHistories.{opening, slot_numbered}
 use Rattle.mon_topo.specs.Settings.{Setting}
 use Rattle.mon_topo.specs.Sights.{no_sight, sight_of}
 use Rattle.mon_topo.specs.Zones.{leaf_counts, leaves_in}
-use Rattle.mon_value.specs.Histories.{joined_histories}
-use Rattle.mon_value.specs.Positions.{leaf_numbered, range_numbered}
+use Rattle.mon_value.specs.Histories.{joined_histories, leaf_numbered, range_numbered}
 use Rattle.mon_value.specs.declared.histories.Histories.{Histories}
 use Rattle.mon_value.specs.declared.histories.RangeEntry.{RangeEntry}
 use Rattle.mon_value.specs.declared.positions.Leaf.{Leaf}

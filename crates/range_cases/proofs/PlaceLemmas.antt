@@ -4,7 +4,7 @@ use Rattle.std.specs.List.{slice_index_or}
 use Rattle.mon_topo.specs.Locations.{LiesIn}
 use Rattle.mon_topo.specs.Settings.{Setting}
 use Rattle.mon_topo.specs.Zones.{leaves_in, ranges_in}
-use Rattle.mon_value.specs.Positions.{range_numbered}
+use Rattle.mon_value.specs.Histories.{range_numbered}
 use Rattle.mon_value.specs.declared.rows.SeriesKey.{SeriesKey}
 use Rattle.range_cases.specs.Setups.{key_of_host, setting_of, zones_of}
 use Rattle.range_cases.specs.declared.setups.Replicas.{Replicas}

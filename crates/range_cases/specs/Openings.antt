@@ -6,10 +6,10 @@ use Rattle.history_book.specs.Seats.{Owner, hand_of, new_owner, times_range}
 use Rattle.know.specs.Knowledge.{Knowledge}
 use Rattle.know.specs.Tables.{AreTablesOf}
 use Rattle.leaf_cell.specs.NewLeaves.{HasOpened, NewLeafView, own_history}
-use Rattle.mon_topo.specs.FirstHistories.{opening}
+use Rattle.mon_topo.specs.HeldHistories.{opening}
 use Rattle.mon_topo.specs.Settings.{Setting}
 use Rattle.mon_value.specs.LeafHistories.{is_down, is_opened}
-use Rattle.mon_value.specs.Positions.{leaf_numbered, range_numbered}
+use Rattle.mon_value.specs.Histories.{leaf_numbered, range_numbered}
 use Rattle.mon_value.specs.declared.histories.Entry.{Entry}
 use Rattle.mon_value.specs.declared.histories.Histories.{Histories}
 use Rattle.mon_value.specs.declared.positions.Leaf.{Leaf}

@@ -6,7 +6,7 @@ ghost use Rattle.history_book.specs.declared.views.History.TheVariants as of;
 ghost use Rattle.know.specs.Knowledge.{from_seats};
 ghost use Rattle.mon_topo.specs.Sights.{no_sight};
 ghost use Rattle.mon_topo.specs.Zones.{first_replicas};
-ghost use Rattle.mon_value.specs.Positions.{range_numbered};
+ghost use Rattle.mon_value.specs.Histories.{range_numbered};
 ghost use Rattle.mon_value.specs.declared.histories.Entry.TheVariants as entry;
 ghost use Rattle.raise_table.specs.Places.{zone_leaf};
 ghost use Rattle.raise_table.specs.Seats as raising;

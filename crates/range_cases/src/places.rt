@@ -2,7 +2,7 @@
 ghost use Rattle.std.specs.Prelude.{◌≡◌, ◌<◌, [], ◌∷◌, length, IsTrue};
 ghost use Rattle.mon_topo.specs.Locations.{LiesIn};
 ghost use Rattle.mon_topo.specs.Zones.{leaves_in};
-ghost use Rattle.mon_value.specs.Positions.{range_numbered};
+ghost use Rattle.mon_value.specs.Histories.{range_numbered};
 ghost use Rattle.range_cases.specs.Setups.{held, setting_of};
 
 use crate::callers::{Caller, Operator};

@@ -11,8 +11,8 @@ use Rattle.history_book.specs.Seats.{Owner}
 use Rattle.know.specs.Sound.{IsSound}
 use Rattle.mon_topo.proofs.FirstLemmas.{no_acks, no_acks_yet}
 use Rattle.mon_topo.proofs.HeldLemmas.{range_entry_held}
-use Rattle.mon_topo.specs.FirstHistories.{openings_from, slot_numbered}
-use Rattle.mon_topo.specs.HeldHistories.{AreHeld, BeginsWith, IsBorneOut, IsHeldBy, IsOpened}
+use Rattle.mon_topo.specs.HeldHistories.{openings_from, slot_numbered, AreHeld, BeginsWith, IsBorneOut, IsHeldBy}
+use Rattle.mon_topo.specs.HeldHistories.{IsOpened}
 use Rattle.mon_topo.specs.RangeHistories.{MayFollow, acknowledged_rows, opened_slots, serving, serving_after}
 use Rattle.mon_topo.specs.Replicas.{HasReplicas}
 use Rattle.mon_topo.specs.Settings.{Setting}

@@ -9,8 +9,7 @@ use Rattle.know.specs.Knowledge.{Knowledge}
 use Rattle.mon_topo.proofs.FrontLemmas.{begins_to, behind}
 use Rattle.mon_topo.proofs.PartLemmas.{length-zones_of}
 use Rattle.mon_topo.proofs.RangeHistoryLemmas.{all_from}
-use Rattle.mon_topo.specs.FirstHistories.{first_range_history, openings_from}
-use Rattle.mon_topo.specs.HeldHistories.{AreHeld, BeginsWith, IsAtHome}
+use Rattle.mon_topo.specs.HeldHistories.{first_range_history, openings_from, AreHeld, BeginsWith, IsAtHome}
 use Rattle.mon_topo.specs.RangeHistories as range_spec
 use Rattle.mon_topo.specs.RangeHistories.{IsInZoneOf, IsLegal, acknowledged_rows, opened_slots, serving}
 use Rattle.mon_topo.specs.Settings.{Setting}
@@ -39,7 +38,7 @@ use Rattle.range_cell.specs.declared.answers.RecoverFault.{RecoverFault}
 use Rattle.range_cell.specs.declared.answers.RecoverFault.TheVariants as fault
 use Rattle.write_core.proofs.OpeningLemmas.{acked_source, replica_at_home}
 use Rattle.write_core.specs.CopySteps.{next_slot}
-use Rattle.write_core.specs.Openings.{denial_of}
+use Rattle.write_core.specs.Recovering.{denial_of}
 
 -- ---- behind the lock
 

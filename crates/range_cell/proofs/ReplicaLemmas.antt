@@ -18,10 +18,9 @@ use Rattle.mon_topo.proofs.FrontLemmas.{begins-flat_map, begins_from}
 use Rattle.mon_topo.proofs.HeldLemmas.{leaf_same, range_entry_held}
 use Rattle.mon_topo.proofs.PartLemmas.{length-zones_of}
 use Rattle.mon_topo.proofs.RangeHistoryLemmas.{all_at}
-use Rattle.mon_topo.specs.HeldHistories.{AreHeld, BeginsWith, IsAtHome, IsBorneOut}
+use Rattle.mon_topo.specs.HeldHistories.{AreHeld, BeginsWith, IsAtHome, IsBorneOut, with_range_entry}
 use Rattle.mon_topo.specs.RangeHistories as range_spec
 use Rattle.mon_topo.specs.RangeHistories.{acknowledged_rows, is_on, opened_slots, serving}
-use Rattle.mon_topo.specs.SeenHistories.{with_range_entry}
 use Rattle.mon_topo.specs.Settings.{Setting}
 use Rattle.mon_topo.specs.Zones.{leaves_in}
 use Rattle.mon_topo.specs.declared.limits.TheConstants.{MOST_REPLICAS, MOST_SLOTS}
@@ -49,7 +48,7 @@ use Rattle.range_cell.specs.Rest.{HasJust, HaveJust}
 use Rattle.write_core.proofs.AckLemmas.{contains_one}
 use Rattle.write_core.proofs.OpeningLemmas.{acked-opened, opened-opened, serving-opened}
 use Rattle.write_core.specs.CopySteps.{next_slot}
-use Rattle.write_core.specs.Openings.{denial_of, denied_by}
+use Rattle.write_core.specs.Recovering.{denial_of, denied_by}
 use Rattle.write_core.specs.declared.copies.Denial.{Denial}
 use Rattle.write_core.specs.declared.copies.Denial.TheVariants.{ServesFully, SlotsSpent}
 

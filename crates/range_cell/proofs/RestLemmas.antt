@@ -10,8 +10,7 @@ use Rattle.history_book.specs.declared.views.BookEntry.TheVariants as one
 use Rattle.history_book.specs.declared.views.History.TheVariants as of
 use Rattle.history_book.specs.Histories.{entries}
 use Rattle.history_book.specs.Seats.{times_range}
-use Rattle.mon_value.specs.Histories.{range_history}
-use Rattle.mon_value.specs.Positions.{same_range}
+use Rattle.mon_value.specs.Histories.{range_history, same_range}
 use Rattle.mon_value.specs.declared.histories.Histories.{Histories}
 use Rattle.mon_value.specs.declared.histories.RangeEntry.{RangeEntry}
 use Rattle.mon_value.specs.declared.positions.Range.{Range}

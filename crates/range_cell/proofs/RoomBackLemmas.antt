@@ -11,8 +11,7 @@ use Rattle.know.specs.Knowledge.{Knowledge}
 use Rattle.mon_topo.proofs.RangeHistoryLemmas.{all_at}
 use Rattle.mon_topo.specs.Settings.{Setting}
 use Rattle.mon_topo.specs.Zones.{leaves_in}
-use Rattle.mon_value.specs.Histories.{leaf_history, range_history}
-use Rattle.mon_value.specs.Positions.{same_leaf}
+use Rattle.mon_value.specs.Histories.{leaf_history, range_history, same_leaf}
 use Rattle.mon_value.specs.declared.positions.Leaf.{Leaf}
 use Rattle.mon_value.specs.declared.positions.Range.{Range}
 use Rattle.mon_value.specs.declared.positions.SlotLeaf.{SlotLeaf}

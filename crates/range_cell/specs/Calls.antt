@@ -8,9 +8,8 @@ use Rattle.history_book.specs.Seats.{after_own_learn, after_parting, kept_with, 
 use Rattle.history_book.specs.Seats.{with_guest}
 use Rattle.know.specs.Knowledge.{Knowledge}
 use Rattle.know.specs.Lending.{lent_seat}
-use Rattle.mon_topo.specs.HeldHistories.{AreHeld}
-use Rattle.mon_topo.specs.SeenHistories.{with_range_entry}
-use Rattle.mon_topo.specs.Serving.{first_serving}
+use Rattle.mon_topo.specs.HeldHistories.{AreHeld, with_range_entry}
+use Rattle.mon_topo.specs.RangeHistories.{first_serving}
 use Rattle.mon_topo.specs.Settings.{Setting}
 use Rattle.mon_value.specs.Histories.{joined_histories, leaf_history, range_history}
 use Rattle.mon_value.specs.declared.histories.Histories.{Histories}

@@ -8,15 +8,14 @@ use Rattle.mon_topo.specs.RangeHistories.{IsInZoneOf, acknowledged_rows, opened_
 use Rattle.mon_topo.specs.Settings.{Setting}
 use Rattle.mon_topo.specs.Zones.{first_replicas, leaves_in}
 use Rattle.mon_value.specs.Histories.{leaf_history}
-use Rattle.mon_value.specs.LeafHistories.{replica_rows}
-use Rattle.mon_value.specs.Sources.{IsSource}
+use Rattle.mon_value.specs.LeafHistories.{replica_rows, IsSource}
 use Rattle.mon_value.specs.declared.histories.RangeEntry.{RangeEntry}
 use Rattle.mon_value.specs.declared.positions.Leaf.{Leaf}
 use Rattle.mon_value.specs.declared.positions.Range.{Range}
 use Rattle.owners.specs.Puts.{pass_of}
 use Rattle.range_cell.specs.Rest.{HaveJust}
 use Rattle.write_core.specs.CopySteps.{next_slot}
-use Rattle.write_core.specs.Openings.{denial_of}
+use Rattle.write_core.specs.Recovering.{denial_of}
 
 -- The caller holds the range, whose first replicas were opened and which may open one more on the leaf; it knows of the
 -- replicas that serve that they have just the acknowledged rows, which lie in the range, and of no row in the next slot

@@ -3,9 +3,8 @@ use Rattle.std.specs.Prelude.{◌≡◌, ◌<◌, ◌≤◌, ℕ, true, false, L
 use Rattle.history_book.specs.declared.views.History.TheVariants as of
 use Rattle.history_book.specs.Seats.{times_range}
 use Rattle.mon_topo.specs.RangeHistories.{acknowledged_rows, opened_slots, serving}
-use Rattle.mon_value.specs.Histories.{leaf_history, range_history}
+use Rattle.mon_value.specs.Histories.{leaf_history, range_history, range_numbered, same_range}
 use Rattle.mon_value.specs.LeafHistories.{is_opened, replica_rows}
-use Rattle.mon_value.specs.Positions.{range_numbered, same_range}
 use Rattle.mon_value.specs.declared.histories.Histories.{Histories}
 use Rattle.mon_value.specs.declared.histories.RangeEntry.{RangeEntry}
 use Rattle.mon_value.specs.declared.positions.Leaf.{Leaf}

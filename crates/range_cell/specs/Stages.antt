@@ -25,7 +25,7 @@ use Rattle.write_core.specs.declared.asks.WriteAsk.{WriteAsk}
 use Rattle.write_core.specs.declared.asks.WriteAsk.TheVariants as ask
 use Rattle.write_core.specs.declared.marks.Mark.{Mark}
 use Rattle.mon_topo.specs.HeldHistories.{IsAtHome}
-use Rattle.mon_value.specs.Sources.{IsSource}
+use Rattle.mon_value.specs.LeafHistories.{IsSource}
 
 -- two replicas have different slots
 pub record IsApart (a b : SlotLeaf) : Type 0 where

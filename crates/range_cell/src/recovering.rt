@@ -6,8 +6,7 @@ ghost use Rattle.history_book.specs.declared.views.History.TheVariants as of;
 ghost use Rattle.history_book.specs.Histories.{with_book_entry};
 ghost use Rattle.history_book.specs.Seats.{after_append, guest_purse, hand_of, times_range};
 ghost use Rattle.know.specs.Sound.{IsSound};
-ghost use Rattle.mon_topo.specs.FirstHistories.{first_range_history};
-ghost use Rattle.mon_topo.specs.HeldHistories.{BeginsWith};
+ghost use Rattle.mon_topo.specs.HeldHistories.{first_range_history, BeginsWith};
 ghost use Rattle.mon_topo.specs.RangeHistories.{IsInZoneOf, acknowledged_rows, serving};
 ghost use Rattle.mon_topo.specs.Zones.{leaves_in, ranges_in};
 ghost use Rattle.mon_value.specs.Histories.{range_history};
@@ -19,7 +18,7 @@ ghost use Rattle.range_cell.specs.Recoveries.{HasEndedSo, HasEndedThere, HasNotC
 ghost use Rattle.range_cell.specs.Recoveries.{IsLooking, after_copying};
 ghost use Rattle.range_cell.specs.Rest.{HaveJust, IsRangeAtRest, IsRangeHeld};
 ghost use Rattle.write_core.specs.CopySteps.{next_slot};
-ghost use Rattle.write_core.specs.Openings.{denial_of};
+ghost use Rattle.write_core.specs.Recovering.{denial_of};
 ghost use Rattle.write_core.specs.Replays.{HasReplicaRoom};
 
 use crate::answers::RecoverFault;

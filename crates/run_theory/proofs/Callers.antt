@@ -6,7 +6,7 @@ use Rattle.std.specs.List.{AllByRecursion, list_any}
 use mathlib.Core.List.{IsPrefix}
 use Rattle.std.proofs.lemmas.List.{append-nil, drop_at, take_all, length-append}
 use Rattle.std.proofs.lemmas.List.Elements.{filter-append}
-use Rattle.run_theory.specs.Marks.{between}
+use Rattle.run_theory.specs.Parts.{between}
 use Rattle.run_theory.proofs.Marks.{all_as}
 
 module _ {X : Type 0} where

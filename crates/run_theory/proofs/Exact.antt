@@ -2,7 +2,7 @@
 use Rattle.std.proofs.Common.{◌≡◌, ℕ, zero, suc, ◌<◌, ◌≤◌, Bool, true, false, List, [], ◌∷◌, length}
 use Rattle.std.proofs.Common.{slice_get, Some, ap, ◌∙◌, arith, if◌then◌else◌}
 use Rattle.std.proofs.lemmas.Bool.{false≢true}
-use Rattle.run_theory.specs.Places.{end_behind, first_place, last_end}
+use Rattle.run_theory.specs.InPlace.{end_behind, first_place, last_end}
 
 some_end : (b : Bool) (m : ℕ) → b ≡ true → 0 < end_behind b m
 some_end b (suc m) is = omega arith

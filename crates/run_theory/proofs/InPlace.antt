@@ -3,8 +3,8 @@ use Rattle.std.proofs.Common.{◌≡◌, ℕ, ◌<◌, ◌≤◌, Bool, true, fa
 use Rattle.std.proofs.Common.{slice_get, Some, refl, arith}
 use Rattle.std.specs.List.{AllByRecursion, list_any}
 use Rattle.std.proofs.lemmas.Bool.{false≢true}
-use Rattle.run_theory.specs.Marks.{IsWithin, Ran, RanBefore, RanBehind}
-use Rattle.run_theory.specs.Places.{first_place, last_end}
+use Rattle.run_theory.specs.Parts.{IsWithin, Ran, RanBefore, RanBehind}
+use Rattle.run_theory.specs.InPlace.{first_place, last_end}
 use Rattle.run_theory.proofs.Lists.{first_place_behind, last_end_within}
 
 pub any_by : {C : Type 0} (b r : Bool) → (b ≡ true → C) → (r ≡ true → C) → (b || r) ≡ true → C

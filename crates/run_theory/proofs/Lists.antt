@@ -4,8 +4,8 @@ use Rattle.std.proofs.Common.{length}
 use Rattle.std.proofs.Common.{take, drop, slice_get, Some, refl, sym, ap, ◌∙◌, arith, if◌then◌else◌}
 use mathlib.Core.List.{IsPrefix}
 use Rattle.std.proofs.lemmas.List.{take-append-le, length-append}
-use Rattle.run_theory.specs.Marks.{between}
-use Rattle.run_theory.specs.Places.{end_behind, first_place, last_end}
+use Rattle.run_theory.specs.Parts.{between}
+use Rattle.run_theory.specs.InPlace.{end_behind, first_place, last_end}
 
 behind_within : (b : Bool) (m n : ℕ) → m ≤ n → end_behind b m ≤ suc n
 behind_within b (suc m) n le = omega arith

@@ -3,7 +3,7 @@ use Rattle.std.proofs.Common.{◌≡◌, ℕ, nat_eq, true, List, [], ◌∷◌}
 use Rattle.std.proofs.Common.{◌++◌, filter}
 use Rattle.std.proofs.Common.{refl, sym, ap, ◌∙◌, subst, arith}
 use Rattle.std.specs.List.{AllByRecursion, list_any}
-use Rattle.run_theory.specs.Marks.{AreBelow, EachRan, GrowAlong, IsWithin, PartRan, PartsRan, Ran, RanBefore, RanBehind}
+use Rattle.run_theory.specs.Parts.{AreBelow, EachRan, GrowAlong, IsWithin, PartRan, PartsRan, Ran, RanBefore, RanBehind}
 use Rattle.run_theory.specs.Parts.{Each, Part, all_lines, lines_of}
 use Rattle.run_theory.proofs.Lists.{between_stays}
 

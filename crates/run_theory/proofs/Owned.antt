@@ -6,8 +6,7 @@ use mathlib.Core.Logic.{◌⊎◌}
 use Rattle.std.specs.List.{AllByRecursion, list_any}
 use Rattle.std.proofs.lemmas.Bool.{false≢true}
 use Rattle.run_theory.specs.InPlace.{AreTheirs}
-use Rattle.run_theory.specs.Marks.{EachRan, PartRan, PartsRan, between}
-use Rattle.run_theory.specs.Parts.{Part, all_lines, lines_of}
+use Rattle.run_theory.specs.Parts.{EachRan, PartRan, PartsRan, between, Part, all_lines, lines_of}
 
 or_more : (a b c : Bool) → (a || b) ≡ true → (b ≡ true → c ≡ true) → (a || c) ≡ true
 or_more true b c is more = refl

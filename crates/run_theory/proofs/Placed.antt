@@ -1,10 +1,8 @@
 -- Each line of a run in its place, and with no entry of another's.
 use Rattle.std.proofs.Common.{◌≡◌, ◌≤◌, ◌<◌, ℕ, Bool, true, List, [], ◌∷◌, slice_get, Some, arith}
 use Rattle.std.specs.List.{AllByRecursion}
-use Rattle.run_theory.specs.InPlace.{ArePlaced, RanInPlace}
-use Rattle.run_theory.specs.Marks.{AreBelow, IsWithin, PartsRan, Ran, RanBefore, RanBehind}
-use Rattle.run_theory.specs.Parts.{Each, Part, lines_of}
-use Rattle.run_theory.specs.Shares.{AreAlone, IsAlone}
+use Rattle.run_theory.specs.InPlace.{ArePlaced, RanInPlace, AreAlone, IsAlone}
+use Rattle.run_theory.specs.Parts.{AreBelow, IsWithin, PartsRan, Ran, RanBefore, RanBehind, Each, Part, lines_of}
 use Rattle.run_theory.proofs.InPlace.{high_behind, low_within}
 use Rattle.run_theory.proofs.Marks.{each_from}
 use Rattle.run_theory.proofs.Shares.{not_later, part_alone}

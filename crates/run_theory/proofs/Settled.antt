@@ -1,10 +1,8 @@
 -- What holds of each line of a whole run.
 use Rattle.std.proofs.Common.{◌≡◌, ◌≤◌, ℕ, Bool, List, [], length, arith}
 use Rattle.std.specs.List.{AllByRecursion}
-use Rattle.run_theory.specs.InPlace.{AreDistinct, AreNotFirst, AreUnder, FoundThere, RanInPlace}
-use Rattle.run_theory.specs.Marks.{IsWithin, PartsRan}
-use Rattle.run_theory.specs.Parts.{Each, Part, lines_of}
-use Rattle.run_theory.specs.Shares.{AreAlone, IsAlone}
+use Rattle.run_theory.specs.InPlace.{AreDistinct, AreNotFirst, AreUnder, FoundThere, RanInPlace, AreAlone, IsAlone}
+use Rattle.run_theory.specs.Parts.{IsWithin, PartsRan, Each, Part, lines_of}
 use Rattle.run_theory.proofs.Placed.{each_alone, each_in_place, parts_alone}
 use Rattle.run_theory.proofs.Stands.{all_there, there_placed}
 

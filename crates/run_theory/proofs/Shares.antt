@@ -3,8 +3,8 @@ use Rattle.std.proofs.Common.{◌≡◌, ℕ, ◌<◌, ◌≤◌, nat_eq, Bool, 
 use Rattle.std.proofs.Common.{slice_get, Some, sym, ◌∙◌, arith}
 use Rattle.std.specs.List.{AllByRecursion, list_any}
 use Rattle.std.proofs.lemmas.Bool.{false≢true, or_parts, false_from_ne_true, eq-eqb}
-use Rattle.run_theory.specs.Marks.{AreApart, EachRan, Ran, RanBehind}
-use Rattle.run_theory.specs.Shares.{AreAlone}
+use Rattle.run_theory.specs.Parts.{AreApart, EachRan, Ran, RanBehind}
+use Rattle.run_theory.specs.InPlace.{AreAlone}
 use Rattle.run_theory.proofs.InPlace.{any_by, any_from}
 
 module _ {W H E R : Type 0} (content : W → H → List E) (under : E → ℕ)

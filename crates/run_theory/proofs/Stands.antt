@@ -6,8 +6,7 @@ use Rattle.std.proofs.lemmas.Bool.{cases_lt, false≢true, eqb-true}
 use Rattle.std.proofs.lemmas.Bool.Decides.{nat_tests}
 use mathlib.Core.Logic.{◌⊎◌}
 use Rattle.run_theory.specs.InPlace.{AreDistinct, AreNotFirst, AreUnder, ArePlaced, FoundThere}
-use Rattle.run_theory.specs.Marks.{AreBelow, EachRan, PartRan, PartsRan, Ran, between}
-use Rattle.run_theory.specs.Parts.{Part, lines_of}
+use Rattle.run_theory.specs.Parts.{AreBelow, EachRan, PartRan, PartsRan, Ran, between, Part, lines_of}
 use Rattle.run_theory.proofs.Marks.{parts_below, parts_push}
 use Rattle.run_theory.proofs.Owned.{all_between}
 

@@ -8,8 +8,7 @@ use Rattle.std.proofs.lemmas.Bool.Decides.{nat_tests}
 use Rattle.std.proofs.lemmas.List.{append-nil, drop_all, length-take}
 use Rattle.std.proofs.lemmas.List.Concat.{flat_map-append}
 use Rattle.std.proofs.lemmas.List.Elements.{filter-append}
-use Rattle.run_theory.specs.Marks.{AreApart, EachRan, PartRan, PartsRan, Ran, between}
-use Rattle.run_theory.specs.Parts.{Part, all_lines, lines_of}
+use Rattle.run_theory.specs.Parts.{AreApart, EachRan, PartRan, PartsRan, Ran, between, Part, all_lines, lines_of}
 use Rattle.run_theory.proofs.Lists.{between_cut}
 use Rattle.run_theory.proofs.Marks.{all_as, parts_below}
 

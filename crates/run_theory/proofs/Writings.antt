@@ -1,8 +1,7 @@
 -- A part ran where the script's caller has seen all that its lines wrote.
 use Rattle.std.proofs.Common.{ℕ, List, [], ◌∷◌, ◌++◌, length}
 use Rattle.std.proofs.Common.{arith}
-use Rattle.run_theory.specs.Marks.{EachRan, GoesOn, GrowAlong, PartRan, PartsRan}
-use Rattle.run_theory.specs.Parts.{Part, lines_of}
+use Rattle.run_theory.specs.Parts.{EachRan, GoesOn, GrowAlong, PartRan, PartsRan, Part, lines_of}
 use Rattle.run_theory.specs.Writings.{EachWrote, PartWrote}
 use Rattle.run_theory.proofs.Callers.{exact_from, theirs_from}
 use Rattle.run_theory.proofs.Lists.{prefix_longer}

@@ -1,8 +1,30 @@
--- The place of a line: how far histories had been seen as it ran, against the entries of the other lines.
-use Rattle.std.specs.Prelude.{◌≡◌, ◌≤◌, ◌<◌, ℕ, Bool, true, List, slice_get, Some}
+-- The place of a line in histories, and lines that share no entry.
+use Rattle.std.specs.Prelude.{ℕ, zero, suc, Bool, true, false, List, [], ◌∷◌, if◌then◌else◌, ◌≡◌, ◌≤◌, ◌<◌, slice_get}
+use Rattle.std.specs.Prelude.{Some}
 use Rattle.std.specs.List.{AllByRecursion, list_any}
-use Rattle.run_theory.specs.Marks.{AreBelow, IsWithin, Ran, RanBefore, RanBehind}
-use Rattle.run_theory.specs.Places.{first_place, last_end}
+use Rattle.std.specs.Bool.{⊤}
+use Rattle.run_theory.specs.Parts.{AreBelow, IsWithin, Ran, RanBefore, RanBehind}
+
+-- Places in a history, counted from 0, that pass a test.
+
+-- behind what comes, one more
+abbrev pub end_behind : Bool → ℕ → ℕ
+end_behind found (suc n) = suc (suc n)
+end_behind true zero = 1
+end_behind false zero = 0
+
+module _ {E : Type 0} where
+  -- the least length that holds every entry that passes a test of its place and of itself
+  abbrev pub last_end : (ℕ → E → Bool) → List E → ℕ
+  last_end test [] = 0
+  last_end test (e ∷ history) = end_behind (test 0 e) (last_end (λ k. test (suc k)) history)
+
+  -- the greatest length that holds none
+  abbrev pub first_place : (ℕ → E → Bool) → List E → ℕ
+  first_place test [] = 0
+  first_place test (e ∷ history) = if test 0 e then 0 else suc (first_place (λ k. test (suc k)) history)
+
+-- The place of a line: how far histories had been seen as it ran, against the entries of the other lines.
 
 module _ {H E R : Type 0} (is_of : R → H → ℕ → E → Bool) (whole : H → List E) where
   -- the least length of a history that holds every entry of some lines
@@ -75,3 +97,15 @@ abbrev pub FoundThere : {W H E R : Type 0} → (W → H → List E) → (R → H
 FoundThere {W} {H} {E} {R} content is_of Finds whole from to number line = Finds whole from to number line
     × ((h : H) (k : ℕ) (e : E) → slice_get (content whole h) k ≡ Some e → is_of line h k e ≡ true
     → (from h ≤ k) × (k < to h))
+
+-- Lines that share no entry.
+
+module _ {H E R : Type 0} (is_of : R → H → ℕ → E → Bool) (whole : H → List E) where
+  -- no entry of the line is one of the others
+  abbrev pub IsAlone : R → List R → Type 0
+  IsAlone line others = (h : H) (k : ℕ) (e : E) → slice_get (whole h) k ≡ Some e → is_of line h k e ≡ true
+      → list_any (λ other. is_of other h k e) others ≡ false
+
+  abbrev pub AreAlone : List R → Type 0
+  AreAlone [] = ⊤
+  AreAlone (line ∷ lines) = IsAlone line lines × AreAlone lines

@@ -2,8 +2,7 @@
 use Rattle.std.specs.Prelude.{◌≡◌, ℕ, nat_eq, true, List, [], ◌∷◌, ◌++◌, length, filter}
 use Rattle.std.specs.Bool.{⊤}
 use Rattle.std.specs.List.{AllByRecursion, list_any}
-use Rattle.run_theory.specs.Marks.{AreApart}
-use Rattle.run_theory.specs.Parts.{Part, lines_of}
+use Rattle.run_theory.specs.Parts.{AreApart, Part, lines_of}
 
 module _ {W H E R : Type 0} (content : W → H → List E) (under : E → ℕ)
     (Makes : ℕ → R → (H → List E) → Type 0) (Finds : W → (H → ℕ) → (H → ℕ) → ℕ → R → Type 0) (grown : W → W → Type 0)

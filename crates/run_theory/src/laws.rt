@@ -1,12 +1,9 @@
 // What holds of every run.
 ghost use Rattle.std.specs.Prelude.{◌≡◌, ◌≤◌, ◌<◌, ◌∷◌, ◌++◌, ℕ, List, Bool, true, Some, [], filter, length, slice_get};
 ghost use Rattle.std.specs.List.{AllByRecursion, flat_map, list_any};
-ghost use Rattle.run_theory.specs.InPlace.{AreDistinct, AreNotFirst, AreTheirs, AreUnder};
-ghost use Rattle.run_theory.specs.InPlace.{FoundThere, RanInPlace};
-ghost use Rattle.run_theory.specs.Marks.{GrowAlong, IsWithin, PartsRan, between};
-ghost use Rattle.run_theory.specs.Parts.{Each, Part, all_lines, lines_of};
-ghost use Rattle.run_theory.specs.Places.{first_place, last_end};
-ghost use Rattle.run_theory.specs.Shares.{AreAlone, IsAlone};
+ghost use Rattle.run_theory.specs.InPlace.{AreDistinct, AreNotFirst, AreTheirs, AreUnder, FoundThere, RanInPlace};
+ghost use Rattle.run_theory.specs.InPlace.{first_place, last_end, AreAlone, IsAlone};
+ghost use Rattle.run_theory.specs.Parts.{GrowAlong, IsWithin, PartsRan, between, Each, Part, all_lines, lines_of};
 ghost use Rattle.run_theory.specs.Tellings.{TellNoOthers, TellTheirs, told_under};
 ghost use Rattle.run_theory.specs.Writings.{PartWrote};
 ghost use mathlib.Core.List.{IsPrefix};

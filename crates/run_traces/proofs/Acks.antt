@@ -11,11 +11,10 @@ use Rattle.history_book.specs.declared.views.BookEntry.TheVariants as one
 use Rattle.history_book.specs.declared.views.History.{History}
 use Rattle.history_book.specs.declared.views.History.TheVariants as of
 use Rattle.mon_config.specs.declared.config.Config.{Config}
-use Rattle.mon_topo.specs.FirstHistories.{first_histories, first_range_history, openings_from}
+use Rattle.mon_topo.specs.HeldHistories.{first_histories, first_range_history, openings_from}
 use Rattle.mon_topo.specs.Zones.{first_replicas, ranges_in}
 use Rattle.mon_topo.specs.declared.zones.ZoneSpec.{ZoneSpec}
-use Rattle.mon_value.specs.Histories.{range_history}
-use Rattle.mon_value.specs.Positions.{same_range}
+use Rattle.mon_value.specs.Histories.{range_history, same_range}
 use Rattle.mon_value.specs.declared.histories.Histories.{Histories}
 use Rattle.mon_value.specs.declared.histories.RangeEntry.{RangeEntry}
 use Rattle.mon_value.specs.declared.histories.RangeEntry.TheVariants as range_entry
@@ -24,8 +23,7 @@ use Rattle.mon_value.specs.declared.positions.Range.{Range}
 use Rattle.mon_value.specs.declared.positions.Slot.{Slot}
 use Rattle.mon_value.specs.declared.rows.Row.{Row}
 use Rattle.mon_script.specs.declared.forms.LineForm.{LineForm}
-use Rattle.run_theory.specs.Marks.{between}
-use Rattle.run_theory.specs.Parts.{Part, all_lines}
+use Rattle.run_theory.specs.Parts.{between, Part, all_lines}
 use Rattle.run_theory.specs.Tellings.{TellNoOthers, TellTheirs}
 use Rattle.run_theory.proofs.Callers.{between_rest}
 use Rattle.run_theory.proofs.Stands.{same_to}

@@ -15,8 +15,7 @@ use Rattle.mon_config.specs.declared.config.Config.{Config}
 use Rattle.mon_points.specs.Records.{reads_of}
 use Rattle.mon_points.specs.declared.records.RowRead.{RowRead}
 use Rattle.mon_points.specs.declared.records.RowRead.TheVariants as read
-use Rattle.mon_topo.specs.RangeHistories.{serving}
-use Rattle.mon_topo.specs.Serving.{is_avoided}
+use Rattle.mon_topo.specs.RangeHistories.{serving, is_avoided}
 use Rattle.mon_value.specs.Histories.{leaf_history, range_history}
 use Rattle.mon_value.specs.LeafHistories.{is_down, is_switch}
 use Rattle.mon_value.specs.declared.histories.Entry.TheVariants as entry
@@ -26,22 +25,22 @@ use Rattle.mon_value.specs.declared.positions.FoundDown.{FoundDown}
 use Rattle.mon_value.specs.declared.positions.Leaf.{Leaf}
 use Rattle.mon_value.specs.declared.positions.Range.{Range}
 use Rattle.mon_value.specs.declared.rows.Row.{Row}
-use Rattle.mql_types.specs.Loads.{load}
+use Rattle.mql_types.specs.Meaning.{load}
 use Rattle.mql_types.specs.Nodes.{TypedTree}
-use Rattle.query_core.specs.Findings.{IsFoundBetween}
+use Rattle.query_core.specs.Courses.{IsFoundBetween}
 use Rattle.query_core.specs.Traces.{AreWider, IsBetween, IsTraceBetween, Lengths, found_leaves, source_of}
 use Rattle.query_core.specs.declared.answers.Trace.{Trace}
 use Rattle.range_cell.specs.declared.answers.WriteFault.{WriteFault}
 use Rattle.range_cell.specs.declared.answers.WriteFault.TheVariants as unwritten
 use Rattle.run_theory.specs.InPlace as theory
-use Rattle.run_theory.specs.Marks.{RanBefore, RanBehind}
+use Rattle.run_theory.specs.Parts.{RanBefore, RanBehind}
 use Rattle.run_theory.proofs.Lists.{first_place_behind, last_end_within}
 use Rattle.run_traces.specs.LineCauses.{HasCause, HasNoSource, HasNoTarget, HasNoneUp, HasRowCause, HasSwitchedEnough}
 use Rattle.run_traces.specs.LineCauses.{IsCaused, IsDenied, IsOverLimit, IsRefusedByRange, IsUnwritten, LineIsCaused}
 use Rattle.run_traces.specs.LineCauses.{WasAlready}
 use Rattle.run_traces.specs.LineCauses.{RowHasCause, RowsHaveCauses, fed, rows_before}
 use Rattle.run_traces.specs.LineClaims.{HasFound, Makes, RowFound, RowsFound, marked}
-use Rattle.run_traces.specs.LinePlaces.{first_length, high, highs, is_entry_of, is_fed, is_row, is_traced, low, lows}
+use Rattle.run_traces.specs.LineSwitches.{first_length, high, highs, is_entry_of, is_fed, is_row, is_traced, low, lows}
 use Rattle.run_traces.specs.LineTables.{moment_of, text_of}
 use Rattle.run_traces.specs.RanLines.{RanLine}
 use Rattle.run_traces.specs.declared.traces.LineFault.{LineFault}
@@ -52,7 +51,7 @@ use Rattle.run_traces.specs.declared.traces.RowRefusal.{RowRefusal}
 use Rattle.run_traces.specs.declared.traces.RowRefused.{RowRefused}
 use Rattle.run_traces.specs.declared.traces.RowRefused.TheVariants as refused
 use Rattle.mon_script.specs.declared.forms.LineForm.{LineForm}
-use Rattle.write_core.specs.Openings.{denial_of}
+use Rattle.write_core.specs.Recovering.{denial_of}
 use Rattle.write_core.specs.RangeAnswers.{refusal}
 use Rattle.write_core.specs.declared.copies.Denial.{Denial}
 use Rattle.write_core.specs.declared.copies.Denial.TheVariants as denial

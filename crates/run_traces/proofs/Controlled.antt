@@ -8,8 +8,7 @@ use Rattle.mon_value.specs.declared.histories.Histories.{Histories}
 use Rattle.mon_value.specs.declared.positions.Leaf.{Leaf}
 use Rattle.mon_value.specs.declared.positions.Range.{Range}
 use Rattle.run_traces.specs.LineClaims.{HasFound}
-use Rattle.run_traces.specs.LineControls.{IsControlled, LineIsControlled}
-use Rattle.run_traces.specs.LinePlaces.{high, low}
+use Rattle.run_traces.specs.LineSwitches.{IsControlled, LineIsControlled, high, low}
 use Rattle.run_traces.specs.RanLines.{RanLine}
 use Rattle.run_traces.specs.declared.traces.LineTrace.{LineTrace}
 use Rattle.run_traces.specs.declared.traces.LineTrace.TheVariants as came

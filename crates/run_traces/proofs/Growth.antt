@@ -8,7 +8,7 @@ use Rattle.history_book.specs.Histories.{book_entry_pass, entries}
 use Rattle.history_book.specs.declared.views.BookEntry.TheVariants as one
 use Rattle.history_book.specs.declared.views.History.{History}
 use Rattle.history_book.specs.declared.views.History.TheVariants as of
-use Rattle.leaf_store.specs.LeafBuckets.{key_buckets}
+use Rattle.leaf_store.specs.LeafStates.{key_buckets}
 use Rattle.mon_config.specs.declared.config.Config.{Config}
 use Rattle.mon_points.specs.declared.records.RowRead.{RowRead}
 use Rattle.mon_topo.specs.HeldHistories.{BeginsWith}
@@ -22,16 +22,15 @@ use Rattle.mon_value.specs.declared.rows.Row.{Row}
 use Rattle.mon_value.specs.declared.rows.SeriesKey.{SeriesKey}
 use Rattle.mql_types.specs.Nodes.{TypedTree}
 use Rattle.mql_types.specs.declared.plans.Plan.{Plan}
-use Rattle.query_core.specs.Findings.{IsFoundBetween}
+use Rattle.query_core.specs.Courses.{IsFoundBetween}
 use Rattle.query_core.specs.Traces.{AreWider, IsFreshSince, IsReadRightly, IsTraceBetween, Lengths, source_of}
 use Rattle.query_core.specs.declared.answers.Trace.{Trace}
-use Rattle.query_texts.specs.Plans.{plan_type}
-use Rattle.run_theory.specs.Marks.{AreBelow, GoesOn, GrowAlong, IsWithin}
-use Rattle.run_theory.specs.Parts.{Part}
+use Rattle.query_texts.specs.TextTypes.{plan_type}
+use Rattle.run_theory.specs.Parts.{AreBelow, GoesOn, GrowAlong, IsWithin, Part}
 use Rattle.run_theory.proofs.Writings.{one_more}
 use Rattle.run_traces.specs.LineClaims.{AllRan, Finds, HasFound, HasRange, HasWritten, HaveGrown, IsNewIn, Makes}
 use Rattle.run_traces.specs.LineClaims.{RowFound, RowsFound, StandsAmong, marked}
-use Rattle.run_traces.specs.LinePlaces.{first_length, is_row}
+use Rattle.run_traces.specs.LineSwitches.{first_length, is_row}
 use Rattle.run_traces.specs.RanLines.{RanLine}
 use Rattle.run_traces.specs.declared.traces.LineTrace.{LineTrace}
 use Rattle.run_traces.specs.declared.traces.LineTrace.TheVariants as came

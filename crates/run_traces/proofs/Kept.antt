@@ -3,7 +3,7 @@ use Rattle.std.proofs.Common.{◌≡◌, cond, List, [], ◌∷◌, ◌++◌, So
 use Rattle.std.proofs.Common.{append_assoc}
 use Rattle.run_theory.specs.Parts.{all_lines}
 use Rattle.run_traces.specs.RanLines.{Block, RanLine, acts, acts_by, block_behind, part_at, parts_from, parts_of}
-use Rattle.mon_script.specs.Places.{mark_of}
+use Rattle.mon_script.specs.Blocks.{mark_of}
 use Rattle.mon_script.specs.declared.places.Mark.{Mark}
 use Rattle.mon_script.specs.declared.places.Mark.TheVariants as mark
 

@@ -11,13 +11,11 @@ use Rattle.history_book.specs.declared.views.BookEntry.TheVariants as one
 use Rattle.history_book.specs.declared.views.History.{History}
 use Rattle.history_book.specs.declared.views.History.TheVariants as of
 use Rattle.mon_config.specs.declared.config.Config.{Config}
-use Rattle.mon_topo.specs.FirstHistories.{first_histories, first_leaf_history, first_range_history}
-use Rattle.mon_topo.specs.FirstHistories.{opened_here, openings_from}
-use Rattle.mon_topo.specs.FirstHistories.{opened_of, opening}
+use Rattle.mon_topo.specs.HeldHistories.{first_histories, first_leaf_history, first_range_history, opened_here}
+use Rattle.mon_topo.specs.HeldHistories.{openings_from, opened_of, opening, AreHeld}
 use Rattle.mon_topo.specs.Zones.{first_replicas, leaves_in, ranges_in}
 use Rattle.mon_topo.specs.declared.zones.ZoneSpec.{ZoneSpec}
-use Rattle.mon_value.specs.Histories.{leaf_history, range_history}
-use Rattle.mon_value.specs.Positions.{leaf_numbered, range_numbered, same_leaf}
+use Rattle.mon_value.specs.Histories.{leaf_history, range_history, leaf_numbered, range_numbered, same_leaf}
 use Rattle.mon_value.specs.declared.histories.Entry.{Entry}
 use Rattle.mon_value.specs.declared.histories.Histories.{Histories}
 use Rattle.mon_value.specs.declared.histories.RangeEntry.{RangeEntry}
@@ -25,14 +23,13 @@ use Rattle.mon_value.specs.declared.positions.Leaf.{Leaf}
 use Rattle.mon_value.specs.declared.positions.Range.{Range}
 use Rattle.mon_value.specs.declared.rows.Row.{Row}
 use Rattle.run_theory.specs.InPlace.{AreDistinct, AreNotFirst, AreTheirs, AreUnder}
-use Rattle.run_theory.specs.Marks.{AreBelow, Ran, between}
+use Rattle.run_theory.specs.Parts.{AreBelow, Ran, between}
 use Rattle.run_theory.proofs.Stands.{between_stands, kept_stands, same_to}
-use Rattle.mon_topo.specs.HeldHistories.{AreHeld}
 use Rattle.mon_value.specs.declared.positions.Slot.{Slot}
 use Rattle.run_traces.specs.LineClaims.{FeedMade, Finds, HasFound, HasMade, HasRange, IsNewIn, Makes, SwitchMade}
 use Rattle.run_traces.specs.LineFeeds.{lies_in}
-use Rattle.run_traces.specs.LinePlaces.{first_length, is_entry_of, is_fed, is_row, is_traced}
-use Rattle.run_traces.specs.LineSwitches.{IsSwitchedBetween, recovers, recovery_of, switch_entry, switch_of, switches}
+use Rattle.run_traces.specs.LineSwitches.{first_length, is_entry_of, is_fed, is_row, is_traced, IsSwitchedBetween}
+use Rattle.run_traces.specs.LineSwitches.{recovers, recovery_of, switch_entry, switch_of, switches}
 use Rattle.run_traces.specs.RanLines.{RanLine}
 use Rattle.run_traces.specs.declared.traces.LineTrace.{LineTrace}
 use Rattle.run_traces.specs.declared.traces.LineTrace.TheVariants as came

@@ -12,7 +12,7 @@ use Rattle.history_book.specs.declared.views.History.TheVariants as of
 use Rattle.mon_config.specs.declared.config.Config.{Config}
 use Rattle.mon_points.specs.declared.records.RowRead.{RowRead}
 use Rattle.mon_table.specs.Tables.{table_text}
-use Rattle.mon_value.specs.Columns.{column_names}
+use Rattle.mon_value.specs.Tables.{column_names}
 use Rattle.mon_value.specs.Histories.{leaf_history, range_history}
 use Rattle.mon_value.specs.declared.histories.Histories.{Histories}
 use Rattle.mon_value.specs.declared.positions.FoundDown.{FoundDown}
@@ -23,19 +23,18 @@ use Rattle.mon_value.specs.declared.rows.SeriesKey.{SeriesKey}
 use Rattle.mql_types.specs.Meaning.{meaning}
 use Rattle.mql_types.specs.Nodes.{TypedTree, columns_of}
 use Rattle.mql_types.specs.declared.plans.Plan.{Plan}
-use Rattle.query_core.specs.Findings.{IsFoundBetween}
+use Rattle.query_core.specs.Courses.{IsFoundBetween}
 use Rattle.query_core.specs.Traces.{AreWider, IsBetween, IsFreshSince, IsReadRightly, IsTraceBetween, Lengths}
 use Rattle.query_core.specs.Traces.{source_of}
 use Rattle.query_core.specs.declared.answers.Trace.{Trace}
 use Rattle.query_texts.specs.TextTypes.{text_type}
 use Rattle.query_texts.specs.declared.faults.TextFault.{TextFault}
-use Rattle.run_theory.specs.Marks.{AreBelow, IsWithin}
+use Rattle.run_theory.specs.Parts.{AreBelow, IsWithin}
 use Rattle.run_theory.proofs.Callers.{none_between, none_passes}
 use Rattle.run_traces.specs.LineClaims.{Finds, HasFound, HaveGrown, Makes, RowsFound, StandsAmong}
 use Rattle.run_traces.specs.LineClaims.{marked}
-use Rattle.run_traces.specs.LineFreshness.{cuts_named}
-use Rattle.run_traces.specs.LinePlaces.{first_length}
-use Rattle.run_traces.specs.LineTables.{text_of}
+use Rattle.run_traces.specs.LineTables.{cuts_named, text_of}
+use Rattle.run_traces.specs.LineSwitches.{first_length}
 use Rattle.run_traces.specs.LineTexts.{asked_text, explanation, line_text, typed_text}
 use Rattle.run_traces.specs.RanLines.{RanLine}
 use Rattle.run_traces.specs.declared.traces.LineTrace.{LineTrace}

@@ -22,10 +22,10 @@ use Rattle.mon_value.specs.declared.histories.RangeEntry.TheVariants as range_en
 use Rattle.mon_value.specs.declared.positions.Range.{Range}
 use Rattle.mon_value.specs.declared.rows.Row.{Row}
 use Rattle.mon_value.specs.declared.rows.SeriesKey.{SeriesKey}
-use Rattle.run_theory.specs.Marks.{between}
+use Rattle.run_theory.specs.Parts.{between}
 use Rattle.run_traces.specs.LineClaims.{FeedMade, book_row}
 use Rattle.run_traces.specs.LineFeeds.{lies_in}
-use Rattle.run_traces.specs.LinePlaces.{is_fed, is_row}
+use Rattle.run_traces.specs.LineSwitches.{is_fed, is_row}
 use Rattle.run_traces.proofs.ListFacts.{made_between, made_kept}
 
 -- ---- acknowledgements as entries of the book

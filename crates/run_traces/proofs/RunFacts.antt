@@ -20,14 +20,12 @@ use Rattle.query_core.specs.Traces.{AreWider, IsBetween, IsTraceBetween, Lengths
 use Rattle.query_core.specs.declared.answers.Trace.{Trace}
 use Rattle.run_theory.specs.InPlace.{FoundThere, RanInPlace}
 use Rattle.run_theory.specs.InPlace as theory
-use Rattle.run_theory.specs.Marks.{RanBefore}
-use Rattle.run_theory.specs.Parts.{Each, Part, all_lines, lines_of}
+use Rattle.run_theory.specs.Parts.{RanBefore, Each, Part, all_lines, lines_of}
 use Rattle.run_traces.specs.LineClaims.{Finds, HasFound, HasMade, HasRange, Makes, marked}
 use Rattle.run_traces.specs.LineFeeds.{lies_in}
-use Rattle.run_traces.specs.LineFreshness.{CutsRise, HoldsRows, LineIsFresh, cuts_named}
-use Rattle.run_traces.specs.LinePlaces.{first_length, highs, is_entry_of, low, lows}
-use Rattle.run_traces.specs.LineReads.{IsRead, LineIsRead}
-use Rattle.run_traces.specs.LineTables.{IsTabled, LineIsTabled, text_of}
+use Rattle.run_traces.specs.LineTables.{CutsRise, HoldsRows, LineIsFresh, cuts_named, IsRead, LineIsRead, IsTabled}
+use Rattle.run_traces.specs.LineTables.{LineIsTabled, text_of}
+use Rattle.run_traces.specs.LineSwitches.{first_length, highs, is_entry_of, low, lows}
 use Rattle.run_traces.specs.RanLines.{RanLine, accepted_rows, trace_rows}
 use Rattle.run_traces.specs.declared.traces.LineTrace.{LineTrace}
 use Rattle.run_traces.specs.declared.traces.LineTrace.TheVariants as came

@@ -17,10 +17,9 @@ use Rattle.mon_topo.specs.HeldHistories.{AreHeld}
 use Rattle.mon_topo.specs.RangeHistories as range_spec
 use Rattle.mon_topo.specs.RangeHistories.{opened_slot, opened_slots}
 use Rattle.mon_value.proofs.LeafHistoryLemmas.{is_opened-append}
-use Rattle.mon_value.specs.Histories.{leaf_history, range_history}
+use Rattle.mon_value.specs.Histories.{leaf_history, range_history, range_numbered, same_leaf, same_range, same_slot}
 use Rattle.mon_value.specs.LeafHistories as leaf_spec
 use Rattle.mon_value.specs.LeafHistories.{is_opened, same_replica}
-use Rattle.mon_value.specs.Positions.{range_numbered, same_leaf, same_range, same_slot}
 use Rattle.mon_value.specs.declared.histories.Entry.{Entry}
 use Rattle.mon_value.specs.declared.histories.Entry.TheVariants as entry
 use Rattle.mon_value.specs.declared.histories.Histories.{Histories}
@@ -31,12 +30,10 @@ use Rattle.mon_value.specs.declared.positions.Range.{Range}
 use Rattle.mon_value.specs.declared.positions.Slot.{Slot}
 use Rattle.mon_value.specs.declared.rows.Row.{Row}
 use Rattle.mon_script.specs.declared.forms.LineForm.{LineForm}
-use Rattle.run_theory.specs.Marks.{AreBelow, between}
+use Rattle.run_theory.specs.Parts.{AreBelow, between}
 use Rattle.run_theory.proofs.Stands.{kept_stands, same_to}
-use Rattle.run_traces.specs.LinePlaces.{is_fed}
-use Rattle.run_traces.specs.LineSwitches.{IsRecoveredBetween, IsSwitchedBetween, Recovery, StandsBetween, goes}
-use Rattle.run_traces.specs.LineSwitches.{opens, recovers, recovery_of, switch_entry, switch_of}
-use Rattle.run_traces.specs.LineSwitches.{switches}
+use Rattle.run_traces.specs.LineSwitches.{is_fed, IsRecoveredBetween, IsSwitchedBetween, Recovery, StandsBetween, goes}
+use Rattle.run_traces.specs.LineSwitches.{opens, recovers, recovery_of, switch_entry, switch_of, switches}
 use Rattle.run_traces.proofs.ListFacts.{no_item}
 use Rattle.query_core.proofs.LeafLemmas.{same_leaves}
 

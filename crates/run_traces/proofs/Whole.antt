@@ -4,29 +4,24 @@ use Rattle.std.specs.Prelude.{ℤ}
 use Rattle.history_book.specs.Histories.{AreFronts, book_entry_pass, entries}
 use Rattle.history_book.specs.declared.views.History.{History}
 use Rattle.mon_config.specs.declared.config.Config.{Config}
-use Rattle.mon_topo.specs.FirstHistories.{first_histories}
-use Rattle.mon_topo.specs.HeldHistories.{AreHeld}
+use Rattle.mon_topo.specs.HeldHistories.{first_histories, AreHeld}
 use Rattle.mon_value.specs.declared.histories.Histories.{Histories}
 use Rattle.mon_value.specs.declared.positions.FoundDown.{FoundDown}
 use Rattle.mql_types.specs.Nodes.{TypedTree}
-use Rattle.query_core.specs.Findings.{IsFoundBetween}
+use Rattle.query_core.specs.Courses.{IsFoundBetween}
 use Rattle.query_core.specs.Traces.{AreWider, IsTraceBetween, Lengths, source_of}
 use Rattle.query_core.specs.declared.answers.Trace.{Trace}
-use Rattle.run_theory.specs.Marks.{RanBehind}
-use Rattle.run_theory.specs.Parts.{Each, Part, all_lines}
+use Rattle.run_theory.specs.Parts.{RanBehind, Each, Part, all_lines}
 use Rattle.run_theory.proofs.Marks.{all_behind}
 use Rattle.run_theory.proofs.Owned.{of_some}
 use Rattle.run_theory.proofs.Settled.{alone_beside, alone_later, placed_in_run}
 use Rattle.run_traces.specs.Headline.{RunHolds}
 use Rattle.run_traces.specs.LineCauses.{LineIsCaused}
 use Rattle.run_traces.specs.LineClaims.{AllRan, Finds, Makes}
-use Rattle.run_traces.specs.LineControls.{LineIsControlled}
+use Rattle.run_traces.specs.LineSwitches.{LineIsControlled, first_length, is_entry_of}
 use Rattle.run_traces.specs.LineFeeds.{LineIsTold}
 use Rattle.run_traces.specs.LineForms.{LineSuits}
-use Rattle.run_traces.specs.LineFreshness.{LineIsFresh}
-use Rattle.run_traces.specs.LinePlaces.{first_length, is_entry_of}
-use Rattle.run_traces.specs.LineReads.{LineIsRead}
-use Rattle.run_traces.specs.LineTables.{LineIsTabled}
+use Rattle.run_traces.specs.LineTables.{LineIsFresh, LineIsRead, LineIsTabled}
 use Rattle.run_traces.specs.RanLines.{RanLine}
 use Rattle.run_traces.proofs.Acks.{acknowledged}
 use Rattle.run_traces.proofs.Causes.{is_caused}

@@ -5,17 +5,15 @@ use Rattle.mon_config.specs.declared.config.Config.{Config}
 use Rattle.mon_value.specs.declared.histories.Histories.{Histories}
 use Rattle.run_theory.specs.Parts.{Each, Part, all_lines}
 use Rattle.run_traces.specs.LineCauses.{LineIsCaused}
-use Rattle.run_traces.specs.LineControls.{LineIsControlled}
+use Rattle.run_traces.specs.LineSwitches.{LineIsControlled}
 use Rattle.run_traces.specs.LineDues.{AreDue, asked_parts}
 use Rattle.run_traces.specs.LineFeeds.{AreAcknowledged, AreOfLines, LineIsTold, ShareNoEntry}
 use Rattle.run_traces.specs.LineForms.{LineSuits}
-use Rattle.run_traces.specs.LineFreshness.{LineIsFresh}
-use Rattle.run_traces.specs.LineReads.{LineIsRead}
-use Rattle.run_traces.specs.LineTables.{LineIsTabled}
+use Rattle.run_traces.specs.LineTables.{LineIsFresh, LineIsRead, LineIsTabled}
 use Rattle.run_traces.specs.RanLines.{RanLine, parts_of, ran_lines}
 use Rattle.run_traces.specs.declared.traces.LineTrace.{LineTrace}
 use Rattle.mon_script.specs.declared.script.ScriptLine.{ScriptLine}
-use Rattle.standing.specs.StandingStates.{standing_state}
+use Rattle.standing.specs.DueLists.{standing_state}
 
 -- Each line came to what a line of its form comes to; each table stands on replicas and cuts in its place, on all that
 -- had been accepted before, and on every leaf that the query wants; each accepted row is acknowledged once, under its

@@ -1,14 +1,9 @@
 pub mod Headline
 pub mod LineCauses
 pub mod LineClaims
-pub mod LineControls
 pub mod LineDues
 pub mod LineFeeds
 pub mod LineForms
-pub mod LineFreshness
-pub mod LinePlaces
-pub mod LineReads
-pub mod LineStatuses
 pub mod LineSwitches
 pub mod LineTables
 pub mod LineTexts

@@ -10,7 +10,7 @@ use Rattle.history_book.specs.declared.views.History.{History}
 use Rattle.history_book.specs.declared.views.History.TheVariants as of
 use Rattle.mon_config.specs.declared.config.Config.{Config}
 use Rattle.mon_topo.specs.RangeHistories.{acked_row, acknowledged_rows}
-use Rattle.mon_topo.specs.SeenHistories.{AreWithin}
+use Rattle.mon_topo.specs.HeldHistories.{AreWithin}
 use Rattle.mon_value.specs.Histories.{range_history}
 use Rattle.mon_value.specs.declared.histories.Histories.{Histories}
 use Rattle.mon_value.specs.declared.positions.Leaf.{Leaf}
@@ -24,18 +24,14 @@ use Rattle.query_core.specs.declared.answers.Trace.{Trace}
 use Rattle.query_texts.specs.TextTypes.{text_type}
 use Rattle.mon_points.specs.Records.{reads_of}
 use Rattle.mon_points.specs.declared.records.RowRead.{RowRead}
-use Rattle.run_theory.specs.Marks.{AreBelow, PartsRan}
-use Rattle.run_theory.specs.Parts.{Part}
+use Rattle.run_theory.specs.Parts.{AreBelow, PartsRan, Part}
 use Rattle.run_theory.specs.Writings.{PartWrote}
 use Rattle.run_traces.specs.LineCauses.{HasCause, HasRowCause, rows_before}
 use Rattle.run_traces.specs.LineFeeds.{IsTold, lies_in}
 use Rattle.run_traces.specs.LineForms.{LineSuits}
-use Rattle.run_traces.specs.LineFreshness.{cuts_named}
-use Rattle.run_traces.specs.LinePlaces.{first_length, is_fed, is_row}
-use Rattle.run_traces.specs.LineReads.{IsReadByPlan}
-use Rattle.run_traces.specs.LineSwitches.{IsRecoveredBetween, IsSwitchedBetween, recovers, recovery_of, switch_of}
-use Rattle.run_traces.specs.LineSwitches.{switches}
-use Rattle.run_traces.specs.LineTables.{text_of}
+use Rattle.run_traces.specs.LineTables.{cuts_named, IsReadByPlan, text_of}
+use Rattle.run_traces.specs.LineSwitches.{first_length, is_fed, is_row, IsRecoveredBetween, IsSwitchedBetween, recovers}
+use Rattle.run_traces.specs.LineSwitches.{recovery_of, switch_of, switches}
 use Rattle.run_traces.specs.RanLines.{RanLine}
 use Rattle.run_traces.specs.declared.traces.LineTrace.{LineTrace}
 use Rattle.run_traces.specs.declared.traces.RowRefusal.{RowRefusal}

@@ -1,29 +1,49 @@
--- Standing queries: which of them each tick asked, and why a query didn't come to stand or a moment wasn't taken.
-use Rattle.std.specs.Prelude.{◌≡◌, ℤ, Bool, true, false, List, [], ◌∷◌, map, Option, Some, None, option_map, Result, Ok}
-use Rattle.std.specs.Prelude.{Err, if◌then◌else◌}
-use Rattle.std.specs.List.{flat_map}
-use Rattle.mon_schema.specs.SchemaLists.{SchemaLists}
+-- Standing queries: which of them each tick asked; and the status of a run whose lines all ran.
+use Rattle.std.specs.Prelude.{ℕ, Bool, true, false, List, if◌then◌else◌, ◌≡◌, ℤ, [], ◌∷◌, map, Option, Some, None}
+use Rattle.std.specs.Prelude.{option_map, Result, Ok, Err}
+use Rattle.std.specs.List.{list_any, flat_map}
+use Rattle.mon_schema.specs.Names.{SchemaLists}
 use Rattle.mon_script.specs.declared.forms.LineForm.{LineForm}
 use Rattle.mon_script.specs.declared.forms.LineForm.TheVariants as form
 use Rattle.mon_script.specs.declared.script.ScriptLine.{ScriptLine}
 use Rattle.run_theory.specs.Parts.{Alone, Beside, Part}
-use Rattle.run_traces.specs.LineStatuses.{is_refused}
-use Rattle.run_traces.specs.RanLines.{RanLine}
-use Rattle.run_traces.specs.declared.traces.DueEnd.{DueEnd}
-use Rattle.run_traces.specs.declared.traces.DueEnd.TheVariants as end
-use Rattle.run_traces.specs.declared.traces.DueTrace.{DueTrace}
-use Rattle.run_traces.specs.declared.traces.LineFault.{LineFault}
-use Rattle.run_traces.specs.declared.traces.LineFault.TheVariants as why
-use Rattle.run_traces.specs.declared.traces.LineTrace.{LineTrace}
-use Rattle.run_traces.specs.declared.traces.LineTrace.TheVariants as came
-use Rattle.standing.specs.Adding.{add_fault}
-use Rattle.standing.specs.DueLists.{due_answer}
-use Rattle.standing.specs.StandingStates.{StandingState, at_moment, standing_query, with_query}
+use Rattle.standing.specs.DueLists.{add_fault, due_answer, StandingState, at_moment, standing_query, with_query}
 use Rattle.standing.specs.declared.dues.Due.{Due}
 use Rattle.standing.specs.declared.faults.DueFault.{DueFault}
 use Rattle.standing.specs.declared.faults.DueFault.TheVariants as undue
 use Rattle.standing.specs.declared.faults.StandingFault.{StandingFault}
 use Rattle.standing.specs.declared.faults.StandingFault.TheVariants as unstood
+use Rattle.run_traces.specs.RanLines.{RanLine}
+use Rattle.run_traces.specs.declared.traces.DueEnd.{DueEnd}
+use Rattle.run_traces.specs.declared.traces.DueEnd.TheVariants as end
+use Rattle.run_traces.specs.declared.traces.DueTrace.{DueTrace}
+use Rattle.run_traces.specs.declared.traces.LineTrace.{LineTrace}
+use Rattle.run_traces.specs.declared.traces.LineTrace.TheVariants as came
+use Rattle.run_traces.specs.declared.traces.LineFault.{LineFault}
+use Rattle.run_traces.specs.declared.traces.LineFault.TheVariants as why
+
+-- The status of a run whose lines all ran.
+
+-- whether a query that was due was refused
+abbrev pub is_due_refused : DueEnd → Bool
+is_due_refused (end.Answered trace) = false
+is_due_refused (end.Refused fault) = true
+
+-- whether a line was refused, or a query that it asked
+abbrev pub is_refused : LineTrace → Bool
+is_refused (came.Fed pass accepted refused) = false
+is_refused (came.Asked moment trace) = false
+is_refused (came.Ticked dues) = list_any (λ (one : DueTrace). is_due_refused one.end) dues
+is_refused (came.Switched cut) = false
+is_refused (came.Recovered slot) = false
+is_refused (came.Refused fault) = true
+is_refused came.Done = false
+
+-- 7 where a line was refused or a query that was due, and else 0
+abbrev pub lines_status : List RanLine → ℕ
+lines_status lines = if list_any (λ line. is_refused line.trace) lines then 7 else 0
+
+-- Standing queries: which of them each tick asked, and why a query didn't come to stand or a moment wasn't taken.
 
 -- ---- ticks as the queries that they asked
 

@@ -6,14 +6,13 @@ use Rattle.std.specs.List.{AllByRecursion, flat_map, list_any}
 use Rattle.history_book.specs.Histories.{AreFronts, entries}
 use Rattle.history_book.specs.declared.views.BookEntry.{BookEntry}
 use Rattle.history_book.specs.declared.views.History.{History}
-use Rattle.mon_config.specs.KeyRanges.{range_of_key}
+use Rattle.mon_config.specs.Configs.{range_of_key}
 use Rattle.mon_config.specs.declared.config.Config.{Config}
 use Rattle.mon_points.specs.Records.{reads_of}
 use Rattle.mon_points.specs.declared.records.RowRead.{RowRead}
 use Rattle.mon_points.specs.declared.records.RowRead.TheVariants as read
-use Rattle.mon_topo.specs.FirstHistories.{first_histories}
-use Rattle.mon_value.specs.Histories.{range_history}
-use Rattle.mon_value.specs.Positions.{same_range}
+use Rattle.mon_topo.specs.HeldHistories.{first_histories}
+use Rattle.mon_value.specs.Histories.{range_history, same_range}
 use Rattle.mon_value.specs.declared.histories.Histories.{Histories}
 use Rattle.mon_value.specs.declared.histories.RangeEntry.{RangeEntry}
 use Rattle.mon_value.specs.declared.histories.RangeEntry.TheVariants as range_entry
@@ -21,8 +20,8 @@ use Rattle.mon_value.specs.declared.positions.Range.{Range}
 use Rattle.mon_value.specs.declared.rows.Row.{Row}
 use Rattle.range_cell.specs.declared.answers.WriteFault.{WriteFault}
 use Rattle.run_theory.specs.Parts.{Each, Part, lines_of}
-use Rattle.run_theory.specs.Shares.{AreAlone, IsAlone}
-use Rattle.run_traces.specs.LinePlaces.{first_length, is_entry_of}
+use Rattle.run_theory.specs.InPlace.{AreAlone, IsAlone}
+use Rattle.run_traces.specs.LineSwitches.{first_length, is_entry_of}
 use Rattle.run_traces.specs.RanLines.{RanLine}
 use Rattle.run_traces.specs.declared.traces.LineTrace.{LineTrace}
 use Rattle.run_traces.specs.declared.traces.LineTrace.TheVariants as came

@@ -1,15 +1,15 @@
--- Lines that take a leaf down or up, and lines that open a range's replica on a leaf: which entries of the histories are
--- theirs, and where these stand.
-use Rattle.std.specs.Prelude.{◌≡◌, ◌<◌, ◌≤◌, ◌+◌, ◌&&◌, ℕ, Bool, true, false, not, List, slice_get, Option, Some}
-use Rattle.std.specs.Prelude.{None, if◌then◌else◌}
-use Rattle.history_book.specs.Histories.{same_history}
+-- Where a line stands in the histories, and the lines that take leaves down or up, or open replicas.
+use Rattle.std.specs.Prelude.{◌≡◌, ◌<◌, ◌≤◌, ◌+◌, ◌&&◌, ℕ, Bool, true, false, not, List, slice_get, Option, Some, None}
+use Rattle.std.specs.Prelude.{if◌then◌else◌, nat_eq, length, nat_le}
+use Rattle.std.specs.List.{list_any}
+use Rattle.std.specs.Ordering.{int_eq}
+use Rattle.history_book.specs.Histories.{same_history, entries}
 use Rattle.history_book.specs.declared.views.BookEntry.{BookEntry}
 use Rattle.history_book.specs.declared.views.BookEntry.TheVariants as one
 use Rattle.history_book.specs.declared.views.History.{History}
 use Rattle.history_book.specs.declared.views.History.TheVariants as of
-use Rattle.mon_value.specs.Histories.{leaf_history, range_history}
+use Rattle.mon_value.specs.Histories.{leaf_history, range_history, same_leaf, same_range, same_slot}
 use Rattle.mon_value.specs.LeafHistories.{same_replica}
-use Rattle.mon_value.specs.Positions.{same_leaf, same_range, same_slot}
 use Rattle.mon_value.specs.declared.histories.Entry.{Entry}
 use Rattle.mon_value.specs.declared.histories.Entry.TheVariants as entry
 use Rattle.mon_value.specs.declared.histories.Histories.{Histories}
@@ -21,6 +21,18 @@ use Rattle.mon_value.specs.declared.positions.Slot.{Slot}
 use Rattle.mon_value.specs.declared.rows.Row.{Row}
 use Rattle.mon_script.specs.declared.forms.LineForm.{LineForm}
 use Rattle.mon_script.specs.declared.forms.LineForm.TheVariants as form
+use Rattle.mon_topo.specs.HeldHistories.{first_histories}
+use Rattle.mon_topo.specs.declared.zones.ZoneSpec.{ZoneSpec}
+use Rattle.mon_value.specs.Same.{same_series}
+use Rattle.query_core.specs.Traces.{Lengths}
+use Rattle.run_theory.specs.InPlace as theory
+use Rattle.mon_config.specs.declared.config.Config.{Config}
+use Rattle.run_traces.specs.RanLines.{RanLine}
+use Rattle.run_traces.specs.declared.traces.LineTrace.{LineTrace}
+use Rattle.run_traces.specs.declared.traces.LineTrace.TheVariants as came
+
+-- Lines that take a leaf down or up, and lines that open a range's replica on a leaf: which entries of the histories are
+-- theirs, and where these stand.
 
 -- ---- what a line asks for
 
@@ -131,3 +143,87 @@ module _ (seen : Histories) (from to : History → ℕ) (pass : ℕ) (what : Lin
     pub rows : List Row
     pub held : StandsBetween (from (of.Leaf recovery.leaf)) (to (of.Leaf recovery.leaf))
         (leaf_history seen recovery.leaf) (entry.Opened pass recovery.range slot rows)
+
+-- Which entries of a history are a line's, and the line's place there: both are computed from the histories at the end
+-- of the run and from what the lines came to.
+
+-- ---- whose an entry is
+
+-- a series has one row for each end
+abbrev pub is_row : Row → Row → Bool
+is_row row other = same_series row.key other.key && int_eq row.point.end other.point.end
+
+-- an acknowledgement of one of these rows under a number, or a put of one
+abbrev pub is_fed : ℕ → List Row → BookEntry → Bool
+is_fed pass rows (one.Leaf (entry.Opened by range slot held)) = false
+is_fed pass rows (one.Leaf (entry.Put by range slot row)) = nat_eq by pass && list_any (is_row row) rows
+is_fed pass rows (one.Leaf (entry.Down by)) = false
+is_fed pass rows (one.Leaf (entry.Up by)) = false
+is_fed pass rows (one.Range (range_entry.Opened by slot leaf)) = false
+is_fed pass rows (one.Range (range_entry.Acked by row ack)) = nat_eq by pass && list_any (is_row row) rows
+
+abbrev pub is_traced : LineForm → LineTrace → History → ℕ → BookEntry → Bool
+is_traced what (came.Fed pass accepted refused) history place e = is_fed pass accepted e
+is_traced what (came.Asked moment trace) history place e = false
+is_traced what (came.Ticked dues) history place e = false
+is_traced what (came.Switched cut) history place e =
+    switches (switch_of what) history e && nat_eq (place + 1) cut
+is_traced what (came.Recovered slot) history place e = recovers (recovery_of what) slot history e
+is_traced what (came.Refused fault) history place e = false
+is_traced what came.Done history place e = false
+
+-- whether the entry at a place of a history is of a line: a feed has those of the rows that it accepted, a switch of a
+-- leaf has the one that is the last of so many, and a recovery has those that open its slot
+abbrev pub is_entry_of : RanLine → History → ℕ → BookEntry → Bool
+is_entry_of line history place e = is_traced line.what line.trace history place e
+
+-- ---- where a line stands
+
+module _ (zones : List ZoneSpec) (ended : Histories) where
+  -- what each history begins with: the ranges' first replicas
+  abbrev pub first_length : History → ℕ
+  first_length history = length (entries (first_histories zones) history)
+
+  -- the greater of two lengths
+  abbrev pub greater : ℕ → ℕ → ℕ
+  greater a b = if nat_le a b then b else a
+
+  -- the least length that holds the first replicas and every entry of the lines that the caller had seen
+  abbrev pub low : List RanLine → History → ℕ
+  low seen history = greater (first_length history) (theory.low is_entry_of (entries ended) seen history)
+
+  -- the greatest length that holds no entry of a line whose caller had seen this one
+  abbrev pub high : List RanLine → History → ℕ
+  high later history = theory.high is_entry_of (entries ended) later history
+
+  abbrev pub lows : List RanLine → Lengths
+  lows seen = record {
+    leaves = λ leaf. low seen (of.Leaf leaf);
+    ranges = λ range. low seen (of.Range range);
+  }
+
+  abbrev pub highs : List RanLine → Lengths
+  highs later = record {
+    leaves = λ leaf. high later (of.Leaf leaf);
+    ranges = λ range. high later (of.Range range);
+  }
+
+-- What lines did that take a leaf down or up, or open a range's replica on a leaf.
+
+module _ (config : Config) (ended : Histories) (seen later : List RanLine) where
+  -- A leaf that was switched has the switch as the last of so many entries, in the line's place; and a slot that was
+  -- opened stands in its range's and in its leaf's history, both in the line's place
+  abbrev pub IsControlled : LineForm → LineTrace → Type 0
+  IsControlled what (came.Fed pass accepted refused) = Unit {0}
+  IsControlled what (came.Asked moment trace) = Unit {0}
+  IsControlled what (came.Ticked dues) = Unit {0}
+  IsControlled what (came.Switched cut) = (pass : ℕ)
+      × IsSwitchedBetween ended (low config.topology ended seen) (high config.topology ended later) pass what cut
+  IsControlled what (came.Recovered slot) = (pass : ℕ)
+      × IsRecoveredBetween ended (low config.topology ended seen) (high config.topology ended later) pass what slot
+  IsControlled what (came.Refused fault) = Unit {0}
+  IsControlled what came.Done = Unit {0}
+
+-- of each line, with those that its caller had seen and those whose callers had seen it
+abbrev pub LineIsControlled : Config → Histories → List RanLine → List RanLine → RanLine → Type 0
+LineIsControlled config ended seen later line = IsControlled config ended seen later line.what line.trace

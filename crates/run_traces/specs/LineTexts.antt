@@ -4,16 +4,15 @@ use Rattle.std.specs.Prelude.{Option, Some, None, if◌then◌else◌}
 use Rattle.std.specs.Fmt.{decimal, signed_decimal}
 use Rattle.std.specs.List.{flat_map}
 use Rattle.mon_config.specs.declared.config.Config.{Config}
-use Rattle.mon_points.specs.FaultTexts.{row_fault_text}
+use Rattle.mon_points.specs.Records.{row_fault_text}
 use Rattle.mon_table.specs.Tables.{newline, table_text}
-use Rattle.mon_topo.specs.NameTexts.{down_text, founds_text, leaf_text, range_text}
-use Rattle.mon_topo.specs.Zones.{leaves_in}
+use Rattle.mon_topo.specs.Zones.{down_text, founds_text, leaf_text, range_text, leaves_in}
 use Rattle.mon_topo.specs.declared.zones.ZoneSpec.{ZoneSpec}
-use Rattle.mon_value.specs.Columns.{column_names}
+use Rattle.mon_value.specs.Tables.{column_names}
 use Rattle.mon_value.specs.declared.histories.Histories.{Histories}
-use Rattle.mql_parse.specs.FaultTexts.{parse_fault_text}
-use Rattle.mql_types.specs.Explanations.{op_levels}
-use Rattle.mql_types.specs.FaultTexts.{limit_text, type_fault_text}
+use Rattle.mql_parse.specs.Faults.{parse_fault_text}
+use Rattle.mql_types.specs.Plans.{op_levels}
+use Rattle.mql_types.specs.Faults.{limit_text, type_fault_text}
 use Rattle.mql_types.specs.Meaning.{meaning}
 use Rattle.mql_types.specs.Nodes.{TypedTree, columns_of}
 use Rattle.mql_types.specs.declared.explanations.OpLevel.{OpLevel}
@@ -44,7 +43,7 @@ use Rattle.run_traces.specs.declared.traces.RowRefused.TheVariants as refused
 use Rattle.mon_script.specs.declared.forms.LineForm.{LineForm}
 use Rattle.mon_script.specs.declared.forms.LineForm.TheVariants as form
 use Rattle.standing.specs.declared.dues.Due.{Due}
-use Rattle.write_core.specs.Refusals.{no_zone_text, refused_text}
+use Rattle.write_core.specs.RangeAnswers.{no_zone_text, refused_text}
 use Rattle.write_core.specs.declared.refusals.Refused.TheVariants as ranged
 
 -- ---- feeds

@@ -4,11 +4,9 @@ ghost use Rattle.history_book.specs.Histories.{AreFronts, book_entry_pass, entri
 ghost use Rattle.history_book.specs.declared.views.BookEntry.{BookEntry as Booked};
 ghost use Rattle.history_book.specs.declared.views.History.{History};
 ghost use Rattle.mon_config.specs.declared.config.Config.{Config as ConfigOf};
-ghost use Rattle.mon_topo.specs.FirstHistories.{first_histories};
-ghost use Rattle.mon_topo.specs.HeldHistories.{AreHeld};
+ghost use Rattle.mon_topo.specs.HeldHistories.{first_histories, AreHeld};
 ghost use Rattle.mon_value.specs.declared.histories.Histories.{Histories};
-ghost use Rattle.run_theory.specs.Marks.{IsWithin};
-ghost use Rattle.run_theory.specs.Parts.{Part, all_lines};
+ghost use Rattle.run_theory.specs.Parts.{IsWithin, Part, all_lines};
 ghost use Rattle.run_traces.specs.Headline.{RunHolds};
 ghost use Rattle.run_traces.specs.LineClaims.{AllRan, Finds, HasWritten, HaveGrown, Makes};
 ghost use Rattle.run_traces.specs.LineTexts.{line_text};

@@ -11,18 +11,16 @@ use Rattle.know.specs.Sound.{IsSound}
 use Rattle.leaf_cell.specs.PlanVisits.{HasFoundSo}
 use Rattle.leaf_eval.specs.declared.visits.Visit.{Visit}
 use Rattle.leaf_eval.specs.declared.visits.Visit.TheVariants as visit
-use Rattle.mon_hints.specs.Formulas.{all_named, formula_tree, formulas}
-use Rattle.mon_hints.specs.HistoryBuckets.{history_buckets}
-use Rattle.mon_hints.specs.Listings.{AreAmong}
+use Rattle.mon_hints.specs.Formulas.{all_named, formula_tree, formulas, AreAmong}
+use Rattle.mon_hints.specs.Hints.{history_buckets}
 use Rattle.mon_hints.specs.declared.places.Place.{Place}
 use Rattle.mon_hints.specs.declared.places.Place.TheVariants as place
 use Rattle.mon_meaning.specs.LeafAnswers.{IsLeafPart, IsOverLeaf}
 use Rattle.mon_meaning.specs.ReadableSlots.{CanBeRead, slot_rows}
 use Rattle.mon_topo.proofs.FrontLemmas.{begins_length}
 use Rattle.mon_topo.proofs.HeldLemmas.{seen_within_through}
-use Rattle.mon_topo.specs.FirstHistories.{first_histories}
-use Rattle.mon_topo.specs.SeenHistories.{AreWithin}
-use Rattle.mon_topo.specs.Serving.{first_serving}
+use Rattle.mon_topo.specs.HeldHistories.{first_histories, AreWithin}
+use Rattle.mon_topo.specs.RangeHistories.{first_serving}
 use Rattle.mon_topo.specs.Settings.{Setting}
 use Rattle.mon_topo.specs.Sights.{sight_of}
 use Rattle.mon_topo.specs.Views.{IsViewWithin, View}
@@ -53,7 +51,7 @@ use Rattle.query_core.specs.SeenSights.{seen_of}
 use Rattle.query_core.specs.SentTold.{answer_sent}
 use Rattle.query_core.specs.Sessions as session
 use Rattle.query_core.specs.Sessions.{IsFoundSo, IsSeenSo, IsTrueAnswer, query_after, view_after}
-use Rattle.query_core.specs.Settings.{QuerySetting}
+use Rattle.query_core.specs.Rounds.{QuerySetting}
 use Rattle.query_core.specs.Sides.{word_asked}
 use Rattle.query_core.specs.Traces.{IsBetween}
 use Rattle.query_core.specs.declared.asks.Ask.{Ask}

@@ -10,12 +10,10 @@ use Rattle.history_book.specs.declared.views.LengthNote.{LengthNote}
 use Rattle.know.specs.Knowledge.{Knowledge}
 use Rattle.mon_topo.proofs.HeldLemmas.{seen_within_itself}
 use Rattle.mon_topo.proofs.RangeHistoryLemmas.{all_at, all_on}
-use Rattle.mon_topo.specs.RangeHistories.{serving}
-use Rattle.mon_topo.specs.Serving.{first_serving, is_avoided}
+use Rattle.mon_topo.specs.RangeHistories.{serving, first_serving, is_avoided}
 use Rattle.mon_topo.specs.Settings.{Setting}
 use Rattle.mon_topo.specs.Views.{IsSound, View}
-use Rattle.mon_value.specs.Histories.{range_history}
-use Rattle.mon_value.specs.Positions.{same_leaf}
+use Rattle.mon_value.specs.Histories.{range_history, same_leaf}
 use Rattle.mon_value.specs.declared.histories.Histories.{Histories}
 use Rattle.mon_value.specs.declared.positions.FoundDown.{FoundDown}
 use Rattle.mon_value.specs.declared.positions.Leaf.{Leaf}
@@ -23,12 +21,12 @@ use Rattle.mon_value.specs.declared.positions.Range.{Range}
 use Rattle.mon_value.specs.declared.positions.SlotLeaf.{SlotLeaf}
 use Rattle.query_core.specs.Askings.{IsAskedOf}
 use Rattle.query_core.specs.Answers.{IsAnsweredRightly, IsStoppedRightly}
-use Rattle.query_core.specs.Findings.{HasNoReplica}
+use Rattle.query_core.specs.Courses.{HasNoReplica}
 use Rattle.query_core.specs.Machine.{EndsSo, Query, new_query}
 use Rattle.query_core.specs.Program.{ask_of}
 use Rattle.query_core.specs.SentTold.{sent_told}
 use Rattle.query_core.specs.Sessions as session
-use Rattle.query_core.specs.Settings.{QuerySetting}
+use Rattle.query_core.specs.Rounds.{QuerySetting}
 use Rattle.query_core.specs.ToldDowns.{EndNames, downs_told}
 use Rattle.query_core.specs.Traces.{found_leaves}
 use Rattle.query_core.specs.declared.answers.Answer.{Answer}

@@ -9,7 +9,7 @@ use Rattle.history_book.specs.declared.views.LengthNote.{LengthNote}
 use Rattle.mon_topo.proofs.FrontLemmas.{begins_length, take_on}
 use Rattle.mon_topo.proofs.HeldLemmas.{seen_within_itself, seen_within_through}
 use Rattle.mon_topo.proofs.RangeHistoryLemmas.{all_append, all_on}
-use Rattle.mon_topo.specs.SeenHistories.{AreWithin}
+use Rattle.mon_topo.specs.HeldHistories.{AreWithin}
 use Rattle.mon_topo.specs.Settings.{Setting}
 use Rattle.mon_topo.specs.Views.{View}
 use Rattle.mon_value.specs.Histories.{leaf_history}
@@ -22,7 +22,7 @@ use Rattle.mon_value.specs.declared.positions.RangeSlot.{RangeSlot}
 use Rattle.query_core.specs.Machine.{Query, avoided_after, slots_at}
 use Rattle.query_core.specs.Program.{ask_of}
 use Rattle.query_core.specs.Sessions as session
-use Rattle.query_core.specs.Settings.{QuerySetting}
+use Rattle.query_core.specs.Rounds.{QuerySetting}
 use Rattle.query_core.specs.ToldDowns.{down_told, downs_told}
 use Rattle.query_core.specs.Traces.{found_leaves}
 use Rattle.query_core.specs.declared.asks.Told.{Told}

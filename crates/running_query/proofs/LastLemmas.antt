@@ -9,7 +9,7 @@ use Rattle.history_book.specs.declared.views.LengthNote.{LengthNote}
 use Rattle.mixer.specs.declared.zone_answers.ZoneAnswer.{ZoneAnswer}
 use Rattle.mon_meaning.specs.declared.meter.OverLimit.{OverLimit}
 use Rattle.mon_value.specs.declared.tables.Table.{Table}
-use Rattle.mon_topo.specs.Serving.{first_serving, is_avoided}
+use Rattle.mon_topo.specs.RangeHistories.{first_serving, is_avoided}
 use Rattle.mon_topo.specs.Settings.{Setting}
 use Rattle.mon_topo.specs.Views.{View}
 use Rattle.mon_value.specs.Histories.{range_history}
@@ -21,14 +21,12 @@ use Rattle.mon_value.specs.declared.positions.RangeSlot.{RangeSlot}
 use Rattle.mon_value.specs.declared.positions.SlotLeaf.{SlotLeaf}
 use Rattle.query_core.specs.Courses.{course_of, is_entered, left, with_found, with_next_zone, with_zone_answer}
 use Rattle.query_core.specs.Loadings.{is_whole, no_word, with_word}
-use Rattle.query_core.specs.Looks.{read_at, unread_look}
+use Rattle.query_core.specs.Rounds.{read_at, unread_look, Round, next_range, round_of, with_slot, QuerySetting}
 use Rattle.query_core.specs.Machine.{Query, avoided_after, slots_at}
 use Rattle.query_core.specs.Mixtures as mixing
 use Rattle.query_core.specs.Program as program
 use Rattle.query_core.specs.Program.{ask_of, after}
-use Rattle.query_core.specs.Rounds.{Round, next_range, round_of, with_slot}
 use Rattle.query_core.specs.Sessions as session
-use Rattle.query_core.specs.Settings.{QuerySetting}
 use Rattle.query_core.specs.Visits.{Visits, next_leaf, with_leaf_answer, with_look}
 use Rattle.query_core.specs.declared.answers.RoundFault.TheVariants as fault
 use Rattle.query_core.specs.declared.areas.Area.{Area}

@@ -14,7 +14,7 @@ use Rattle.query_core.specs.Program.{ask_of}
 use Rattle.query_core.specs.SentTold.{answer_sent, sent_told}
 use Rattle.query_core.specs.Sessions.{Event, IsLicensed, IsLicensedEvent, IsTrueAnswer, query_after, told_then}
 use Rattle.query_core.specs.Sessions.{view_after}
-use Rattle.query_core.specs.Settings.{QuerySetting}
+use Rattle.query_core.specs.Rounds.{QuerySetting}
 use Rattle.query_core.specs.declared.asks.Told.{Told}
 use Rattle.raise_table.specs.Tables.{RaiseIdentity}
 use Rattle.running_query.proofs.GoingLemmas.{goes_through, handed_more}

@@ -10,16 +10,15 @@ use Rattle.know.specs.Knowledge.{Knowledge}
 use Rattle.know.specs.Sound.{bit_of_leaf, is_known, known_bits, note_has_bit}
 use Rattle.mon_hints.specs.Covers.{AreBitsWithin}
 use Rattle.mon_hints.specs.Places.{place_number, same_place}
-use Rattle.mon_hints.specs.Words.{has_bit}
+use Rattle.mon_hints.specs.Hints.{has_bit}
 use Rattle.mon_hints.specs.declared.places.Place.{Place}
 use Rattle.mon_hints.specs.declared.places.Place.TheVariants as at
 use Rattle.mon_topo.proofs.FrontLemmas.{begins_from}
-use Rattle.mon_topo.specs.SeenHistories.{AreWithin}
+use Rattle.mon_topo.specs.HeldHistories.{AreWithin}
 use Rattle.mon_topo.specs.Settings.{Setting, zone_of_leaf}
 use Rattle.mon_topo.specs.Views.{IsViewWithin}
 use Rattle.mon_topo.specs.Zones.{first_leaf, leaf_zones}
-use Rattle.mon_value.specs.Histories.{leaf_history, range_history}
-use Rattle.mon_value.specs.Positions.{leaf_numbered, zone_numbered}
+use Rattle.mon_value.specs.Histories.{leaf_history, range_history, leaf_numbered, zone_numbered}
 use Rattle.mon_value.specs.declared.histories.Histories.{Histories}
 use Rattle.mon_value.specs.declared.positions.Leaf.{Leaf}
 use Rattle.mon_value.specs.declared.positions.Zone.{Zone}

@@ -3,8 +3,7 @@ use Rattle.std.specs.Prelude.{◌≡◌, ◌<◌, ◌≤ℤ◌, ◌^◌, ℕ, �
 use Rattle.std.specs.List.{AllByRecursion}
 use Rattle.know.specs.Knowledge.{Knowledge}
 use Rattle.know.specs.Sound.{IsSound}
-use Rattle.mon_topo.specs.FirstHistories.{first_histories}
-use Rattle.mon_topo.specs.SeenHistories.{AreWithin}
+use Rattle.mon_topo.specs.HeldHistories.{first_histories, AreWithin}
 use Rattle.mon_topo.specs.Settings.{Setting}
 use Rattle.mon_topo.specs.Zones.{leaf_counts, ranges_in}
 use Rattle.query_core.specs.Askings.{IsAskedOf}
@@ -12,7 +11,7 @@ use Rattle.query_core.specs.Machine.{Query, new_query, slots_at}
 use Rattle.query_core.specs.Program.{ask_of}
 use Rattle.query_core.specs.SentTold.{answer_sent, sent_told}
 use Rattle.query_core.specs.Sessions.{Event, IsLicensed, IsTrueAnswer, query_after, view_after}
-use Rattle.query_core.specs.Settings.{QuerySetting}
+use Rattle.query_core.specs.Rounds.{QuerySetting}
 use Rattle.query_core.specs.declared.asks.Ask.{Ask}
 use Rattle.query_core.specs.declared.asks.Told.{Told}
 use Rattle.raise_table.specs.Tables.{RaiseIdentity}

@@ -13,8 +13,8 @@ use Rattle.mon_value.specs.declared.positions.Leaf.{Leaf}
 use Rattle.mon_value.specs.declared.positions.Range.{Range}
 use Rattle.mon_value.specs.declared.positions.SlotLeaf.{SlotLeaf}
 use Rattle.query_core.specs.Answers.{IsAnsweredRightly, IsStoppedRightly}
-use Rattle.query_core.specs.Findings.{HasNoReplica}
-use Rattle.query_core.specs.Settings.{QuerySetting}
+use Rattle.query_core.specs.Courses.{HasNoReplica}
+use Rattle.query_core.specs.Rounds.{QuerySetting}
 use Rattle.query_core.specs.declared.answers.Answer.{Answer}
 use Rattle.query_core.specs.declared.answers.RoundFault.{RoundFault}
 use Rattle.query_core.specs.declared.answers.RoundFault.TheVariants as fault

@@ -12,7 +12,7 @@ use Rattle.mon_value.specs.declared.positions.Range.{Range}
 use Rattle.query_core.specs.Machine.{Query}
 use Rattle.query_core.specs.Program.{ask_of}
 use Rattle.query_core.specs.Sessions.{Event, told_then}
-use Rattle.query_core.specs.Settings.{QuerySetting}
+use Rattle.query_core.specs.Rounds.{QuerySetting}
 use Rattle.query_core.specs.declared.asks.Ask.{Ask}
 use Rattle.query_core.specs.declared.asks.Ask.TheVariants as ask
 use Rattle.query_core.specs.declared.asks.Told.{Told}

@@ -3,7 +3,7 @@ ghost use Rattle.std.specs.Prelude.{◌≡◌, ◌≢◌, IfOk, OnOk};
 ghost use Rattle.know.specs.Knowledge.{Knowledge};
 ghost use Rattle.query_core.specs.Machine.{new_query};
 ghost use Rattle.query_core.specs.Program.{ask_of};
-ghost use Rattle.query_core.specs.Settings.{QuerySetting};
+ghost use Rattle.query_core.specs.Rounds.{QuerySetting};
 ghost use Rattle.query_core.specs.declared.asks.Ask.TheVariants.{Finished};
 ghost use Rattle.running_query.specs.Asking.{IsAskedHere, IsSomewhere, IsUnderWay};
 ghost use Rattle.running_query.specs.Ends.{EndsRightly};

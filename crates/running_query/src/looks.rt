@@ -2,8 +2,7 @@
 ghost use Rattle.std.specs.Prelude.{◌≡◌, ◌<◌, ◌≤◌, ◌≤ℤ◌, ◌^◌, [], length, map, pos, IfOk};
 ghost use Rattle.know.specs.Knowledge.{Knowledge};
 ghost use Rattle.know.specs.Sound.{IsSound};
-ghost use Rattle.mon_hints.specs.Formulas.{all_named, formula_tree, formulas};
-ghost use Rattle.mon_hints.specs.Listings.{AreAmong};
+ghost use Rattle.mon_hints.specs.Formulas.{all_named, formula_tree, formulas, AreAmong};
 ghost use Rattle.mon_meaning.specs.ReadableSlots.{CanBeRead};
 ghost use Rattle.mon_topo.specs.Zones.{leaves_in, ranges_in};
 ghost use Rattle.mon_value.specs.Histories.{leaf_history};

@@ -10,8 +10,7 @@ use Rattle.std.specs.List.{range_with_len}
 use Rattle.std.specs.List.Sorted.{IsSorted}
 use Rattle.std.specs.Ordering.{int_cmp, nat_cmp}
 use Rattle.mon_value.proofs.SortingLemmas.{sorted_list-sorted}
-use Rattle.mon_value.specs.Order.{TellsApart}
-use Rattle.mon_value.specs.Sorting.{sorted_list}
+use Rattle.mon_value.specs.Order.{TellsApart, sorted_list}
 use Rattle.standing.specs.DueLists.{Mark, due_times, mark_cmp, marked, marks_from, seconds}
 use Rattle.standing.specs.declared.queries.StandingQuery.{StandingQuery}
 

@@ -4,7 +4,7 @@ use Rattle.std.proofs.Common.{Some, None, slice_get, option_map, Result, Ok, Err
 use Rattle.std.specs.List.{AllByRecursion, cons_option, filter_map}
 use Rattle.std.specs.Ordering.{is_gt}
 use Rattle.std.proofs.lemmas.Int.{ints}
-use Rattle.mon_value.specs.Sorting.{sorted_list, sorted_list_with}
+use Rattle.mon_value.specs.Order.{sorted_list, sorted_list_with}
 use Rattle.standing.specs.DueLists.{Mark, count_between, due_answer, due_fault, due_list, due_marks, due_of, due_times}
 use Rattle.standing.specs.DueLists.{mark_cmp, marked, marks_from, seconds, unless}
 use Rattle.standing.specs.declared.dues.Due.{Due}

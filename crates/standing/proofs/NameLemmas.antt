@@ -8,8 +8,7 @@ use Rattle.std.specs.List.{AllByRecursion}
 use Rattle.std.specs.Ordering.{is_eq}
 use Rattle.mon_value.specs.Order.{text_cmp}
 use Rattle.mon_value.specs.Same.{same_text}
-use Rattle.standing.specs.Adding.{is_taken}
-use Rattle.standing.specs.DueLists.{HasPeriod, seconds}
+use Rattle.standing.specs.DueLists.{is_taken, HasPeriod, seconds}
 use Rattle.standing.specs.declared.queries.StandingQuery.{StandingQuery}
 
 either : (here before : Bool) → cond here true before ≡ before || (here || false)

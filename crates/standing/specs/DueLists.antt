@@ -1,16 +1,68 @@
--- Which standing queries are due at a moment, and when.
-use Rattle.std.specs.Prelude.{◌<◌, ℕ, ◌+◌, ◌-◌, ◌*◌, ◌/◌, ℤ, pos, int_lt, nat_lt, unsigned_abs, List, [], ◌∷◌, ◌++◌}
-use Rattle.std.specs.Prelude.{map, sum_by, slice_get, Option, Some, None, option_map, Result, Ok, Err, if◌then◌else◌}
-use Rattle.std.specs.List.{filter_map, range_with_len}
+-- What stands, which standing queries are taken, and which are due at a moment.
+use Rattle.std.specs.Prelude.{ℕ, ℤ, List, [], ◌∷◌, ◌++◌, Option, Some, Bool, None, Result, Ok, Err, if◌then◌else◌, ◌<◌}
+use Rattle.std.specs.Prelude.{◌+◌, ◌-◌, ◌*◌, ◌/◌, pos, int_lt, nat_lt, unsigned_abs, map, sum_by, slice_get, option_map}
+use Rattle.std.specs.List.{list_any, filter_map, range_with_len}
 use Rattle.std.specs.Option.{option_or}
 use Rattle.std.specs.Ordering.{int_cmp, nat_cmp, ordering_then}
 use Rattle.std.specs.declared.cmp.Ordering.{Ordering}
-use Rattle.mon_value.specs.Sorting.{sorted_list}
+use Rattle.mon_schema.specs.Names.{SchemaLists}
+use Rattle.mon_value.specs.Same.{same_text}
+use Rattle.mql_types.specs.Nodes.{TypedTree}
+use Rattle.query_texts.specs.TextTypes.{text_type}
+use Rattle.query_texts.specs.declared.faults.TextFault.{TextFault}
+use Rattle.query_texts.specs.declared.faults.TextFault.TheVariants as text
+use Rattle.mon_value.specs.Order.{sorted_list}
+use Rattle.standing.specs.declared.queries.StandingQuery.{StandingQuery}
+use Rattle.standing.specs.declared.faults.StandingFault.{StandingFault}
+use Rattle.standing.specs.declared.faults.StandingFault.TheVariants as fault
 use Rattle.standing.specs.declared.dues.Due.{Due}
 use Rattle.standing.specs.declared.dues.TheConstants.{MOST_DUE}
 use Rattle.standing.specs.declared.faults.DueFault.{DueFault}
 use Rattle.standing.specs.declared.faults.DueFault.TheVariants as refusal
-use Rattle.standing.specs.declared.queries.StandingQuery.{StandingQuery}
+
+-- What stands: queries, and the last moment.
+
+-- the queries in the order in which they were added, and the last moment at which some were asked for, if there was one
+pub record StandingState : Type 0 where
+  pub queries : List StandingQuery
+  pub last : Option ℤ
+
+abbrev pub standing_state : List StandingQuery → Option ℤ → StandingState
+standing_state queries last = record { queries = queries; last = last }
+
+abbrev pub standing_query : List ℕ → ℤ → List ℕ → StandingQuery
+standing_query name period text = record { name = name; period = period; text = text }
+
+-- a query more
+abbrev pub with_query : StandingState → StandingQuery → StandingState
+with_query state query = standing_state (state.queries ++ query ∷ []) state.last
+
+-- this moment is the last one
+abbrev pub at_moment : StandingState → ℤ → StandingState
+at_moment state moment = standing_state state.queries (Some moment)
+
+-- Which standing queries are taken.
+
+-- the fault of a query whose text has this one
+abbrev pub text_refused : TextFault → StandingFault
+text_refused (text.Parse why) = fault.Parse why
+text_refused (text.Typing why) = fault.Typing why
+
+-- the fault of a text over schemas, if it has one
+abbrev pub fault_in : Result TypedTree TextFault → Option StandingFault
+fault_in (Ok tree) = None
+fault_in (Err why) = Some (text_refused why)
+
+-- whether a query of a name stands
+abbrev pub is_taken : List ℕ → List StandingQuery → Bool
+is_taken name = list_any (λ query. same_text query.name name)
+
+-- why a query isn't taken: its name is taken, or else its text has a fault
+abbrev pub add_fault : SchemaLists → List StandingQuery → List ℕ → List ℕ → Option StandingFault
+add_fault schemas queries name text =
+    if is_taken name queries then Some fault.NameTaken else fault_in (text_type schemas text)
+
+-- Which standing queries are due at a moment, and when.
 
 -- a moment in seconds, which is no less than 0
 abbrev pub seconds : ℤ → ℕ

@@ -1,4 +1,2 @@
-pub mod Adding
 pub mod DueLists
 pub mod StandingFields
-pub mod StandingStates

@@ -3,9 +3,7 @@ use Rattle.std.specs.Prelude.{◌≡◌, ℕ, List}
 use Rattle.std.specs.BTreeSet.{contains}
 use Rattle.std.specs.List.{AllByRecursion}
 use Rattle.mon_value.specs.Order.{text_cmp}
-use Rattle.standing.specs.Adding.{is_taken}
-use Rattle.standing.specs.DueLists.{HasPeriod}
-use Rattle.standing.specs.StandingStates.{StandingState, standing_state}
+use Rattle.standing.specs.DueLists.{is_taken, HasPeriod, StandingState, standing_state}
 use Rattle.standing.specs.declared.queries.Standing.TheInside.{Inside}
 
 abbrev pub state_of : Inside → StandingState

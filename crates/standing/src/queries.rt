@@ -1,9 +1,8 @@
 // Standing queries, by their names and in the order in which they were added.
 ghost use Rattle.std.specs.Prelude.{◌≡◌, ◌≤ℤ◌, pos, [], None, IfOk, OnErr, OnOk};
 ghost use Rattle.mon_value.specs.Answers.{AnswersBy, Gives};
-ghost use Rattle.standing.specs.Adding.{add_fault, is_taken};
+ghost use Rattle.standing.specs.DueLists.{add_fault, is_taken, at_moment, standing_query, standing_state, with_query};
 ghost use Rattle.standing.specs.DueLists as lists;
-ghost use Rattle.standing.specs.StandingStates.{at_moment, standing_query, standing_state, with_query};
 
 use crate::dues::{Dues, due_list, fault_of};
 use crate::faults::{DueFault, StandingFault};
@@ -33,7 +32,7 @@ pub struct Standing {
 }
 
 impl Model for Standing {
-    ghost use Rattle.standing.specs.StandingStates.{StandingState};
+    ghost use Rattle.standing.specs.DueLists.{StandingState};
 
     ghost Value = { StandingState };
 

@@ -2,7 +2,7 @@
 ghost use Rattle.std.specs.Prelude.{◌≡◌, IfOk};
 ghost use Rattle.mql_ast.specs.Trees.{query_tree};
 ghost use Rattle.query_texts.specs.TextTypes.{text_type, tree_type};
-ghost use Rattle.standing.specs.Adding.{fault_in};
+ghost use Rattle.standing.specs.DueLists.{fault_in};
 
 use crate::faults::StandingFault;
 use mon_schema::Schemas;

@@ -13,15 +13,13 @@ use Rattle.mon_value.specs.declared.positions.Leaf.{Leaf}
 use Rattle.mon_value.specs.declared.positions.Range.{Range}
 use Rattle.mon_value.specs.declared.positions.Slot.{Slot}
 use Rattle.mon_hints.specs.Covers.{Covers}
-use Rattle.mon_hints.specs.HistoryBuckets.{history_buckets}
+use Rattle.mon_hints.specs.Hints.{history_buckets}
 use Rattle.mon_topo.specs.HeldHistories.{AreAtHome, IsBorneOut, IsHeldBy}
 use Rattle.mon_topo.specs.RangeHistories.{IsLegal}
 use Rattle.mon_topo.specs.Settings.{Setting, zone_of_leaf}
-use Rattle.mon_value.specs.Positions.{leaf_numbered, range_numbered, same_range}
+use Rattle.mon_value.specs.Histories.{leaf_numbered, range_numbered, same_range, longer_each, joined_histories}
 use Rattle.mon_topo.specs.Zones.{first_replicas, leaves_in, ranges_in}
 use Rattle.mon_value.specs.declared.histories.Histories.{Histories}
-use Rattle.mon_value.specs.Farther.{longer_each}
-use Rattle.mon_value.specs.Histories.{joined_histories}
 use Rattle.history_book.specs.Seats.{times_range}
 use Rattle.raise_table.specs.declared.views.Hints.{Hints}
 use Rattle.know.specs.Sound.{IsSound, known_bits}

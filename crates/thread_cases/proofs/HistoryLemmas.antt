@@ -14,7 +14,7 @@ use Rattle.history_book.specs.declared.views.History.TheVariants as of
 use Rattle.mon_value.specs.declared.histories.Entry.{Entry}
 use Rattle.mon_value.specs.declared.positions.Leaf.{Leaf}
 use Rattle.mon_value.specs.declared.positions.Range.{Range}
-use Rattle.mon_value.specs.Positions.{leaf_numbered, range_numbered, same_leaf, same_range}
+use Rattle.mon_value.specs.Histories.{leaf_numbered, range_numbered, same_leaf, same_range}
 use Rattle.history_book.specs.Histories.{IsFor, IsOfLeaf, entries, histories_in, history_numbered}
 use Rattle.history_book.specs.Histories.{numbered_as, numbers_on}
 use Rattle.history_book.specs.Seats.{HasGuestRoom, HoldsOwn, Owner, Seat, after_append, after_parting, guest_purse}

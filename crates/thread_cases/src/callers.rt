@@ -3,7 +3,7 @@ ghost use Rattle.std.specs.Prelude.{◌≡◌, ◌<◌, ◌^◌, false, [], ◌�
 ghost use Rattle.std.specs.Prelude.{IfOk, IfSome, IsTrue, OnOk};
 ghost use Rattle.history_book.specs.declared.rooms.RoomMove.TheVariants as the_move;
 ghost use Rattle.history_book.specs.declared.views.History.TheVariants as of;
-ghost use Rattle.mon_value.specs.Positions.{leaf_numbered, range_numbered};
+ghost use Rattle.mon_value.specs.Histories.{leaf_numbered, range_numbered};
 ghost use Rattle.history_book.specs.Histories.{IsFor, empty_histories, entries, histories_in, is_about};
 ghost use Rattle.history_book.specs.Histories.{book_entry_pass};
 ghost use Rattle.history_book.specs.Seats.{after_append, first_seat, hand_of, new_owner, guest_seat};

@@ -3,7 +3,7 @@ ghost use Rattle.std.specs.Prelude.{◌≡◌, ◌<◌, ◌+◌, ◌^◌, [], �
 ghost use Rattle.mon_value.specs.declared.histories.Entry.TheVariants as entry;
 ghost use Rattle.history_book.specs.declared.views.BookEntry.TheVariants as one;
 ghost use Rattle.history_book.specs.declared.views.History.TheVariants as of;
-ghost use Rattle.mon_value.specs.Positions.{leaf_numbered, range_numbered};
+ghost use Rattle.mon_value.specs.Histories.{leaf_numbered, range_numbered};
 ghost use Rattle.history_book.specs.Histories.{IsOfLeaf, entries, histories_in};
 ghost use Rattle.history_book.specs.Seats.{after_append, guest_purse, hand_of, new_owner, times_range};
 

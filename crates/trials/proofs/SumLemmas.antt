@@ -3,7 +3,7 @@ use Rattle.std.proofs.Common.{◌≡◌, ◌<◌, ◌≤◌, ◌+ℤ◌, ◌∷�
 use Rattle.std.proofs.Common.{refl}
 use Rattle.std.specs.Prelude.{IfSome, option_and_then, option_map}
 use Rattle.std.proofs.lemmas.Int.{ints}
-use Rattle.mon_value.specs.Numbers.{number_of}
+use Rattle.mon_value.specs.Values.{number_of}
 use Rattle.trials.specs.Cells.{is_number, is_sum_of, last_cell, sum_with}
 use Rattle.trials.specs.Tables.{table_in}
 

@@ -1,7 +1,7 @@
 -- The cells of a printed table, and sums of them.
 use Rattle.std.specs.Prelude.{ℕ, ℤ, pos, neg_ℤ, ◌+ℤ◌, int_le, ◌-◌, ◌*◌, ◌^◌, ◌==◌, ◌&&◌, Bool, List, [], ◌∷◌, Option, Some}
 use Rattle.std.specs.Prelude.{None, option_and_then, option_map, if◌then◌else◌}
-use Rattle.mon_value.specs.Numbers.{number_of}
+use Rattle.mon_value.specs.Values.{number_of}
 
 abbrev pub comma : ℕ
 comma = 44

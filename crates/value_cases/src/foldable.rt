@@ -1,7 +1,7 @@
 // Which items in pieces can be folded.
 ghost use Rattle.std.specs.Prelude.{◌≡◌, ◌+◌, ◌≤◌, All, IfSome, IsTrue, length, sum, sum_by, unsigned_abs};
 ghost use Rattle.std.specs.List.{flat_map};
-ghost use Rattle.mon_value.specs.Limits.{greatest_sum};
+ghost use Rattle.mon_value.specs.Values.{greatest_sum};
 
 use mon_value::{Counts, ListOf, WIDEST_SUM};
 

@@ -8,7 +8,7 @@ use Rattle.query_core.specs.Machine.{Query, slots_at}
 use Rattle.query_core.specs.Mixtures.{MayBeTold}
 use Rattle.query_core.specs.Program.{ask_of}
 use Rattle.query_core.specs.Sessions.{IsSeenSo}
-use Rattle.query_core.specs.Settings.{QuerySetting}
+use Rattle.query_core.specs.Rounds.{QuerySetting}
 use Rattle.query_core.specs.declared.asks.Ask.{Ask}
 use Rattle.query_core.specs.declared.asks.Told.{Told}
 use Rattle.core_theory.proofs.ReaderAnswers.{reader_may, reader_there}

@@ -7,12 +7,11 @@ use Rattle.std.specs.List.{flat_map, range_with_len, AllByRecursion as All}
 use Rattle.std.proofs.lemmas.Bool.{cases_eq, cases_lt, eq-eqb, ne_eqb, or_parts}
 use Rattle.std.proofs.lemmas.List.{get_or_past, length-replicate}
 use Rattle.mon_config.specs.declared.config.Config.{Config}
-use Rattle.mon_hints.specs.Listings.{is_among}
-use Rattle.mon_hints.specs.HistoryBuckets.{rows_buckets}
+use Rattle.mon_hints.specs.Formulas.{is_among}
+use Rattle.mon_hints.specs.Hints.{rows_buckets}
 use Rattle.mon_topo.proofs.RangeHistoryLemmas.{all_at}
-use Rattle.mon_value.specs.Histories.{leaf_history, range_history}
+use Rattle.mon_value.specs.Histories.{leaf_history, range_history, leaf_numbered, range_numbered, same_leaf}
 use Rattle.mon_topo.specs.RangeHistories.{acknowledged_rows, opened_slots, serving, serving_after}
-use Rattle.mon_value.specs.Positions.{leaf_numbered, range_numbered, same_leaf}
 use Rattle.mon_topo.specs.Zones.{first_replicas, leaves_in, leaves_named, no_range}
 use Rattle.mon_topo.specs.Zones.{ranges_in}
 use Rattle.mon_topo.specs.declared.zones.RangeSpec.{RangeSpec}
@@ -30,7 +29,7 @@ use Rattle.mql_types.specs.declared.levels.Level.TheVariants as level
 use Rattle.mql_types.specs.declared.nodes.Node.TheVariants as node
 use Rattle.mql_types.specs.declared.plans.Plan.{Plan}
 use Rattle.query_core.specs.Machine.{new_query}
-use Rattle.query_core.specs.Settings.{QuerySetting}
+use Rattle.query_core.specs.Rounds.{QuerySetting}
 use Rattle.write_core.specs.Deeds.{IsUnused, acks_by, puts_by}
 use Rattle.write_core.specs.Invariant.{IsRangeSettled}
 use Rattle.mon_topo.specs.Views.{IsSound}
@@ -40,8 +39,7 @@ use Rattle.mon_topo.proofs.FirstLemmas.{HasNoRow}
 use Rattle.weave_core.specs.ActorAgreements.{IsActorSo, actor_numbered}
 use Rattle.weave_core.specs.Agreements.{AreShared, IsServed, first_view}
 use Rattle.core_theory.specs.Core.{Reader}
-use Rattle.mon_topo.specs.FirstHistories.{first_histories, opened_here, opened_of, opening, openings_from}
-use Rattle.mon_topo.specs.FirstHistories.{slot_numbered}
+use Rattle.mon_topo.specs.HeldHistories.{first_histories, opened_here, opened_of, opening, openings_from, slot_numbered}
 use Rattle.core_theory.specs.Licensed.{IsNewCore}
 use Rattle.weave_core.specs.Openings.{first_world}
 use Rattle.weave_core.specs.Schedules.{IsFirstState}

@@ -6,8 +6,8 @@ use Rattle.std.specs.Prelude.{slice_get}
 use Rattle.mon_config.specs.declared.config.Config.{Config}
 use Rattle.mon_schema.specs.Fits.{fits}
 use Rattle.mon_topo.proofs.HeldLemmas.{seen_within_itself}
-use Rattle.mon_config.specs.KeyRanges.{range_of_key}
-use Rattle.mon_topo.specs.SeenHistories.{AreWithin}
+use Rattle.mon_config.specs.Configs.{range_of_key}
+use Rattle.mon_topo.specs.HeldHistories.{AreWithin, first_histories}
 use Rattle.mon_topo.specs.Zones.{leaves_in, ranges_in}
 use Rattle.mon_value.specs.declared.positions.Leaf.{Leaf}
 use Rattle.mon_value.specs.declared.positions.Range.{Range}
@@ -15,7 +15,7 @@ use Rattle.mon_value.specs.declared.rows.Row.{Row}
 use Rattle.mql_types.specs.Nodes.{TypedTree}
 use Rattle.query_core.specs.Machine.{Query, new_query}
 use Rattle.query_core.specs.Program as query
-use Rattle.query_core.specs.Settings.{QuerySetting}
+use Rattle.query_core.specs.Rounds.{QuerySetting}
 use Rattle.query_core.specs.declared.asks.Ask.TheVariants as query_ask
 use Rattle.query_core.specs.declared.stages.Stage.{Stage}
 use Rattle.query_texts.specs.declared.faults.TextFault.{TextFault}
@@ -30,7 +30,6 @@ use Rattle.weave_core.specs.Agreements.{AreShared, IsServed, first_view}
 use Rattle.core_theory.specs.Core.{CanCome, Happens, Reader}
 use Rattle.weave_core.specs.Declarations.{Declares, QueryBegins, WriteBegins, new_reader, with_reader}
 use Rattle.weave_core.specs.EndTexts.{no_plan_line, no_zone_line}
-use Rattle.mon_topo.specs.FirstHistories.{first_histories}
 use Rattle.core_theory.specs.Holders.{AreHolders, HoldsLeaf, HoldsRange}
 use Rattle.weave_core.specs.LawfulLines.{IsLawfulCall, IsRecoverable}
 use Rattle.core_theory.specs.Licensed.{IsReader}

@@ -7,7 +7,7 @@ use Rattle.std.proofs.lemmas.List.{length-set}
 use Rattle.std.proofs.lemmas.Option.{slice_get_read}
 use Rattle.mon_config.specs.declared.config.Config.{Config}
 use Rattle.mon_topo.proofs.HeldLemmas.{seen_within_through}
-use Rattle.mon_topo.specs.SeenHistories.{AreWithin}
+use Rattle.mon_topo.specs.HeldHistories.{AreWithin, first_histories}
 use Rattle.mon_value.specs.declared.histories.Histories.{Histories}
 use Rattle.mon_value.specs.declared.positions.Leaf.{Leaf}
 use Rattle.mon_value.specs.Histories.{joined_histories}
@@ -30,7 +30,6 @@ use Rattle.weave_core.specs.Agreements.{AreShared}
 use Rattle.core_theory.specs.Core.{CanCome, Happens, Hears, Reader, begun_with}
 use Rattle.weave_core.specs.Tasks.{is_over}
 use Rattle.weave_core.specs.Declarations.{hearing, hearing_in}
-use Rattle.mon_topo.specs.FirstHistories.{first_histories}
 use Rattle.core_theory.specs.Holders.{HoldsLeaf, HoldsRange}
 use Rattle.core_theory.specs.Licensed.{IsWoven}
 use Rattle.weave_core.specs.NewActors.{hearing_of}

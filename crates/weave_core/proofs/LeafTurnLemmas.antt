@@ -9,7 +9,7 @@ use Rattle.mon_value.specs.LeafHistories.{is_down}
 use Rattle.mon_value.specs.declared.histories.Entry.{Entry}
 use Rattle.mon_value.specs.declared.positions.Leaf.{Leaf}
 use Rattle.mon_value.specs.declared.positions.Slot.{Slot}
-use Rattle.leaf_store.specs.LeafBuckets.{is_unraised}
+use Rattle.leaf_store.specs.LeafStates.{is_unraised}
 use Rattle.weave_core.proofs.AtWorkLemmas.{IsGoingOn, StandsBefore, below_entering, below_reserving, going_entering}
 use Rattle.weave_core.proofs.AtWorkLemmas.{going_inside, going_reserving, none_entering, none_reserving, own}
 use Rattle.core_theory.proofs.MeetingLemmas.{leaf_met}

@@ -7,7 +7,7 @@ use Rattle.std.proofs.lemmas.List.{length-replicate, take_all}
 use Rattle.std.proofs.lemmas.Option.{slice_get_within}
 use Rattle.leaf_store.specs.LeafStates.{LeafView, new_leaf, leaf_with_entry, with_promised}
 use Rattle.mon_config.specs.declared.config.Config.{Config}
-use Rattle.mon_value.specs.Positions.{leaf_numbered}
+use Rattle.mon_value.specs.Histories.{leaf_numbered}
 use Rattle.mon_topo.specs.Zones.{first_replicas, leaves_in, ranges_in}
 use Rattle.mon_value.proofs.LeafHistoryLemmas.{IsWellFormed-push}
 use Rattle.mon_value.specs.LeafHistories.{IsWellFormed}
@@ -18,8 +18,7 @@ use Rattle.mon_value.specs.declared.positions.Range.{Range}
 use Rattle.mon_value.specs.declared.positions.Slot.{Slot}
 use Rattle.mon_value.specs.declared.rows.Row.{Row}
 use Rattle.mon_topo.proofs.FirstLemmas.{IsOpen}
-use Rattle.mon_topo.specs.FirstHistories.{first_leaf_history, opened_here, opening}
-use Rattle.mon_topo.specs.FirstHistories.{opened_before, opened_up_to}
+use Rattle.mon_topo.specs.HeldHistories.{first_leaf_history, opened_here, opening, opened_before, opened_up_to}
 use Rattle.leaf_store.specs.LeafLists.{IsChanged}
 use Rattle.weave_core.specs.Openings.{AreOpenedSo, IsOpenedSo, with_opening}
 use Rattle.mon_topo.proofs.FirstOpenings.{before_more, open_up_to, up_to_more}

@@ -10,16 +10,15 @@ use Rattle.std.proofs.lemmas.Bool.Decides.{nat_tests}
 use Rattle.mon_topo.proofs.FirstLemmas as begun
 use Rattle.mon_topo.proofs.HeldLemmas.{seen_within_through}
 use Rattle.mon_topo.proofs.RangeHistoryLemmas.{not_missed, serving-push}
-use Rattle.mon_topo.specs.FirstHistories.{first_histories}
+use Rattle.mon_topo.specs.HeldHistories.{first_histories, AreWithin}
 use Rattle.mon_topo.specs.RangeHistories as range_spec
 use Rattle.mon_topo.specs.RangeHistories.{IsInZoneOf, is_on, opened_slots, serving}
 use Rattle.mon_topo.specs.Replicas.{HasReplicas}
-use Rattle.mon_topo.specs.SeenHistories.{AreWithin}
 use Rattle.mon_topo.specs.Settings.{Setting}
 use Rattle.mon_topo.specs.Zones.{first_replicas, ranges_in}
 use Rattle.mon_topo.specs.declared.limits.TheConstants.{MOST_REPLICAS, MOST_SLOTS}
 use Rattle.mon_topo.specs.declared.zones.ZoneSpec.{ZoneSpec}
-use Rattle.mon_schema.specs.SchemaLists.{SchemaLists}
+use Rattle.mon_schema.specs.Names.{SchemaLists}
 use Rattle.mon_value.specs.Histories.{range_history}
 use Rattle.mon_value.specs.declared.histories.Ack.{Ack}
 use Rattle.mon_value.specs.declared.histories.Histories.{Histories}
@@ -33,7 +32,7 @@ use Rattle.weave_core.specs.RecoveryEvents.{opening_told, told_by_denial}
 use Rattle.write_core.proofs.CopyAnswers.{may_open}
 use Rattle.write_core.proofs.OpeningLemmas.{opened-acked, opened-opened, serving-opened}
 use Rattle.write_core.specs.CopySteps.{IsToldOfRange}
-use Rattle.write_core.specs.Openings.{denied_by}
+use Rattle.write_core.specs.Recovering.{denied_by}
 use Rattle.write_core.specs.declared.copies.Denial.TheVariants.{ServesFully, SlotsSpent}
 use Rattle.write_core.specs.World.{Recovery}
 

@@ -6,7 +6,7 @@ use Rattle.std.proofs.lemmas.Option.{get_or_from_slice_get}
 use Rattle.mon_config.specs.declared.config.Config.{Config}
 use Rattle.mon_topo.proofs.PartLemmas.{part_at, zone_of_part}
 use Rattle.mon_topo.specs.Settings.{zone_of_leaf}
-use Rattle.mon_value.specs.Positions.{zone_numbered}
+use Rattle.mon_value.specs.Histories.{zone_numbered}
 use Rattle.mon_topo.specs.Zones.{first_leaf, leaf_zones, leaves_in, no_zone}
 use Rattle.mon_topo.specs.declared.zones.ZoneSpec.{ZoneSpec}
 use Rattle.mon_value.specs.declared.positions.Leaf.{Leaf}

@@ -1,19 +1,17 @@
 -- The plan of a text is asked of a configuration's store.
 use Rattle.std.proofs.Common.{◌≡◌, ℕ, List, Ok, sym, subst, refl}
 use Rattle.std.specs.Prelude.{Some}
-use Rattle.leaf_store.specs.LeafBuckets.{buckets_by, key_buckets}
+use Rattle.leaf_store.specs.LeafStates.{buckets_by, key_buckets}
 use Rattle.mon_config.specs.declared.config.Config.{Config}
 use Rattle.mon_hints.specs.Hints.{series_buckets}
-use Rattle.mon_schema.specs.SchemaLists.{SchemaLists, metric_named, target_named}
+use Rattle.mon_schema.specs.Names.{SchemaLists, metric_named, target_named}
 use Rattle.mon_value.specs.declared.rows.SeriesKey.{SeriesKey}
 use Rattle.mon_value.specs.declared.schemas.MetricSchema.{MetricSchema}
 use Rattle.mon_value.specs.declared.schemas.TargetSchema.{TargetSchema}
 use Rattle.mql_types.specs.declared.plans.Plan.{Plan}
-use Rattle.query_core.specs.Areas.{areas_of}
+use Rattle.query_core.specs.Rounds.{areas_of, QuerySetting}
 use Rattle.query_core.specs.Machine.{Query, new_query}
-use Rattle.query_core.specs.Settings.{QuerySetting}
-use Rattle.query_texts.specs.Plans.{IsPlanOver, plan_type}
-use Rattle.query_texts.specs.TextTypes.{text_type}
+use Rattle.query_texts.specs.TextTypes.{IsPlanOver, plan_type, text_type}
 use Rattle.weave_core.specs.Agreements.{IsServed}
 use Rattle.weave_core.specs.QueryPlans.{IsMachineSo}
 

@@ -11,7 +11,7 @@ use Rattle.query_core.specs.Mixtures.{Settles}
 use Rattle.query_core.specs.Program.{after}
 use Rattle.query_core.specs.Sessions as session
 use Rattle.query_core.specs.Sessions.{query_after, told_then}
-use Rattle.query_core.specs.Settings.{QuerySetting}
+use Rattle.query_core.specs.Rounds.{QuerySetting}
 use Rattle.query_core.specs.declared.answers.Answer.{Answer}
 use Rattle.query_core.specs.declared.answers.RoundFault.{RoundFault}
 use Rattle.query_core.specs.declared.asks.Told.{Told}
@@ -20,7 +20,7 @@ use Rattle.query_core.specs.declared.stages.Stage.TheVariants as at
 use Rattle.core_theory.proofs.CoreLemmas.{goes}
 use Rattle.weave_core.specs.ActorAgreements.{IsReaderSo}
 use Rattle.core_theory.specs.Core.{Core, Reader, Tells, asked_now, came, query_now, told_on, view_told}
-use Rattle.mon_topo.specs.FirstHistories.{first_histories}
+use Rattle.mon_topo.specs.HeldHistories.{first_histories}
 use Rattle.weave_core.specs.QueryTurns.{AnswersSo, IsAnswered, IsAsking, IsToldLast, IsToldOn, QueriesSo, QueryEnded}
 use Rattle.weave_core.specs.QueryTurns.{QueryWent, TurnsBy}
 use Rattle.mon_topo.specs.Sights.{sight_of}

@@ -3,9 +3,9 @@ use Rattle.std.proofs.lemmas.Bool.{or_right}
 use Rattle.std.proofs.Common.{◌≡◌, ◌∙◌, ℕ, ◌<◌, ◌||◌, ◌==◌, Bool, true, false, List, [], ◌∷◌, refl, sym, subst, arith}
 use Rattle.std.proofs.lemmas.Bool.Decides.{nat_tests}
 use Rattle.leaf_store.proofs.BucketLemmas.{AllBelow, unraised_below}
-use Rattle.leaf_store.specs.LeafBuckets.{AreToRaise, is_unraised}
+use Rattle.leaf_store.specs.LeafStates.{AreToRaise, is_unraised}
 use Rattle.mon_config.specs.declared.config.Config.{Config}
-use Rattle.mon_hints.specs.Listings.{is_among}
+use Rattle.mon_hints.specs.Formulas.{is_among}
 use Rattle.mon_value.specs.declared.rows.SeriesKey.{SeriesKey}
 use Rattle.weave_core.specs.Agreements.{IsServed}
 use Rattle.weave_core.specs.declared.leaves.LeafSeat.{LeafSeat}

@@ -6,10 +6,9 @@ use Rattle.std.proofs.lemmas.Bool.{cases_eq, eq-eqb, ne_eqb, eqb-true}
 use Rattle.mon_config.specs.declared.config.Config.{Config}
 use Rattle.mon_hints.specs.Places.{same_place}
 use Rattle.mon_hints.specs.Covers.{with_bit}
-use Rattle.mon_hints.specs.Words.{has_bit}
-use Rattle.mon_value.specs.Histories.{leaf_history}
+use Rattle.mon_hints.specs.Hints.{has_bit}
+use Rattle.mon_value.specs.Histories.{leaf_history, leaf_numbered}
 use Rattle.mon_topo.specs.Settings.{Setting, zone_of_leaf}
-use Rattle.mon_value.specs.Positions.{leaf_numbered}
 use Rattle.mon_topo.specs.Zones.{leaves_in}
 use Rattle.mon_value.specs.declared.positions.Leaf.{Leaf}
 use Rattle.mon_value.specs.declared.positions.Zone.{Zone}

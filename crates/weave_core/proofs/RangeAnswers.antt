@@ -7,7 +7,7 @@ use Rattle.mon_value.specs.declared.positions.Range.{Range}
 use Rattle.mon_value.specs.declared.positions.SlotLeaf.{SlotLeaf}
 use Rattle.query_core.specs.Machine.{Query, slots_at}
 use Rattle.query_core.specs.Program.{ask_of}
-use Rattle.mon_topo.specs.Serving.{first_serving}
+use Rattle.mon_topo.specs.RangeHistories.{first_serving}
 use Rattle.query_core.specs.declared.asks.Ask.{Ask}
 use Rattle.query_core.specs.declared.asks.Ask.TheVariants as ask
 use Rattle.query_core.specs.declared.asks.Told.{Told}

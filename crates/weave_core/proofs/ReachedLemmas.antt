@@ -2,7 +2,7 @@
 use Rattle.std.proofs.Common.{◌≡◌, ◌≤ℤ◌, ◌⊎◌, inl, inr, ℕ, ℤ, zero, suc, pos, Bool, true, false, List, [], ◌∷◌, Option}
 use Rattle.std.proofs.Common.{Some, None, Result, Ok, Err, refl, sym, subst, ◌∙◌}
 use Rattle.mon_config.specs.declared.config.Config.{Config}
-use Rattle.mon_config.specs.KeyRanges.{range_of_key}
+use Rattle.mon_config.specs.Configs.{range_of_key}
 use Rattle.mon_topo.specs.Settings.{Setting}
 use Rattle.mon_value.specs.declared.positions.Leaf.{Leaf}
 use Rattle.mon_value.specs.declared.positions.Range.{Range}
@@ -10,7 +10,7 @@ use Rattle.mon_value.specs.declared.rows.Row.{Row}
 use Rattle.mql_types.specs.Nodes.{TypedTree}
 use Rattle.query_core.specs.Askings.{IsAskedOf}
 use Rattle.query_core.specs.Machine.{new_query}
-use Rattle.query_core.specs.Settings.{QuerySetting}
+use Rattle.query_core.specs.Rounds.{QuerySetting}
 use Rattle.query_texts.specs.TextTypes.{text_type}
 use Rattle.query_texts.specs.declared.faults.TextFault.{TextFault}
 use Rattle.core_theory.proofs.CoreLemmas.{new_woven, stays_woven}

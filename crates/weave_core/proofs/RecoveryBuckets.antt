@@ -3,12 +3,11 @@ use Rattle.std.proofs.Common.{◌≡◌, ◌∙◌, ℕ, ◌+◌, ◌≤◌, ◌
 use Rattle.std.proofs.Common.{◌++◌, refl, sym, ap, arith, IfOk, Result, Ok, Err}
 use Rattle.std.proofs.lemmas.Bool.Decides.{nat_tests}
 use Rattle.std.proofs.lemmas.List.Folds.{list_any-append}
-use Rattle.leaf_store.specs.LeafBuckets.{is_unraised, key_buckets}
-use Rattle.leaf_store.specs.LeafStates.{LeafView}
+use Rattle.leaf_store.specs.LeafStates.{is_unraised, key_buckets, LeafView}
 use Rattle.mon_hints.specs.BucketSets.{HasNone, IsNext, with_bucket}
-use Rattle.mon_hints.specs.HistoryBuckets.{history_buckets, rows_buckets}
-use Rattle.mon_hints.specs.Listings.{is_among}
-use Rattle.mon_schema.specs.SchemaLists.{SchemaLists}
+use Rattle.mon_hints.specs.Hints.{history_buckets, rows_buckets}
+use Rattle.mon_hints.specs.Formulas.{is_among}
+use Rattle.mon_schema.specs.Names.{SchemaLists}
 use Rattle.mon_value.specs.declared.histories.Entry.{Entry}
 use Rattle.mon_value.specs.declared.rows.Row.{Row}
 use Rattle.weave_core.specs.RecoveryEvents.{AreAllToRaise, Lists}

@@ -9,12 +9,12 @@ use Rattle.core_theory.proofs.MeetingLemmas.{leaf_met}
 use Rattle.core_theory.specs.Holders.{IsCopyInside}
 use Rattle.core_theory.specs.Meetings.{sight_at_leaf}
 use Rattle.leaf_store.proofs.BucketLemmas.{AllBelow, key_below}
-use Rattle.leaf_store.specs.LeafBuckets.{key_buckets}
+use Rattle.leaf_store.specs.LeafStates.{key_buckets}
 use Rattle.mon_config.specs.declared.config.Config.{Config}
-use Rattle.mon_hints.specs.HistoryBuckets.{history_buckets, rows_buckets}
-use Rattle.mon_hints.specs.Listings.{is_among}
+use Rattle.mon_hints.specs.Hints.{history_buckets, rows_buckets}
+use Rattle.mon_hints.specs.Formulas.{is_among}
 use Rattle.mon_hints.specs.declared.places.Place.TheVariants as word
-use Rattle.mon_schema.specs.SchemaLists.{SchemaLists}
+use Rattle.mon_schema.specs.Names.{SchemaLists}
 use Rattle.mon_topo.proofs.HeldLemmas.{leaf_entry_other, leaf_entry_same}
 use Rattle.mon_topo.proofs.LawfulLemmas.{few}
 use Rattle.mon_topo.proofs.SightLemmas.{leaf_seen, noted_over}
@@ -23,9 +23,8 @@ use Rattle.mon_topo.specs.Sights.{sight_of, with_leaf_sight}
 use Rattle.mon_topo.specs.Views.{View, joined_view, of_leaf, of_range, with_entry, with_root_bit, with_zone_bit}
 use Rattle.mon_topo.specs.Zones.{leaves_in}
 use Rattle.mon_topo.specs.declared.sights.Sight.{Sight}
-use Rattle.mon_value.specs.Histories.{leaf_history}
+use Rattle.mon_value.specs.Histories.{leaf_history, leaf_numbered}
 use Rattle.mon_value.specs.LeafHistories.{IsWellFormed}
-use Rattle.mon_value.specs.Positions.{leaf_numbered}
 use Rattle.mon_value.specs.declared.histories.Entry.{Entry}
 use Rattle.mon_value.specs.declared.histories.Entry.TheVariants as entry
 use Rattle.mon_value.specs.declared.positions.FoundDown.{FoundDown}

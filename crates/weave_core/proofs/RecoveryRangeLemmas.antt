@@ -11,7 +11,7 @@ use Rattle.mon_topo.specs.Settings.{Setting}
 use Rattle.mon_topo.specs.Sights.{range_sight, sight_of, with_range_sight}
 use Rattle.mon_topo.specs.Views.{View, joined_view, of_leaf, of_range, with_range_entry}
 use Rattle.mon_topo.specs.declared.sights.Sight.{Sight}
-use Rattle.mon_value.specs.Positions.{range_numbered}
+use Rattle.mon_value.specs.Histories.{range_numbered}
 use Rattle.mon_value.specs.declared.histories.RangeEntry.{RangeEntry}
 use Rattle.mon_value.specs.declared.histories.RangeEntry.TheVariants as range_entry
 use Rattle.mon_value.specs.declared.positions.Leaf.{Leaf}
@@ -39,8 +39,7 @@ use Rattle.write_core.proofs.ViewLemmas.{joined_whole_range}
 use Rattle.write_core.specs.CopyPhases.{copy_ask_of}
 use Rattle.write_core.specs.CopySteps.{IsToldOfRange, next_slot, opening_of, told_range}
 use Rattle.write_core.specs.Invariant.{IsTelling}
-use Rattle.write_core.specs.Openings.{denial_of}
-use Rattle.write_core.specs.Recovering.{Beginning, CopyStage, Over, Telling, copied_after}
+use Rattle.write_core.specs.Recovering.{denial_of, Beginning, CopyStage, Over, Telling, copied_after}
 use Rattle.write_core.specs.declared.copies.CopyTold.{CopyTold}
 use Rattle.write_core.specs.declared.copies.CopyTold.TheVariants.{WasDone}
 use Rattle.write_core.specs.declared.copies.Denial.{Denial}

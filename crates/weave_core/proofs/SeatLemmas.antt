@@ -7,7 +7,7 @@ use Rattle.std.proofs.lemmas.List.{length-set, length-map}
 use Rattle.std.proofs.lemmas.Option.{none-some, same_Some}
 use Rattle.mon_config.specs.declared.config.Config.{Config}
 use Rattle.mon_topo.specs.Settings.{Setting}
-use Rattle.mon_value.specs.Positions.{leaf_numbered, range_numbered}
+use Rattle.mon_value.specs.Histories.{leaf_numbered, range_numbered}
 use Rattle.mon_value.specs.declared.positions.Leaf.{Leaf}
 use Rattle.mon_value.specs.declared.positions.Range.{Range}
 use Rattle.weave_core.specs.Agreements.{AreLeaves, AreRanges, AreShared, AreWords, IsLeafSo, IsRangeSo}
@@ -21,7 +21,7 @@ use Rattle.mon_topo.specs.declared.sights.Sight.{Sight}
 use Rattle.weave_core.specs.declared.store.Store.{Store}
 use Rattle.mon_hints.specs.declared.places.Place.TheVariants as at
 use Rattle.mon_hints.specs.Covers.{Bits}
-use Rattle.mon_hints.specs.Words.{has_bit}
+use Rattle.mon_hints.specs.Hints.{has_bit}
 use Rattle.mon_topo.specs.Settings.{zone_of_leaf}
 use Rattle.weave_core.specs.Agreements.{place_of_leaf}
 use Rattle.write_core.proofs.KeepsLemmas.{changed_other, changed_same}

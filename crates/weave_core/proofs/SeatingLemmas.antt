@@ -8,10 +8,10 @@ use Rattle.std.proofs.lemmas.List.FromFn.{fill_by_all, length-map-range_with_len
 use Rattle.std.proofs.lemmas.Option.{get_or_from_slice_get, slice_get-get_or, slice_get_within}
 use Rattle.leaf_store.specs.LeafStates.{LeafView, new_leaf}
 use Rattle.mon_config.specs.declared.config.Config.{Config}
-use Rattle.mon_hints.specs.Words.{has_bit}
+use Rattle.mon_hints.specs.Hints.{has_bit}
 use Rattle.mon_topo.proofs.PartLemmas.{zone_of_part}
 use Rattle.mon_topo.specs.Settings.{zone_of_leaf}
-use Rattle.mon_value.specs.Positions.{leaf_numbered, zone_numbered}
+use Rattle.mon_value.specs.Histories.{leaf_numbered, zone_numbered}
 use Rattle.mon_topo.specs.Zones.{first_leaf, leaf_zones, zone_at, no_zone, leaves_in}
 use Rattle.mon_topo.specs.Zones.{ranges_in}
 use Rattle.mon_topo.specs.declared.zones.ZoneSpec.{ZoneSpec}
@@ -20,8 +20,8 @@ use Rattle.mon_value.specs.declared.histories.RangeEntry.{RangeEntry}
 use Rattle.mon_topo.proofs.FirstLemmas.{leaf_is}
 use Rattle.weave_core.specs.Agreements.{AreLeaves, AreRanges, AreShared, AreWords, IsLeafSo, IsRangeSo, IsServed}
 use Rattle.weave_core.specs.Agreements.{first_view, place_of_leaf}
-use Rattle.mon_topo.specs.FirstHistories.{first_histories, first_leaf_history, first_range_history}
-use Rattle.mon_topo.specs.FirstHistories.{first_range_histories}
+use Rattle.mon_topo.specs.HeldHistories.{first_histories, first_leaf_history, first_range_history}
+use Rattle.mon_topo.specs.HeldHistories.{first_range_histories}
 use Rattle.weave_core.specs.FirstSeats.{AreFirstSeats}
 use Rattle.weave_core.specs.HintWords.{HintTable, index_of, no_words, hint_word_at}
 use Rattle.weave_core.specs.Openings.{AreOpenedSo, IsOpenedSo, first_world, leaf_seat}

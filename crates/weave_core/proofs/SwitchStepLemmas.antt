@@ -11,8 +11,7 @@ use Rattle.mon_topo.specs.Views.{View, joined_view, of_leaf, of_range}
 use Rattle.mon_topo.specs.Zones.{leaves_in}
 use Rattle.mon_topo.specs.declared.sights.Sight.{Sight}
 use Rattle.mon_topo.specs.declared.zones.ZoneSpec.{ZoneSpec}
-use Rattle.mon_value.specs.Histories.{leaf_history}
-use Rattle.mon_value.specs.Positions.{leaf_numbered}
+use Rattle.mon_value.specs.Histories.{leaf_history, leaf_numbered}
 use Rattle.mon_value.specs.declared.histories.Entry.{Entry}
 use Rattle.mon_value.specs.declared.positions.Leaf.{Leaf}
 use Rattle.mon_value.specs.declared.positions.Range.{Range}

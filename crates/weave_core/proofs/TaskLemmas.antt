@@ -6,7 +6,7 @@ use Rattle.std.specs.Option.{option_copied}
 use Rattle.mon_config.specs.declared.config.Config.{Config}
 use Rattle.query_core.specs.Machine.{Query}
 use Rattle.query_core.specs.Program as query
-use Rattle.query_core.specs.Settings.{QuerySetting}
+use Rattle.query_core.specs.Rounds.{QuerySetting}
 use Rattle.query_core.specs.declared.asks.Ask.{Ask}
 use Rattle.query_core.specs.declared.asks.Ask.TheVariants as query_ask
 use Rattle.weave_core.specs.ActorAgreements.{Agrees, IsActorSo, IsRecovering, IsTaskSo, IsQuerying, IsWriting}

@@ -3,17 +3,17 @@ use Rattle.std.proofs.Common.{◌≡◌, ◌∙◌, ◌<◌, ◌-◌, ℕ, get_o
 use Rattle.std.specs.Prelude.{slice_get, Some}
 use Rattle.std.proofs.lemmas.Option.{get_or_from_slice_get, slice_get_within}
 use Rattle.mon_config.specs.declared.config.Config.{Config}
-use Rattle.mon_hints.specs.Words.{has_bit}
+use Rattle.mon_hints.specs.Hints.{has_bit}
 use Rattle.mon_topo.proofs.PartLemmas.{length-zones_of}
 use Rattle.mon_topo.specs.Settings.{zone_of_leaf}
-use Rattle.mon_value.specs.Positions.{zone_numbered}
+use Rattle.mon_value.specs.Histories.{zone_numbered}
 use Rattle.mon_topo.specs.Zones.{first_leaf, leaf_zones}
 use Rattle.mon_topo.specs.declared.zones.ZoneSpec.{ZoneSpec}
 use Rattle.mon_value.specs.declared.positions.Leaf.{Leaf}
 use Rattle.mon_value.specs.declared.positions.Zone.{Zone}
 use Rattle.query_core.proofs.AskLemmas.{root_below, zone_below}
 use Rattle.query_core.specs.Program.{ask_of}
-use Rattle.query_core.specs.Settings.{QuerySetting}
+use Rattle.query_core.specs.Rounds.{QuerySetting}
 use Rattle.query_core.specs.declared.asks.Ask.{Ask}
 use Rattle.query_core.specs.declared.asks.Ask.TheVariants as ask
 use Rattle.query_core.specs.declared.stages.Stage.TheVariants as at

@@ -8,7 +8,7 @@ use Rattle.std.proofs.lemmas.List.{get_or-set_same, get_or-set_other}
 use Rattle.std.proofs.Math.Nat.{add-mul, mul-le-mul_right}
 use Rattle.std.proofs.lemmas.Nat.Bits.{bit_at_set_same, bit_at_set_other}
 use Rattle.mon_hints.specs.Places.{place_number, same_place}
-use Rattle.mon_hints.specs.Words.{has_bit}
+use Rattle.mon_hints.specs.Hints.{has_bit}
 use Rattle.weave_core.specs.HintWords.{HasWord, HintTable, RaisesOne, child_bit, index_of, with_child_bit}
 use Rattle.weave_core.specs.HintWords.{with_raised, hint_word_at}
 use Rattle.mon_hints.specs.declared.places.Place.{Place}

@@ -2,7 +2,7 @@
 use Rattle.std.specs.Prelude.{ℕ, ◌+◌, pos, ◌≡◌, ◌≢◌, ◌<◌, ◌≤ℤ◌, Bool, true, false, List, length, slice_get, Option}
 use Rattle.std.specs.Prelude.{Some, None}
 use Rattle.mon_config.specs.declared.config.Config.{Config}
-use Rattle.mon_topo.specs.SeenHistories.{AreWithin}
+use Rattle.mon_topo.specs.HeldHistories.{AreWithin, first_histories}
 use Rattle.mon_topo.specs.Settings.{Setting}
 use Rattle.mon_topo.specs.Zones.{leaves_in}
 use Rattle.mon_value.specs.declared.positions.Leaf.{Leaf}
@@ -12,7 +12,6 @@ use Rattle.query_core.specs.Program as query
 use Rattle.query_core.specs.declared.asks.Ask.TheVariants as query_ask
 use Rattle.weave_core.specs.Agreements.{AreShared, first_view}
 use Rattle.core_theory.specs.Core.{Reader, asked_now, query_now}
-use Rattle.mon_topo.specs.FirstHistories.{first_histories}
 use Rattle.core_theory.specs.Holders.{AreHolders}
 use Rattle.core_theory.specs.Licensed.{IsWoven}
 use Rattle.weave_core.specs.PlannedQueries.{IsPlanned}

@@ -2,16 +2,15 @@
 use Rattle.std.specs.Prelude.{ℕ, ◌≡◌, ◌+◌, ◌*◌, ◌-◌, ◌<◌, false, true, List, length, slice_get, Some, is_some}
 use Rattle.mon_config.specs.declared.config.Config.{Config}
 use Rattle.mon_hints.specs.Covers.{Bits}
-use Rattle.mon_hints.specs.Words.{has_bit}
-use Rattle.mon_schema.specs.HeldMetrics.{AreMetricsHeld}
-use Rattle.mon_schema.specs.HeldTargets.{AllTellLocations}
+use Rattle.mon_hints.specs.Hints.{has_bit}
+use Rattle.mon_schema.specs.Fits.{AreMetricsHeld, AllTellLocations}
 use Rattle.mon_topo.specs.Faults.{AreLawfulZones}
 use Rattle.mon_topo.specs.Replicas.{HasReplicas}
 use Rattle.mon_topo.specs.Settings.{Setting, zone_of_leaf}
-use Rattle.mon_value.specs.Positions.{leaf_numbered, range_numbered}
+use Rattle.mon_value.specs.Histories.{leaf_numbered, range_numbered}
 use Rattle.mon_topo.specs.Zones.{first_leaf, leaves_in, ranges_in}
 use Rattle.mon_value.specs.declared.positions.Leaf.{Leaf}
-use Rattle.mon_topo.specs.FirstHistories.{first_histories}
+use Rattle.mon_topo.specs.HeldHistories.{first_histories}
 use Rattle.weave_core.specs.HintWords.{HintTable, hint_word_at}
 use Rattle.mon_topo.specs.Sights.{sight_of}
 use Rattle.weave_core.specs.States.{store_of}

@@ -2,7 +2,7 @@
 use Rattle.std.specs.Prelude.{ℕ, ℤ, ◌≡◌, true, false, [], map, Option, Some, None, Result, Ok, Err}
 use Rattle.mon_config.specs.declared.config.Config.{Config}
 use Rattle.mon_hints.specs.Formulas.{formula_tree}
-use Rattle.mon_config.specs.KeyRanges.{range_of_key}
+use Rattle.mon_config.specs.Configs.{range_of_key}
 use Rattle.mon_topo.specs.Settings.{Setting}
 use Rattle.mon_value.specs.declared.positions.Leaf.{Leaf}
 use Rattle.mon_value.specs.declared.positions.Range.{Range}
@@ -12,7 +12,7 @@ use Rattle.plan_split.specs.FetchFormulas.{plan_formulas}
 use Rattle.query_core.specs.Askings.{IsAskedOf}
 use Rattle.query_core.specs.Machine.{new_query}
 use Rattle.query_core.specs.Mixtures.{typed_of}
-use Rattle.query_core.specs.Settings.{QuerySetting}
+use Rattle.query_core.specs.Rounds.{QuerySetting}
 use Rattle.core_theory.specs.Core.{CanCome, CoreEvent, Happens, Hears, Reader}
 use Rattle.query_texts.specs.TextTypes.{text_type}
 use Rattle.query_texts.specs.declared.faults.TextFault.{TextFault}

@@ -2,7 +2,7 @@
 use Rattle.std.specs.Prelude.{ℕ, Bool, List, ◌++◌, codes, length, Result, Ok, Err, if◌then◌else◌}
 use Rattle.std.specs.Fmt.{decimal}
 use Rattle.mon_table.specs.Tables.{newline, printed_table}
-use Rattle.mon_topo.specs.NameTexts.{down_text, founds_text, leaf_text, range_text}
+use Rattle.mon_topo.specs.Zones.{down_text, founds_text, leaf_text, range_text}
 use Rattle.mon_topo.specs.declared.zones.ZoneSpec.{ZoneSpec}
 use Rattle.mon_value.specs.declared.positions.Leaf.{Leaf}
 use Rattle.mon_value.specs.declared.positions.Range.{Range}
@@ -17,7 +17,7 @@ use Rattle.write_core.specs.declared.copies.Denial.{Denial}
 use Rattle.write_core.specs.declared.copies.Denial.TheVariants.{ServesFully, ServesThere, SlotsSpent}
 use Rattle.write_core.specs.declared.copies.Outcome.{Outcome}
 use Rattle.write_core.specs.declared.copies.Outcome.TheVariants.{Denied, NoSource, NoTarget, Opens}
-use Rattle.write_core.specs.Refusals.{no_zone_text, refused_text}
+use Rattle.write_core.specs.RangeAnswers.{no_zone_text, refused_text}
 use Rattle.write_core.specs.declared.asks.WriteEnd.{WriteEnd}
 use Rattle.write_core.specs.declared.asks.WriteEnd.TheVariants as end
 use Rattle.write_core.specs.declared.refusals.Refused.TheVariants as refused

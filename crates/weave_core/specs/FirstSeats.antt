@@ -2,7 +2,7 @@
 use Rattle.std.specs.Prelude.{◌≡◌, List, length, map}
 use Rattle.leaf_store.specs.LeafStates.{LeafView}
 use Rattle.mon_config.specs.declared.config.Config.{Config}
-use Rattle.mon_topo.specs.FirstHistories.{first_leaf_history, first_range_histories}
+use Rattle.mon_topo.specs.HeldHistories.{first_leaf_history, first_range_histories}
 use Rattle.weave_core.specs.HintWords.{no_words}
 use Rattle.weave_core.specs.Openings.{AreOpenedSo, leaf_seats, range_seat, replayed, sight_of_states}
 use Rattle.weave_core.specs.declared.store.Seats.{Seats}

@@ -2,7 +2,7 @@
 use Rattle.std.specs.Prelude.{◌≡◌, ℕ, ◌+◌, ◌*◌, ◌%◌, ◌^◌, ◌<◌, ◌||◌, ◌&&◌, Bool, nat_eq, List, length, get_or, set}
 use Rattle.std.specs.Prelude.{replicate, bit_or}
 use Rattle.mon_hints.specs.Places.{same_place, word_index}
-use Rattle.mon_hints.specs.Words.{has_bit}
+use Rattle.mon_hints.specs.Hints.{has_bit}
 use Rattle.mon_hints.specs.declared.places.Place.{Place}
 
 -- the words, table by table, and how many buckets each table is for

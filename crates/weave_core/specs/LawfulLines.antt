@@ -1,7 +1,7 @@
 -- What holds of each line of a schedule that is of a form.
 use Rattle.std.specs.Prelude.{ℕ, ℤ, pos, ◌≡◌, ◌<◌, ◌≤◌, ◌≤ℤ◌, true, List, length}
 use Rattle.mon_schema.specs.Fits.{fits}
-use Rattle.mon_schema.specs.SchemaLists.{SchemaLists}
+use Rattle.mon_schema.specs.Names.{SchemaLists}
 use Rattle.mon_topo.specs.RangeHistories.{IsInZoneOf}
 use Rattle.mon_topo.specs.Zones.{leaves_in, ranges_in}
 use Rattle.mon_topo.specs.declared.zones.ZoneSpec.{ZoneSpec}

@@ -5,13 +5,13 @@ use Rattle.std.specs.List.{slice_index_or}
 use Rattle.leaf_store.specs.LeafStates.{LeafView, leaf_with_entry, with_promised}
 use Rattle.mon_config.specs.declared.config.Config.{Config}
 use Rattle.mon_topo.specs.Zones.{first_leaf, leaf_zones, leaves_in}
-use Rattle.mon_value.specs.Positions.{zone_numbered}
+use Rattle.mon_value.specs.Histories.{zone_numbered}
 use Rattle.mon_topo.specs.declared.zones.ZoneSpec.{ZoneSpec}
 use Rattle.mon_value.specs.declared.histories.Entry.{Entry}
 use Rattle.mon_value.specs.declared.histories.RangeEntry.{RangeEntry}
 use Rattle.mon_value.specs.declared.positions.Range.{Range}
 use Rattle.weave_core.specs.Agreements.{first_view}
-use Rattle.mon_topo.specs.FirstHistories.{opening}
+use Rattle.mon_topo.specs.HeldHistories.{opening}
 use Rattle.mon_topo.specs.Sights.{range_sight}
 use Rattle.weave_core.specs.declared.leaves.LeafSeat.{LeafSeat}
 use Rattle.weave_core.specs.declared.ranges.RangeSeat.{RangeSeat}

@@ -1,7 +1,7 @@
 -- What a look of a query does to the seat that it needs and to how far this has seen, and what it is told.
 use Rattle.std.specs.Prelude.{ℕ, ℤ, ◌≡◌, ◌<◌, true, is_some, List, length, slice_get, Option}
 use Rattle.std.specs.Prelude.{Some, None}
-use Rattle.leaf_store.specs.LeafBuckets.{key_buckets}
+use Rattle.leaf_store.specs.LeafStates.{key_buckets}
 use Rattle.leaf_eval.specs.Visits.{IsVisit}
 use Rattle.leaf_eval.specs.declared.visits.Visit.{Visit}
 use Rattle.leaf_eval.specs.declared.visits.Visit.TheVariants as visit
@@ -14,7 +14,7 @@ use Rattle.mql_types.specs.declared.plans.Plan.{Plan}
 use Rattle.query_core.specs.Machine.{slots_of}
 use Rattle.query_core.specs.SeenSights.{seen_of}
 use Rattle.mon_meaning.specs.ReadableSlots.{CanBeRead}
-use Rattle.mon_topo.specs.Serving.{first_serving}
+use Rattle.mon_topo.specs.RangeHistories.{first_serving}
 use Rattle.query_core.specs.declared.asks.Told.{Told}
 use Rattle.query_core.specs.declared.asks.Told.TheVariants as told
 use Rattle.core_theory.specs.Meetings.{sight_at_leaf, sight_at_range}

@@ -4,7 +4,7 @@ use Rattle.mon_config.specs.declared.config.Config.{Config}
 use Rattle.mon_value.specs.declared.positions.FoundDown.{FoundDown}
 use Rattle.mon_value.specs.declared.positions.Range.{Range}
 use Rattle.query_core.specs.Answers.{IsAnsweredRightly, IsStoppedRightly}
-use Rattle.query_core.specs.Findings.{HasNoReplica}
+use Rattle.query_core.specs.Courses.{HasNoReplica}
 use Rattle.query_core.specs.Machine.{new_query}
 use Rattle.query_core.specs.ToldDowns.{downs_told}
 use Rattle.query_core.specs.declared.answers.Answer.{Answer}

@@ -2,8 +2,7 @@
 use Rattle.std.specs.Prelude.{ℕ, ◌≡◌, ◌<◌, [], ◌∷◌}
 use Rattle.std.specs.List.{AllByRecursion}
 use Rattle.mon_config.specs.declared.config.Config.{Config}
-use Rattle.mon_topo.specs.FirstHistories.{first_histories}
-use Rattle.mon_topo.specs.SeenHistories.{AreWithin}
+use Rattle.mon_topo.specs.HeldHistories.{first_histories, AreWithin}
 use Rattle.mon_topo.specs.Sights.{sight_of}
 use Rattle.mon_topo.specs.Views.{View}
 use Rattle.mon_topo.specs.declared.sights.Sight.{Sight}

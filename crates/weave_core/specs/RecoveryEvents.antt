@@ -2,10 +2,9 @@
 use Rattle.std.specs.Prelude.{ℕ, ◌≡◌, ◌<◌, ◌&&◌, Bool, not, false, List, [], ◌∷◌, ◌++◌, length, slice_get, Option, Some, None}
 use Rattle.std.specs.List.Sorted.{IsStrictlyIncreasing}
 use Rattle.core_theory.specs.Meetings.{sight_at_leaf, sight_at_range}
-use Rattle.leaf_store.specs.LeafBuckets.{key_buckets}
-use Rattle.leaf_store.specs.LeafStates.{LeafView}
-use Rattle.mon_hints.specs.HistoryBuckets.{history_buckets, rows_buckets}
-use Rattle.mon_hints.specs.Listings.{is_among}
+use Rattle.leaf_store.specs.LeafStates.{key_buckets, LeafView}
+use Rattle.mon_hints.specs.Hints.{history_buckets, rows_buckets}
+use Rattle.mon_hints.specs.Formulas.{is_among}
 use Rattle.mon_hints.specs.declared.places.Place.{Place}
 use Rattle.mon_hints.specs.declared.places.Place.TheVariants as at
 use Rattle.mon_topo.specs.RangeHistories.{serving}
@@ -26,7 +25,7 @@ use Rattle.weave_core.specs.declared.leaves.LeafSeat.{LeafSeat}
 use Rattle.weave_core.specs.declared.ranges.RangeSeat.{RangeSeat}
 use Rattle.weave_core.specs.declared.store.Store.{Store}
 use Rattle.write_core.specs.CopySteps.{IsToldBySource, IsToldByTarget, IsToldDown}
-use Rattle.write_core.specs.Openings.{denial_of}
+use Rattle.write_core.specs.Recovering.{denial_of}
 use Rattle.write_core.specs.declared.copies.CopyTold.{CopyTold}
 use Rattle.write_core.specs.declared.copies.CopyTold.TheVariants.{Admits, Denies, Sources, WasDown}
 use Rattle.write_core.specs.declared.copies.Denial.{Denial}

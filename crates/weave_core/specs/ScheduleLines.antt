@@ -5,15 +5,13 @@ use Rattle.std.specs.Str.{is_utf8}
 use Rattle.mon_points.specs.Records.{reads_of}
 use Rattle.mon_points.specs.declared.records.RowRead.{RowRead}
 use Rattle.mon_points.specs.declared.records.RowRead.TheVariants as read
-use Rattle.mon_schema.specs.SchemaLists.{SchemaLists}
-use Rattle.mon_script.specs.Lines.{cut_at}
-use Rattle.mon_topo.specs.SharedZones.{share_zone}
-use Rattle.mon_topo.specs.Zones.{leaf_named, range_named}
+use Rattle.mon_schema.specs.Names.{SchemaLists}
+use Rattle.mon_script.specs.Lines.{cut_at, moment_of, space}
+use Rattle.mon_topo.specs.Zones.{share_zone, leaf_named, range_named}
 use Rattle.mon_topo.specs.declared.zones.ZoneSpec.{ZoneSpec}
 use Rattle.mon_value.specs.declared.positions.Leaf.{Leaf}
-use Rattle.mon_script.specs.Words.{moment_of, space}
 use Rattle.mon_value.specs.declared.positions.Range.{Range}
-use Rattle.mon_value.specs.Numbers.{number_of}
+use Rattle.mon_value.specs.Values.{number_of}
 use Rattle.mon_value.specs.Same.{same_text}
 use Rattle.mon_value.specs.declared.rows.Row.{Row}
 use Rattle.weave_core.specs.EventNames.{event_named}

@@ -10,7 +10,7 @@ use Rattle.mon_topo.specs.Settings.{Setting}
 use Rattle.mon_value.specs.declared.refusals.Refusal.{Refusal}
 use Rattle.mon_value.specs.declared.refusals.Refusal.TheVariants as refusal
 use Rattle.weave_core.specs.Declarations.{Declares, Meets}
-use Rattle.mon_topo.specs.FirstHistories.{first_histories}
+use Rattle.mon_topo.specs.HeldHistories.{first_histories}
 use Rattle.core_theory.specs.Licensed.{IsNewCore}
 use Rattle.weave_core.specs.ScheduleLines.{schedule_form}
 use Rattle.weave_core.specs.States.{State, Undeclared, has_begun, has_ended, is_declared, next_event, step_fault}

@@ -1,6 +1,6 @@
 -- The core and its actors: what each is to do, and how far it is.
 use Rattle.std.specs.Prelude.{ℕ, Bool, true, false, not, is_some, List, Option, Some, None, if◌then◌else◌}
-use Rattle.leaf_store.specs.LeafBuckets.{key_buckets}
+use Rattle.leaf_store.specs.LeafStates.{key_buckets}
 use Rattle.mon_config.specs.declared.config.Config.{Config}
 use Rattle.mon_topo.specs.Settings.{Setting}
 use Rattle.mon_value.specs.declared.positions.Leaf.{Leaf}

@@ -1,7 +1,7 @@
 -- What an event of a write does to the seat that it needs, to the write, and to how far this has seen.
 use Rattle.std.specs.Prelude.{ℕ, ◌≡◌, Bool, true, false, is_some, List, [], ◌∷◌, ◌++◌, length, Option, Some, None}
 use Rattle.std.specs.Prelude.{set, if◌then◌else◌}
-use Rattle.leaf_store.specs.LeafBuckets.{AreToRaise}
+use Rattle.leaf_store.specs.LeafStates.{AreToRaise}
 use Rattle.mon_value.specs.LeafHistories.{is_down}
 use Rattle.mon_value.specs.declared.histories.Entry.{Entry}
 use Rattle.mon_value.specs.declared.histories.Entry.TheVariants as entry

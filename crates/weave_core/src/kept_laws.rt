@@ -1,11 +1,10 @@
 // What is kept of the core tells: of bits and locks, and of what a store begins with.
 ghost use Rattle.std.specs.Prelude.{◌≡◌, ◌<◌, [], ℕ, List, length};
-ghost use Rattle.mon_topo.specs.FirstHistories.{first_histories};
+ghost use Rattle.mon_topo.specs.HeldHistories.{first_histories, AreHeld};
 ghost use Rattle.weave_core.specs.HintWords.{HasWord, HintTable, RaisesOne};
 ghost use Rattle.mon_hints.specs.declared.places.Place.{Place as WordPlace};
-ghost use Rattle.mon_schema.specs.SchemaLists.{SchemaLists};
+ghost use Rattle.mon_schema.specs.Names.{SchemaLists};
 ghost use Rattle.mon_value.specs.Histories.{leaf_history};
-ghost use Rattle.mon_topo.specs.HeldHistories.{AreHeld};
 ghost use Rattle.mon_topo.specs.RangeHistories.{IsLegal};
 ghost use Rattle.mon_topo.specs.Replicas.{HasReplicas};
 ghost use Rattle.mon_topo.specs.Settings.{Setting};

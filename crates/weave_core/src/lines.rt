@@ -1,7 +1,7 @@
 // What a line of a schedule says.
 ghost use Rattle.std.specs.Prelude.{◌≡◌, ◌<◌, true, List, length, option_map, IfOk, IfSome};
 ghost use Rattle.mon_schema.specs.Fits.{fits};
-ghost use Rattle.mon_schema.specs.SchemaLists.{SchemaLists};
+ghost use Rattle.mon_schema.specs.Names.{SchemaLists};
 ghost use Rattle.std.specs.List.{AllByRecursion};
 ghost use Rattle.mon_points.specs.Fitting.{ReadFits};
 ghost use Rattle.mon_topo.specs.Zones.{leaves_in, ranges_in};

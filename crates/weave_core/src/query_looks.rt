@@ -1,7 +1,6 @@
 // The looks of a query, each at the seat that it needs.
 ghost use Rattle.std.specs.Prelude.{◌≡◌, ◌≤◌, ◌≤ℤ◌, ◌<◌, ◌^◌, length, map, pos, IfOk, None};
-ghost use Rattle.mon_hints.specs.Formulas.{all_named, formula_tree, formulas};
-ghost use Rattle.mon_hints.specs.Listings.{AreAmong};
+ghost use Rattle.mon_hints.specs.Formulas.{all_named, formula_tree, formulas, AreAmong};
 ghost use Rattle.mon_value.specs.declared.limits.TheConstants.{ROW_BITS};
 ghost use Rattle.mql_types.specs.Nodes.{typed_tree};
 ghost use Rattle.query_core.specs.Machine.{slots_of};

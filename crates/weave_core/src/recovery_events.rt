@@ -1,6 +1,6 @@
 // The events of a recovery, each at the seat that it needs.
 ghost use Rattle.std.specs.Prelude.{◌≡◌, ◌<◌, ◌++◌, ◌∷◌, ◌||◌, [], ℕ, None, false, length, IfOk, OnOk};
-ghost use Rattle.leaf_store.specs.LeafBuckets.{is_unraised};
+ghost use Rattle.leaf_store.specs.LeafStates.{is_unraised};
 ghost use Rattle.mon_hints.specs.BucketSets.{is_set};
 ghost use Rattle.mon_topo.specs.Sights.{AreAlike};
 ghost use Rattle.mon_value.specs.LeafHistories.{IsWellFormed, is_switch};

@@ -3,7 +3,7 @@ ghost use Rattle.std.specs.Prelude.{◌≡◌, IfOk, string_bytes};
 ghost use Rattle.query_core.specs.FaultTexts.{round_fault_text};
 ghost use Rattle.weave_core.specs.EndTexts as spec;
 ghost use Rattle.weave_core.specs.Switches.{switch_told};
-ghost use Rattle.write_core.specs.Refusals.{refused_text};
+ghost use Rattle.write_core.specs.RangeAnswers.{refused_text};
 
 use crate::switches::{Switched, Switching};
 use mon_table::print;

@@ -11,7 +11,7 @@ use Rattle.std.proofs.lemmas.List.Sums.{sum_by-append}
 use Rattle.mon_value.specs.declared.histories.Miss.{Miss}
 use Rattle.mon_value.specs.declared.positions.Slot.{Slot}
 use Rattle.mon_value.specs.declared.positions.SlotLeaf.{SlotLeaf}
-use Rattle.mon_value.specs.Positions.{same_slot}
+use Rattle.mon_value.specs.Histories.{same_slot}
 use Rattle.mon_topo.specs.RangeHistories.{is_missed, times}
 use Rattle.write_core.specs.Invariant.{AreAll, is_decided}
 use Rattle.write_core.specs.Marks.{has_taken, miss_of, missed_slot, replica_of, some_took, taken_slot}

@@ -15,7 +15,7 @@ use Rattle.mon_topo.specs.RangeHistories.{acknowledged_rows, serving}
 use Rattle.mon_topo.proofs.HeldLemmas as held
 use Rattle.mon_topo.proofs.HeldLemmas.{seen_within_itself}
 use Rattle.mon_hints.specs.Covers.{AreBitsWithin, Bits, Covers}
-use Rattle.mon_hints.specs.HistoryBuckets.{history_buckets}
+use Rattle.mon_hints.specs.Hints.{history_buckets}
 use Rattle.mon_hints.proofs.CoverLemmas.{bits_within, covers-push, covers_more, kept_bit}
 use Rattle.mon_topo.specs.Settings.{Setting, zone_of_leaf}
 use Rattle.mon_topo.specs.Views.{IsSound, IsViewWithin, View, of_leaf, of_range, with_entry, with_range_entry}

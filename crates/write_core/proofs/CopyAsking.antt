@@ -17,7 +17,7 @@ use Rattle.mon_topo.specs.RangeHistories.{acknowledged_rows, serving}
 use Rattle.mon_topo.specs.Settings.{Setting}
 use Rattle.mon_topo.proofs.HeldLemmas.{down_on}
 use Rattle.mon_topo.proofs.RangeHistoryLemmas.{all_append}
-use Rattle.mon_hints.specs.HistoryBuckets.{rows_buckets}
+use Rattle.mon_hints.specs.Hints.{rows_buckets}
 use Rattle.write_core.specs.CopySteps.{CanAsk, IsDeniedFor, IsToldAtTarget, IsToldByTarget, IsToldDown, IsToldOfRange}
 use Rattle.write_core.specs.CopySteps.{MayOpen, copy_at}
 use Rattle.write_core.specs.Invariant.{HasCopied, HasLocked, HaveFound, IsAskingSources, IsCopyAt, IsCopying, IsKept}

@@ -5,10 +5,9 @@ use Rattle.std.specs.Prelude.{nat_eq, Contains}
 use Rattle.std.proofs.lemmas.Bool.{and_from, and_left, and_right, eq-eqb, ne_eqb, or_right}
 use Rattle.std.proofs.lemmas.List.{length-set, take_at}
 use Rattle.std.proofs.lemmas.List.Elements.{Contains-push, Contains-push_cases}
-use Rattle.mon_hints.specs.Listings.{is_among}
+use Rattle.mon_hints.specs.Formulas.{is_among}
 use Rattle.mon_value.specs.LeafHistories as leaf_spec
-use Rattle.mon_value.specs.LeafHistories.{entry_rows, is_opened, replica_rows}
-use Rattle.mon_value.specs.Sources.{IsSource}
+use Rattle.mon_value.specs.LeafHistories.{entry_rows, is_opened, replica_rows, IsSource}
 use Rattle.mon_value.specs.declared.histories.Entry.{Entry}
 use Rattle.mon_value.specs.declared.histories.RangeEntry.{RangeEntry}
 use Rattle.mon_value.specs.declared.histories.RangeEntry.TheVariants as range_entry
@@ -27,7 +26,7 @@ use Rattle.mon_topo.proofs.HeldLemmas.{leaf_entry_by, leaf_entry_other, leaf_ent
 use Rattle.mon_topo.proofs.HeldLemmas.{range_entry_same}
 use Rattle.mon_topo.proofs.RangeHistoryLemmas.{all_at, numbered, slot_below}
 use Rattle.mon_hints.specs.Covers.{StaysSet, Bits, Covers}
-use Rattle.mon_hints.specs.HistoryBuckets.{history_buckets, rows_buckets}
+use Rattle.mon_hints.specs.Hints.{history_buckets, rows_buckets}
 use Rattle.write_core.specs.CopySteps.{CanCopyAt, IsDeniedFor, IsToldWithin, copied_in, copy_at, copy_of, new_replica}
 use Rattle.write_core.specs.CopySteps.{next_slot, opening_of, told_range}
 use Rattle.write_core.specs.Invariant.{HasCause, HasCopied, HasLocked, HasOpened, HasRows, HaveFound, IsCopyAt}

@@ -6,10 +6,9 @@ use Rattle.std.specs.List.{AllByRecursion as All}
 use Rattle.std.proofs.lemmas.Bool.{and_from, and_right, cases_lt, eq-eqb, ne_eqb}
 use Rattle.std.proofs.lemmas.List.{get_or_past, map-append}
 use Rattle.std.proofs.lemmas.List.Elements.{Contains-push}
-use Rattle.mon_hints.specs.Listings.{is_among}
+use Rattle.mon_hints.specs.Formulas.{is_among}
 use Rattle.mon_value.specs.LeafHistories as leaf_spec
-use Rattle.mon_value.specs.LeafHistories.{entry_rows, is_opened, replica_rows}
-use Rattle.mon_value.specs.Sources.{IsSource}
+use Rattle.mon_value.specs.LeafHistories.{entry_rows, is_opened, replica_rows, IsSource}
 use Rattle.mon_value.specs.declared.histories.Entry.{Entry}
 use Rattle.mon_value.specs.declared.histories.Entry.TheVariants as entry
 use Rattle.mon_value.specs.declared.positions.Leaf.{Leaf}
@@ -18,7 +17,7 @@ use Rattle.mon_value.specs.declared.positions.Slot.{Slot}
 use Rattle.mon_value.specs.declared.rows.Row.{Row}
 use Rattle.mon_topo.specs.RangeHistories.{acknowledged_rows}
 use Rattle.mon_hints.specs.Covers.{StaysSet, Bits, Covers}
-use Rattle.mon_hints.specs.HistoryBuckets.{history_buckets}
+use Rattle.mon_hints.specs.Hints.{history_buckets}
 use Rattle.write_core.specs.Deeds.{HasDone}
 use Rattle.write_core.specs.Invariant.{IsEntering, IsGoing, IsInside, IsKept, IsMark, IsWriter, rows_after}
 use Rattle.write_core.specs.Marks.{with_fate, replica_of}

@@ -4,8 +4,7 @@ use Rattle.std.proofs.Common.{length, map, refl, sym, ap, subst, ◌∙◌, inl,
 use Rattle.std.specs.Prelude.{nat_eq, Contains, if◌then◌else◌}
 use Rattle.std.specs.List.{AllByRecursion as All}
 use Rattle.std.proofs.lemmas.Bool.{cases_eq, cond-false, cond-true, eq-eqb, ne_eqb}
-use Rattle.mon_value.specs.LeafHistories.{entry_rows, is_down, is_opened, replica_rows}
-use Rattle.mon_value.specs.Sources.{IsSource}
+use Rattle.mon_value.specs.LeafHistories.{entry_rows, is_down, is_opened, replica_rows, IsSource}
 use Rattle.mon_value.specs.declared.histories.Entry.{Entry}
 use Rattle.mon_value.specs.declared.histories.RangeEntry.{RangeEntry}
 use Rattle.mon_value.specs.declared.positions.Leaf.{Leaf}
@@ -15,7 +14,7 @@ use Rattle.mon_value.specs.declared.positions.SlotLeaf.{SlotLeaf}
 use Rattle.mon_value.specs.declared.rows.Row.{Row}
 use Rattle.mon_topo.specs.HeldHistories.{BeginsWith}
 use Rattle.mon_topo.specs.RangeHistories.{acknowledged_rows, opened_slots, serving}
-use Rattle.mon_hints.specs.HistoryBuckets.{rows_buckets}
+use Rattle.mon_hints.specs.Hints.{rows_buckets}
 use Rattle.write_core.specs.CopySteps.{MayOpen, copy_of, new_replica, next_slot}
 use Rattle.write_core.specs.Recovering.{Beginning, Carrying, CopyStage, Copying, Denied, Nearing, NoSource, NoTarget}
 use Rattle.write_core.specs.Recovering.{Opens, Over, Telling, Within}

@@ -5,22 +5,20 @@ use Rattle.std.specs.Option.{option_or}
 use Rattle.std.specs.Prelude.{int_le, nat_le, Option, Some, None, IfSome}
 use Rattle.std.proofs.lemmas.Bool.Decides.{nat_tests}
 use Rattle.std.proofs.lemmas.Int.{ints}
-use Rattle.mon_schema.specs.SchemaLists.{SchemaLists}
+use Rattle.mon_schema.specs.Names.{SchemaLists}
 use Rattle.mon_topo.proofs.RangeHistoryLemmas.{acknowledged_rows-push}
 use Rattle.mon_topo.specs.RangeHistories as spec
 use Rattle.mon_topo.specs.RangeHistories.{acknowledged_rows, serving}
 use Rattle.mon_topo.specs.Settings.{Setting}
 use Rattle.mon_topo.specs.declared.zones.ZoneSpec.{ZoneSpec}
-use Rattle.mon_value.specs.Sources.{IsSource, last_end, points_of}
+use Rattle.mon_value.specs.LeafHistories.{IsSource, last_end, points_of}
 use Rattle.mon_value.specs.declared.histories.RangeEntry.{RangeEntry}
 use Rattle.mon_value.specs.declared.histories.RangeEntry.TheVariants as entry
 use Rattle.mon_value.specs.declared.positions.Range.{Range}
 use Rattle.mon_value.specs.declared.rows.Point.{Point}
 use Rattle.mon_value.specs.declared.rows.Row.{Row}
 use Rattle.write_core.proofs.OpeningLemmas.{acked-opened}
-use Rattle.write_core.specs.RangeAnswers.{lock_answer, told_unless}
-use Rattle.write_core.specs.RangeAnswers.{refusal}
-use Rattle.write_core.specs.Refusals.{full_refusal, range_refusal}
+use Rattle.write_core.specs.RangeAnswers.{lock_answer, told_unless, refusal, full_refusal, range_refusal}
 use Rattle.write_core.specs.Steps.{IsToldByRange}
 use Rattle.write_core.specs.declared.refusals.Refused.{Refused}
 use Rattle.write_core.specs.declared.refusals.Refused.TheVariants as refused

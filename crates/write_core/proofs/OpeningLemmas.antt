@@ -4,8 +4,7 @@ use Rattle.std.proofs.Common.{sym, subst, ◌∙◌, append_assoc, append-nil, a
 use Rattle.std.specs.Prelude.{Contains}
 use Rattle.std.proofs.lemmas.List.Concat.{flat_map-append}
 use Rattle.std.proofs.lemmas.List.Elements.{Contains-append_cases}
-use Rattle.mon_value.specs.LeafHistories.{entry_rows, replica_rows, same_replica}
-use Rattle.mon_value.specs.Sources.{IsSource}
+use Rattle.mon_value.specs.LeafHistories.{entry_rows, replica_rows, same_replica, IsSource}
 use Rattle.mon_value.specs.declared.histories.Ack.{Ack}
 use Rattle.mon_value.specs.declared.histories.Entry.{Entry}
 use Rattle.mon_value.specs.declared.histories.Entry.TheVariants as entry
@@ -17,7 +16,7 @@ use Rattle.mon_value.specs.declared.positions.Slot.{Slot}
 use Rattle.mon_value.specs.declared.positions.SlotLeaf.{SlotLeaf}
 use Rattle.mon_value.specs.declared.rows.Row.{Row}
 use Rattle.mon_value.proofs.LeafHistoryLemmas.{parts_same}
-use Rattle.mon_schema.specs.SchemaLists.{SchemaLists}
+use Rattle.mon_schema.specs.Names.{SchemaLists}
 use Rattle.mon_topo.specs.HeldHistories.{AreAtHome, IsAtHome}
 use Rattle.mon_topo.specs.RangeHistories as spec
 use Rattle.mon_topo.specs.RangeHistories.{acknowledged_rows, opened_slots, serving}

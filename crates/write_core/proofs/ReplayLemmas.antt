@@ -8,7 +8,7 @@ use Rattle.mon_topo.proofs.RangeHistoryLemmas.{acknowledged_rows-push, serving-p
 use Rattle.mon_topo.specs.RangeHistories.{acknowledged_rows, opened_slots}
 use Rattle.mon_value.proofs.SameLemmas.{eq-same_series, same_series-Decides}
 use Rattle.mon_value.specs.Same.{same_series}
-use Rattle.mon_value.specs.Sources.{last_end, points_of, rows_of}
+use Rattle.mon_value.specs.LeafHistories.{last_end, points_of, rows_of}
 use Rattle.mon_value.specs.contracts.rows.SeriesKeyPartialEq.TheImpl as derived
 use Rattle.mon_value.specs.declared.histories.RangeEntry.{RangeEntry}
 use Rattle.mon_value.specs.declared.histories.RangeEntry.TheVariants as entry

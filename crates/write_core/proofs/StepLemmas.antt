@@ -4,7 +4,7 @@ use Rattle.mon_value.specs.LeafHistories.{is_opened, replica_rows}
 use Rattle.mon_value.specs.declared.positions.Leaf.{Leaf}
 use Rattle.mon_value.specs.declared.positions.Range.{Range}
 use Rattle.mon_value.specs.declared.positions.Slot.{Slot}
-use Rattle.mon_value.specs.Positions.{leaf_numbered, range_numbered}
+use Rattle.mon_value.specs.Histories.{leaf_numbered, range_numbered}
 use Rattle.write_core.specs.Deeds.{HasDone, acks_by, puts_by}
 use Rattle.write_core.specs.Invariant.{IsActor, IsAimed, IsAt, IsCopyAt, IsKept, IsRecovery, IsRangeSettled, IsWriter}
 use Rattle.write_core.specs.Recovering.{CopyStage}

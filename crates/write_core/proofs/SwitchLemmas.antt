@@ -12,9 +12,9 @@ use Rattle.mon_value.specs.declared.positions.Zone.{Zone}
 use Rattle.mon_value.specs.declared.rows.Row.{Row}
 use Rattle.mon_topo.specs.HeldHistories.{AreAtHome}
 use Rattle.mon_topo.proofs.HeldLemmas.{leaf_entry_by, leaf_entry_other, leaf_entry_same}
-use Rattle.mon_value.specs.Positions.{leaf_numbered, range_numbered}
+use Rattle.mon_value.specs.Histories.{leaf_numbered, range_numbered}
 use Rattle.mon_hints.specs.Covers.{Bits, Covers}
-use Rattle.mon_hints.specs.HistoryBuckets.{history_buckets}
+use Rattle.mon_hints.specs.Hints.{history_buckets}
 use Rattle.write_core.specs.Deeds.{acks_by, puts_by}
 use Rattle.write_core.specs.Invariant.{IsActor, IsAt, IsCopyAt, IsKept, IsRecovery, IsStander, IsWriter}
 use Rattle.write_core.specs.Recovering.{CopyStage}

@@ -4,7 +4,7 @@ use Rattle.std.specs.Cmp.Lexicographic.{pointwise}
 use Rattle.std.proofs.lemmas.Bool.Decides.{Decides-eqb}
 use Rattle.std.proofs.lemmas.Slice.Eq.{slice_eq-Decides}
 use Rattle.mon_value.proofs.SameLemmas.{both, join}
-use Rattle.mon_value.specs.Positions.{leaf_numbered, range_numbered}
+use Rattle.mon_value.specs.Histories.{leaf_numbered, range_numbered}
 use Rattle.mon_value.specs.contracts.histories.AckPartialEq.TheImpl as derived_ack
 use Rattle.mon_value.specs.contracts.histories.MissPartialEq.TheImpl as derived_miss
 use Rattle.mon_value.specs.contracts.positions.LeafPartialEq.TheImpl as derived_leaf

@@ -14,7 +14,7 @@ use Rattle.mon_value.specs.declared.rows.Row.{Row}
 use Rattle.mon_topo.specs.RangeHistories.{MayFollow, is_on, opened_slots, serving}
 use Rattle.mon_topo.specs.Settings.{Setting, zone_of_leaf}
 use Rattle.mon_topo.specs.declared.limits.TheConstants.{MOST_REPLICAS, MOST_SLOTS}
-use Rattle.mon_hints.specs.HistoryBuckets.{rows_buckets}
+use Rattle.mon_hints.specs.Hints.{rows_buckets}
 use Rattle.write_core.specs.Recovering.{Admits, Beginning, Carrying, CopyStage, CopyTold, Copying, Denial, Denied}
 use Rattle.write_core.specs.Recovering.{Denies, Gives, HasRoom, Nearing, NoSource, NoTarget, Opens, Outcome, Over}
 use Rattle.write_core.specs.Recovering.{ServesFully, ServesThere, SlotsSpent, Sources, Telling, WasDone, WasDown}

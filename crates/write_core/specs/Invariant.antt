@@ -2,9 +2,8 @@
 use Rattle.std.specs.Prelude.{ℕ, suc, ◌≡◌, ◌<◌, ◌≤◌, ◌||◌, Bool, true, false, List, [], ◌∷◌, ◌++◌, length, map}
 use Rattle.std.specs.Prelude.{slice_get, Some, None, Contains, if◌then◌else◌}
 use Rattle.std.specs.List.{AllByRecursion, flat_map}
-use Rattle.mon_hints.specs.Listings.{is_among}
-use Rattle.mon_value.specs.LeafHistories.{IsDownAt, is_down, is_opened, replica_rows}
-use Rattle.mon_value.specs.Sources.{IsSource}
+use Rattle.mon_hints.specs.Formulas.{is_among}
+use Rattle.mon_value.specs.LeafHistories.{IsDownAt, is_down, is_opened, replica_rows, IsSource}
 use Rattle.mon_value.specs.declared.histories.RangeEntry.TheVariants as range_entry
 use Rattle.mon_value.specs.declared.positions.FoundDown.{FoundDown}
 use Rattle.mon_value.specs.declared.positions.Leaf.{Leaf}
@@ -15,7 +14,7 @@ use Rattle.mon_value.specs.declared.rows.Row.{Row}
 use Rattle.mon_topo.specs.HeldHistories.{BeginsWith, IsAtHome, IsBorneOut}
 use Rattle.mon_topo.specs.RangeHistories.{IsInZoneOf, IsLegal, acknowledged_rows, opened_slots, serving}
 use Rattle.mon_topo.specs.Zones.{leaves_in, ranges_in}
-use Rattle.mon_hints.specs.HistoryBuckets.{rows_buckets}
+use Rattle.mon_hints.specs.Hints.{rows_buckets}
 use Rattle.write_core.specs.CopySteps.{IsDeniedFor, MayOpen, copy_of, new_replica, next_slot}
 use Rattle.write_core.specs.Recovering.{Beginning, Carrying, CopyStage, Copying, Denied, Nearing, NoSource, NoTarget}
 use Rattle.write_core.specs.Recovering.{Opens, Outcome, Over, Telling, Within}

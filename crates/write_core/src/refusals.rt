@@ -1,8 +1,7 @@
 // Why a range does not take a row.
 ghost use Rattle.std.specs.Prelude.{◌≡◌};
 ghost use Rattle.write_core.specs.Program.{end_of_refusal};
-ghost use Rattle.write_core.specs.RangeAnswers.{told_for};
-ghost use Rattle.write_core.specs.Refusals.{full_refusal, range_refusal};
+ghost use Rattle.write_core.specs.RangeAnswers.{told_for, full_refusal, range_refusal};
 
 use crate::asks::{WriteEnd, WriteTold};
 use mon_value::Point;
@@ -19,7 +18,7 @@ pub enum Refused {
 
 impl fmt::Display for Refused {
     ghost use Rattle.std.specs.Prelude.{Some};
-    ghost use Rattle.write_core.specs.Refusals.{refused_text};
+    ghost use Rattle.write_core.specs.RangeAnswers.{refused_text};
 
     ghost output = { λ why. Some (refused_text why) };
 

@@ -1,7 +1,6 @@
 -- When a replica takes a row.
 use Rattle.std.specs.Prelude.{◌≡◌, true, false, List, [], ◌∷◌, ◌++◌}
-use Rattle.mon_value.specs.LeafHistories.{is_down, is_opened, replica_rows}
-use Rattle.mon_value.specs.Sources.{IsSource}
+use Rattle.mon_value.specs.LeafHistories.{is_down, is_opened, replica_rows, IsSource}
 use Rattle.mon_value.specs.declared.histories.Entry.{Entry}
 use Rattle.mon_value.specs.declared.rows.Row.{Row}
 use Rattle.leaf_store.specs.declared.replicas.Replica.{Replica}

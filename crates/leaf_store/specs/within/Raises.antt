@@ -1,8 +1,8 @@
 -- How the set of raised buckets grows, and which buckets are left.
 use Rattle.std.specs.Prelude.{◌≡◌, ℕ, Bool, true, not, ◌&&◌, ◌||◌, List, Some}
-use Rattle.mon_hints.specs.HistoryBuckets.{rows_buckets}
-use Rattle.mon_hints.specs.Listings.{is_among}
-use Rattle.mon_schema.specs.SchemaLists.{SchemaLists}
+use Rattle.mon_hints.specs.Hints.{rows_buckets}
+use Rattle.mon_hints.specs.Formulas.{is_among}
+use Rattle.mon_schema.specs.Names.{SchemaLists}
 use Rattle.mon_value.specs.LeafHistories.{brought_rows}
 use Rattle.mon_value.specs.declared.histories.Entry.{Entry}
 use Rattle.mon_value.specs.declared.histories.Entry.TheVariants as entry
@@ -10,7 +10,7 @@ use Rattle.mon_value.specs.declared.positions.Range.{Range}
 use Rattle.mon_value.specs.declared.positions.Slot.{Slot}
 use Rattle.mon_value.specs.declared.rows.Row.{Row}
 use Rattle.mon_value.specs.declared.rows.SeriesKey.{SeriesKey}
-use Rattle.leaf_store.specs.LeafBuckets.{key_buckets}
+use Rattle.leaf_store.specs.LeafStates.{key_buckets}
 use Rattle.leaf_store.specs.within.Replicas.{HasSeries, Replicas, rows_held}
 
 -- some buckets came to a set

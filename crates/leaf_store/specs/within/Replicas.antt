@@ -5,8 +5,7 @@ use Rattle.std.specs.Prelude.{Bool, Some, None, option_map, IfSome, if◌then◌
 use Rattle.std.specs.List.{AllByRecursion}
 use Rattle.std.specs.Map.{lookup}
 use Rattle.indexmap.specs.Layout.{set_value_at}
-use Rattle.mon_value.specs.LeafHistories.{IsWellFormed, MayFollow, same_replica}
-use Rattle.mon_value.specs.Sources.{last_end, points_of}
+use Rattle.mon_value.specs.LeafHistories.{IsWellFormed, MayFollow, same_replica, last_end, points_of}
 use Rattle.mon_value.specs.declared.histories.Entry.{Entry}
 use Rattle.mon_value.specs.declared.histories.Entry.TheVariants as entry
 use Rattle.mon_value.specs.declared.positions.Range.{Range}

@@ -2,13 +2,12 @@
 use Rattle.std.specs.Prelude.{◌≡◌, ℕ, ◌+◌, ◌<◌, ◌≤◌, true, List, ◌++◌, length, drop, vec_capacity}
 use Rattle.std.specs.List.{AllByRecursion, count_by}
 use Rattle.mon_hints.specs.BucketSets.{is_set}
-use Rattle.mon_hints.specs.Listings.{is_among}
+use Rattle.mon_hints.specs.Formulas.{is_among}
 use Rattle.mon_value.specs.LeafHistories.{is_down, is_switch}
 use Rattle.mon_value.specs.declared.histories.Entry.{Entry}
 use Rattle.mon_value.specs.declared.limits.TheConstants.{MOST_BUCKETS, MOST_SWITCHES}
-use Rattle.mon_hints.specs.HistoryBuckets.{history_buckets}
-use Rattle.leaf_store.specs.LeafBuckets.{key_buckets}
-use Rattle.leaf_store.specs.LeafStates.{LeafView}
+use Rattle.mon_hints.specs.Hints.{history_buckets}
+use Rattle.leaf_store.specs.LeafStates.{key_buckets, LeafView}
 use Rattle.leaf_store.specs.declared.leaf_state.LeafState.TheInside.{Inside}
 use Rattle.leaf_store.specs.within.Replicas.{IsInTwoParts, shown_entries}
 

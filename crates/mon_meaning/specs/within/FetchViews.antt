@@ -3,8 +3,8 @@ use Rattle.std.specs.Prelude.{◌≡◌, ℕ, ◌&&◌, Bool, false, List, [], �
 use Rattle.std.specs.List.{list_all}
 use Rattle.mon_expr.specs.BoundPredicates.{bound_truth}
 use Rattle.mon_expr.specs.declared.condition_lists.BoundPredicate.{BoundPredicate}
-use Rattle.mon_value.specs.Alignments.{aligned_values}
-use Rattle.mon_value.specs.SeriesRows.{cells_of, row_of}
+use Rattle.mon_value.specs.Grids.{aligned_values}
+use Rattle.mon_value.specs.Order.{cells_of, row_of}
 use Rattle.mon_value.specs.declared.aligners.Aligner.{Aligner}
 use Rattle.mon_value.specs.declared.grids.Grid.{Grid}
 use Rattle.mon_value.specs.declared.grids.TimedValue.{TimedValue}
@@ -12,8 +12,7 @@ use Rattle.mon_value.specs.declared.rows.Point.{Point}
 use Rattle.mon_value.specs.declared.rows.SeriesKey.{SeriesKey}
 use Rattle.mon_value.specs.declared.tables.TimedRow.{TimedRow}
 use Rattle.mon_value.specs.declared.values.Value.{Value}
-use Rattle.mql_types.specs.Loads.{meets, series_cells}
-use Rattle.mql_types.specs.Meaning.{is_fetched}
+use Rattle.mql_types.specs.Meaning.{meets, series_cells, is_fetched}
 use Rattle.mql_types.specs.Nodes.{NodeTree}
 use Rattle.mon_meaning.specs.within.KeyFilters.{KeysDecide}
 use Rattle.mon_meaning.specs.within.SeriesMeaning.{SeriesGroup, flows}

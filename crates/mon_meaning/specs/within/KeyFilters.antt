@@ -1,11 +1,10 @@
 -- Filters that name keys alone.
 use Rattle.std.specs.Prelude.{◌≡◌, Bool, true, false}
-use Rattle.mon_value.specs.SeriesRows.{cells_of}
+use Rattle.mon_value.specs.Order.{cells_of}
 use Rattle.mon_value.specs.declared.rows.SeriesKey.{SeriesKey}
 use Rattle.mon_value.specs.declared.values.Value.{Value}
-use Rattle.mql_ast.specs.Truths.{predicate_truth}
-use Rattle.mql_types.specs.Loads.{names_keys, series_cells}
-use Rattle.mql_types.specs.Meaning.{is_fetched}
+use Rattle.mql_ast.specs.Rows.{predicate_truth}
+use Rattle.mql_types.specs.Meaning.{names_keys, series_cells, is_fetched}
 use Rattle.mql_types.specs.Nodes as node
 use Rattle.mql_types.specs.Nodes.{NodeTree}
 

@@ -1,6 +1,6 @@
 -- The series that meet a fetch and have points in its reach.
 use Rattle.std.specs.Prelude.{ℕ, ◌&&◌, Bool, not, ◌==◌, List, map, length, if◌then◌else◌}
-use Rattle.mon_value.specs.Alignments.{CanAlign}
+use Rattle.mon_value.specs.Grids.{CanAlign}
 use Rattle.mon_value.specs.declared.aligners.Aligner.{Aligner}
 use Rattle.mon_value.specs.declared.grids.Grid.{Grid}
 use Rattle.mon_meaning.specs.declared.alignments.Met.{Met}

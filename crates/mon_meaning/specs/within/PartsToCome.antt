@@ -2,8 +2,8 @@
 use Rattle.std.specs.Prelude.{ℕ, ◌+◌, Bool, List, [], ◌∷◌, ◌++◌}
 use Rattle.mql_types.specs.ExplanationParts.{nodes}
 use Rattle.mql_types.specs.Nodes.{NodeTree, level_of, node_tree}
-use Rattle.mql_types.specs.Pieces as spec
-use Rattle.mql_types.specs.Pieces.{part_or, top_parts}
+use Rattle.mql_types.specs.Levels as spec
+use Rattle.mql_types.specs.Levels.{part_or, top_parts}
 use Rattle.mql_types.specs.declared.levels.Level.{Level}
 use Rattle.mon_meaning.specs.TopParts as seen
 use Rattle.mon_meaning.specs.declared.parts_up.TopPart.{TopPart}

@@ -2,15 +2,14 @@
 -- so far is within the rows that a table may have.
 use Rattle.std.specs.Prelude.{◌≡◌, true, List, sum_by}
 use Rattle.std.specs.List.{AllByRecursion}
-use Rattle.mon_value.specs.Alignments.{CanAlign, seconds_of}
-use Rattle.mon_value.specs.Columns.{IsWhole}
-use Rattle.mon_value.specs.Grids.{IsDuration, IsLawfulGrid}
-use Rattle.mon_value.specs.GroupConditions.{CanGroup}
+use Rattle.mon_value.specs.Grids.{CanAlign, seconds_of, IsDuration, IsLawfulGrid}
+use Rattle.mon_value.specs.Tables.{IsWhole}
+use Rattle.mon_value.specs.Groups.{CanGroup}
 use Rattle.mon_value.specs.declared.aligners.Aligner.{Aligner}
 use Rattle.mon_value.specs.declared.grids.Grid.{Grid}
 use Rattle.mon_value.specs.declared.tables.Table.{Table}
 use Rattle.mon_value.specs.declared.tables.TimedRow.{TimedRow}
-use Rattle.mql_ast.specs.SumWidths.{CanCompute, HasShares, IsTypedSum}
+use Rattle.mql_ast.specs.Rows.{CanCompute, HasShares, IsTypedSum}
 use Rattle.mql_ast.specs.Trees.{ItemTree}
 use Rattle.mql_types.specs.Nodes as node
 use Rattle.mql_types.specs.Nodes.{NodeTree, columns_of}

@@ -1,20 +1,18 @@
 -- What a tree means over series with their points: its rows in the order in which the series stand, and its load.
 use Rattle.std.specs.Prelude.{ℕ, ◌+◌, ◌&&◌, Bool, false, List, [], ◌++◌, map, filter, length, sum_by, if◌then◌else◌}
 use Rattle.std.specs.List.{filter_map, flat_map}
-use Rattle.mon_value.specs.Alignments.{aligned_values}
-use Rattle.mon_value.specs.Groups.{group_rows}
-use Rattle.mon_value.specs.Joins.{pairs_of}
-use Rattle.mon_value.specs.SeriesRows.{cells_of, row_of}
-use Rattle.mon_value.specs.Tops.{top_rows}
+use Rattle.mon_value.specs.Grids.{aligned_values}
+use Rattle.mon_value.specs.Groups.{group_rows, top_rows}
+use Rattle.mon_value.specs.Tables.{pairs_of}
+use Rattle.mon_value.specs.Order.{cells_of, row_of}
 use Rattle.mon_value.specs.declared.aligners.Aligner.{Aligner}
 use Rattle.mon_value.specs.declared.grids.Grid.{Grid}
 use Rattle.mon_value.specs.declared.rows.Point.{Point}
 use Rattle.mon_value.specs.declared.rows.SeriesKey.{SeriesKey}
 use Rattle.mon_value.specs.declared.tables.TimedRow.{TimedRow}
 use Rattle.mon_value.specs.declared.values.Value.{Value}
-use Rattle.mql_ast.specs.Truths.{predicate_truth}
-use Rattle.mql_types.specs.Loads.{meets}
-use Rattle.mql_types.specs.Meaning.{is_fetched, value_row}
+use Rattle.mql_ast.specs.Rows.{predicate_truth}
+use Rattle.mql_types.specs.Meaning.{meets, is_fetched, value_row}
 use Rattle.mql_types.specs.Nodes as node
 use Rattle.mql_types.specs.Nodes.{NodeTree, columns_of}
 use Rattle.mon_meaning.specs.within.Reach.{points_within_reach}

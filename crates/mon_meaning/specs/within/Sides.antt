@@ -1,7 +1,7 @@
 -- How many sides an operation has, and the pairs of a join's two.
 use Rattle.std.specs.Prelude.{List}
 use Rattle.std.specs.List.{flat_map}
-use Rattle.mon_value.specs.Joins.{pairs_of}
+use Rattle.mon_value.specs.Tables.{pairs_of}
 use Rattle.mon_value.specs.declared.tables.Table.{Table}
 use Rattle.mon_value.specs.declared.tables.TimedRow.{TimedRow}
 use Rattle.mql_types.specs.Nodes as node

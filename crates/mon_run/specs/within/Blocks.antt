@@ -1,7 +1,6 @@
 -- How the lines of a script are cut into parts, one after another.
 use Rattle.std.specs.Prelude.{List, Option, Some, None}
-use Rattle.mon_script.specs.Blocks.{cut_block}
-use Rattle.mon_script.specs.Places.{mark_of}
+use Rattle.mon_script.specs.Blocks.{cut_block, mark_of}
 use Rattle.mon_script.specs.declared.places.Mark.{Mark}
 use Rattle.mon_script.specs.declared.places.Mark.TheVariants as mark
 use Rattle.mon_script.specs.declared.script.ScriptLine.{ScriptLine}

@@ -1,13 +1,13 @@
 -- What lines that ran did with the queries that stand, part after part.
 use Rattle.std.specs.Prelude.{◌≡◌, false, List, [], ◌∷◌, ◌++◌, length}
 use Rattle.std.specs.List.{AllByRecursion}
-use Rattle.mon_schema.specs.SchemaLists.{SchemaLists}
+use Rattle.mon_schema.specs.Names.{SchemaLists}
 use Rattle.mon_script.specs.declared.forms.LineForm.{LineForm}
 use Rattle.mon_script.specs.declared.script.ScriptLine.{ScriptLine}
 use Rattle.mon_run.specs.within.Lines.{block_traces}
 use Rattle.run_traces.specs.LineDues.{AreDue, IsDueBy, is_ticked, stands_behind}
 use Rattle.run_traces.specs.declared.traces.LineTrace.{LineTrace}
-use Rattle.standing.specs.StandingStates.{StandingState}
+use Rattle.standing.specs.DueLists.{StandingState}
 
 -- what stands behind lines that came to these traces
 abbrev pub stands_after : StandingState → List ScriptLine → List LineTrace → StandingState

@@ -6,12 +6,11 @@ use Rattle.mon_script.specs.Scripts.{script_in}
 use Rattle.mon_script.specs.declared.forms.LineForm.{LineForm}
 use Rattle.mon_script.specs.declared.script.ScriptLine.{ScriptLine}
 use Rattle.mon_value.specs.declared.histories.Histories.{Histories}
-use Rattle.mon_run.specs.Endings.{Progress}
-use Rattle.mon_run.specs.Folders.{Files, Told, content_of}
-use Rattle.mon_run.specs.Scripts.{line_read, lines_plan, lines_read, part_plan, parts_plan, script_plan}
-use Rattle.mon_run.specs.Scripts.{starved_plan, store_plan}
+use Rattle.mon_run.specs.Endings.{Progress, LinesTell, ScriptTells}
+use Rattle.mon_run.specs.Outside.{Files, Told, content_of}
+use Rattle.mon_run.specs.Plans.{line_read, lines_plan, lines_read, part_plan, parts_plan, script_plan, starved_plan}
+use Rattle.mon_run.specs.Plans.{store_plan}
 use Rattle.mon_run.specs.Steps.{Plan, Step, Write, plan_behind}
-use Rattle.mon_run.specs.Tellings.{LinesTell, ScriptTells}
 use Rattle.mon_run.specs.declared.stop.Stop.{Stop}
 use Rattle.mon_run.specs.declared.stop.Stop.TheVariants as stop
 use Rattle.mon_run.specs.declared.words.Verb.{Verb}

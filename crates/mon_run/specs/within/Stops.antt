@@ -9,14 +9,12 @@ use Rattle.mon_config.specs.Configs.{config_in}
 use Rattle.mon_config.specs.declared.config.Config.{Config}
 use Rattle.mon_config.specs.declared.faults.ConfigFault.{ConfigFault}
 use Rattle.mon_script.specs.declared.faults.ScriptFault.{ScriptFault}
-use Rattle.mon_run.specs.Endings.{CutShort, Did, LastFailed, Progress, Starved, progress}
-use Rattle.mon_run.specs.Faults.{Rose}
-use Rattle.mon_run.specs.Folders.{Files, FolderState, Told, content_of}
-use Rattle.mon_run.specs.Sinks.{SinkState}
+use Rattle.mon_run.specs.Endings.{CutShort, Did, LastFailed, Progress, Starved, progress, seen_by}
+use Rattle.mon_run.specs.Steps.{Rose, Ask, Miss, Plan, Step, Write, end_status, ending, is_too_long, plan_behind}
+use Rattle.mon_run.specs.Steps.{read_plan, config_text, read_text, schedule_text, script_text, too_long_text}
+use Rattle.mon_run.specs.Steps.{usage_text}
+use Rattle.mon_run.specs.Outside.{Files, FolderState, Told, content_of, SinkState}
 use Rattle.mon_run.specs.Plans.{Came, Command, came, command, command_plan, file_plan, run_plan}
-use Rattle.mon_run.specs.Steps.{Ask, Miss, Plan, Step, Write, end_status, ending, is_too_long, plan_behind, read_plan}
-use Rattle.mon_run.specs.Tellings.{seen_by}
-use Rattle.mon_run.specs.Texts.{config_text, read_text, schedule_text, script_text, too_long_text, usage_text}
 use Rattle.mon_run.specs.declared.runs.Run.{Run}
 use Rattle.mon_run.specs.declared.schedules.Woven.{Woven}
 use Rattle.mon_run.specs.declared.stop.Stop.{Stop}

@@ -1,10 +1,8 @@
 -- What the run of a made input from memory came to, and the status that a trial has behind it.
 use Rattle.std.specs.Prelude.{◌≡◌, ◌==◌, ℕ, true, false, IfSome}
-use Rattle.mon_run.specs.Endings.{Runs, is_status, progress}
-use Rattle.mon_run.specs.Faults.{Rose}
-use Rattle.mon_run.specs.Folders.{FolderState}
-use Rattle.mon_run.specs.Sinks.{SinkState}
-use Rattle.mon_run.specs.Tellings.{RunTells, seen_by}
+use Rattle.mon_run.specs.Endings.{Runs, is_status, progress, RunTells, seen_by}
+use Rattle.mon_run.specs.Steps.{Rose}
+use Rattle.mon_run.specs.Outside.{FolderState, SinkState}
 use Rattle.mon_run.specs.Trials.{made_files, made_words, trial_start}
 use Rattle.mon_run.specs.declared.outcome.Outcome.{Outcome}
 

@@ -1,6 +1,6 @@
 // The folder of real files.
 ghost use Rattle.std.specs.Prelude.{◌≡◌, ◌≤◌, [], length, take, IfOk, IfSome, None};
-ghost use Rattle.mon_run.specs.Folders.{folder_state};
+ghost use Rattle.mon_run.specs.Outside.{folder_state};
 
 use crate::outside::folder::{Asked, Folder, FolderFault, Reads, has_failed};
 use mon_value::Text;
@@ -31,7 +31,7 @@ impl<'a, R: Files> FileFolder<'a, R> {
 
 impl<'a, R: Files> Folder for FileFolder<'a, R> {
     ghost use Rattle.std.specs.Prelude.{None};
-    ghost use Rattle.mon_run.specs.Folders.{folder_state};
+    ghost use Rattle.mon_run.specs.Outside.{folder_state};
 
     ghost state = { λ folder. folder_state None folder.reads.items };
 

@@ -1,7 +1,7 @@
 // Where files are read.
 ghost use Rattle.std.specs.Prelude.{◌≡◌, ◌<◌, ◌≤◌, length, IfOk, IsErrOf};
-ghost use Rattle.mon_run.specs.Faults.{Rose};
-ghost use Rattle.mon_run.specs.Folders.{Asks, FolderState, Told, content_of, is_failed};
+ghost use Rattle.mon_run.specs.Steps.{Rose};
+ghost use Rattle.mon_run.specs.Outside.{Asks, FolderState, Told, content_of, is_failed};
 
 use mon_value::{RoomListOf, Text, TryCopy};
 use std::alloc::{AllocError, Global};

@@ -1,6 +1,6 @@
 // Folders in memory, which tell their files.
 ghost use Rattle.std.specs.Prelude.{◌≡◌, ◌<◌, ◌≤◌, ◌⊎◌, [], Some, length, IfErr, IfOk, IsErrOf, option_map};
-ghost use Rattle.mon_run.specs.Folders.{calm_folder_state, content_in, content_of, file_of, files_of, folder_state};
+ghost use Rattle.mon_run.specs.Outside.{calm_folder_state, content_in, content_of, file_of, files_of, folder_state};
 
 use crate::outside::folder::{Asked, Folder, FolderFault, Reads, has_failed};
 use mon_value::{ListOf, Text, TryCopy};
@@ -103,7 +103,7 @@ impl MemoryFolder {
 
 impl Folder for MemoryFolder {
     ghost use Rattle.std.specs.Prelude.{Some};
-    ghost use Rattle.mon_run.specs.Folders.{files_of, folder_state};
+    ghost use Rattle.mon_run.specs.Outside.{files_of, folder_state};
 
     ghost state = { λ folder. folder_state (Some (files_of folder.files)) folder.reads.items };
 
@@ -140,7 +140,7 @@ impl CalmFolder {
 }
 
 impl Folder for CalmFolder {
-    ghost use Rattle.mon_run.specs.Folders.{calm_folder_state, files_of};
+    ghost use Rattle.mon_run.specs.Outside.{calm_folder_state, files_of};
 
     ghost state = { λ folder. calm_folder_state (files_of folder.files) folder.reads.items };
 

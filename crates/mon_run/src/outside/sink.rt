@@ -1,7 +1,7 @@
 // Where text is written.
 ghost use Rattle.std.specs.Prelude.{◌≡◌, ◌<◌, ◌≤◌, ◌++◌, length, take, option_map, IfOk, OnErr, OnOk};
-ghost use Rattle.mon_run.specs.Faults.{Rose};
-ghost use Rattle.mon_run.specs.Sinks.{SinkState, Takes, TakesFront};
+ghost use Rattle.mon_run.specs.Steps.{Rose};
+ghost use Rattle.mon_run.specs.Outside.{SinkState, Takes, TakesFront};
 
 /// A sink did not take what it was given.
 #[derive(Clone, Copy, PartialEq, Eq)]

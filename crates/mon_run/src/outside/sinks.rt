@@ -1,6 +1,6 @@
 // Sinks: in memory, and the standard output.
 ghost use Rattle.std.specs.Prelude.{◌≡◌, [], None, Some};
-ghost use Rattle.mon_run.specs.Sinks.{sink_state};
+ghost use Rattle.mon_run.specs.Outside.{sink_state};
 
 use crate::outside::sink::{Failed, Sink};
 use std::alloc::Global;
@@ -44,7 +44,7 @@ impl MemorySink {
 
 impl Sink for MemorySink {
     ghost use Rattle.std.specs.Prelude.{Some};
-    ghost use Rattle.mon_run.specs.Sinks.{sink_state};
+    ghost use Rattle.mon_run.specs.Outside.{sink_state};
 
     ghost state = { λ sink. sink_state (Some sink.written.items) sink.faults };
 
@@ -78,7 +78,7 @@ impl<'a, P: Print> OutSink<'a, P> {
 
 impl<'a, P: Print> Sink for OutSink<'a, P> {
     ghost use Rattle.std.specs.Prelude.{None};
-    ghost use Rattle.mon_run.specs.Sinks.{sink_state};
+    ghost use Rattle.mon_run.specs.Outside.{sink_state};
 
     ghost state = { λ sink. sink_state None sink.faults };
 

@@ -5,7 +5,7 @@ use Rattle.std.specs.Map.{lookup}
 use Rattle.indexmap.specs.Layout.{set_value_at}
 use Rattle.mon_value.specs.Rooms.{RoomList}
 use Rattle.mon_value.specs.Same.{same_text}
-use Rattle.mon_value.specs.Sources.{series_of}
+use Rattle.mon_value.specs.LeafHistories.{series_of}
 use Rattle.mon_value.specs.declared.rows.Row.{Row}
 use Rattle.mon_value.specs.declared.rows.SeriesKey.{SeriesKey}
 use Rattle.mon_series.specs.MetricNumbers.{numbers_from}

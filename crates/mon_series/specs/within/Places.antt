@@ -2,7 +2,7 @@
 use Rattle.std.specs.Prelude.{◌≡◌, ℕ, zero, suc, ◌<◌, ◌<ℤ◌, ◌^◌, true, List, [], ◌∷◌, ◌++◌, length, is_some, slice_get}
 use Rattle.std.specs.Prelude.{Option, Some, None, option_map, IfSome}
 use Rattle.std.specs.List.{AllByRecursion}
-use Rattle.mon_value.specs.Sources.{last_end, points_by_series}
+use Rattle.mon_value.specs.LeafHistories.{last_end, points_by_series}
 use Rattle.mon_value.specs.declared.rows.Point.{Point}
 use Rattle.mon_value.specs.declared.rows.Row.{Row}
 use Rattle.mon_value.specs.declared.rows.SeriesKey.{SeriesKey}

@@ -4,7 +4,7 @@ use Rattle.mql_ast.specs.Trees.{query_tree}
 use Rattle.mql_ast.specs.declared.pipes.Query.{Query}
 use Rattle.mql_types.proofs.DurationLemmas.{durations_spelled}
 use Rattle.mql_types.proofs.SpelledQueries.{query_spelled}
-use Rattle.mql_types.specs.Durations.{HasDurations}
+use Rattle.mql_types.specs.Times.{HasDurations}
 use Rattle.mql_types.specs.Soundness.{IsPipeSpelled}
 use Rattle.case_queries.proofs.queries.query_in.Goals as goal
 

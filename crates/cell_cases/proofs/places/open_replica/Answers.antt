@@ -3,7 +3,7 @@ use Rattle.cell_cases.proofs.PlaceLemmas.{may_open}
 use Rattle.cell_cases.proofs.WriterLemmas.{after_opened, has_number}
 use Rattle.cell_cases.specs.Writers.{first_slot}
 use Rattle.know.specs.declared.answers.Found.TheVariants as found
-use Rattle.mon_value.specs.Positions.{leaf_numbered}
+use Rattle.mon_value.specs.Histories.{leaf_numbered}
 use Rattle.mon_value.specs.declared.rows.Row.{Row}
 use Rattle.owners.specs.Openings.{MayOpen}
 use Rattle.owners.specs.Puts.{pass_of}

@@ -2,7 +2,7 @@ use Rattle.std.proofs.Common.{◌≡◌, refl, sym, ap, ◌∙◌}
 use Rattle.cell_cases.proofs.PlaceLemmas.{is_of_leaf, nothing_seen, rests_there, sound_there}
 use Rattle.history_book.specs.Histories.{empty_histories}
 use Rattle.mon_topo.specs.Sights.{no_sight, sight_of}
-use Rattle.mon_value.specs.Positions.{leaf_numbered}
+use Rattle.mon_value.specs.Histories.{leaf_numbered}
 use Rattle.raise_table.specs.Places.{zone_leaf}
 use Rattle.cell_cases.proofs.places.resting.Goals as goal
 

@@ -1,7 +1,7 @@
 use Rattle.std.proofs.Common.{ℕ, subst}
 use Rattle.std.specs.Prelude.{IfOk, OnErr}
 use Rattle.cell_cases.proofs.WriterLemmas.{opened_ask}
-use Rattle.mon_value.specs.Positions.{leaf_numbered, range_numbered}
+use Rattle.mon_value.specs.Histories.{leaf_numbered, range_numbered}
 use Rattle.owners.specs.Calls.{HasLooked, HasReserved}
 use Rattle.cell_cases.proofs.switches.ask.Goals as goal
 

@@ -1,7 +1,7 @@
 use Rattle.std.proofs.Common.{ℕ, subst}
 use Rattle.cell_cases.proofs.WriterLemmas.{opened_control}
 use Rattle.leaf_cell.specs.Controls.{HasControlled}
-use Rattle.mon_value.specs.Positions.{leaf_numbered, range_numbered}
+use Rattle.mon_value.specs.Histories.{leaf_numbered, range_numbered}
 use Rattle.owners.specs.Puts.{pass_of}
 use Rattle.cell_cases.proofs.switches.switch.Goals as goal
 

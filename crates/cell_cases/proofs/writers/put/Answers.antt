@@ -3,11 +3,10 @@ use Rattle.cell_cases.proofs.PlaceLemmas.{leaf_there}
 use Rattle.cell_cases.proofs.WriterLemmas.{after_put, has_number, source_pushed, waits}
 use Rattle.cell_cases.specs.Writers.{first_slot}
 use Rattle.mon_schema.specs.Fits.{fits}
-use Rattle.mon_schema.specs.SchemaLists.{SchemaLists}
+use Rattle.mon_schema.specs.Names.{SchemaLists}
 use Rattle.mon_topo.specs.Settings.{Setting}
-use Rattle.mon_value.specs.Histories.{leaf_history}
+use Rattle.mon_value.specs.Histories.{leaf_history, leaf_numbered}
 use Rattle.mon_value.specs.LeafHistories.{replica_rows}
-use Rattle.mon_value.specs.Positions.{leaf_numbered}
 use Rattle.mon_value.specs.declared.histories.Entry.TheVariants as entry
 use Rattle.owners.specs.Calls.{HasPut}
 use Rattle.owners.specs.Puts.{MayPut, pass_of}

@@ -1,7 +1,7 @@
 use Rattle.std.proofs.Common.{ℕ, subst}
 use Rattle.cell_cases.proofs.WriterLemmas.{stays, waits}
 use Rattle.history_book.specs.Seats.{without_one}
-use Rattle.mon_value.specs.Positions.{leaf_numbered}
+use Rattle.mon_value.specs.Histories.{leaf_numbered}
 use Rattle.owners.specs.Calls.{HasLooked}
 use Rattle.cell_cases.proofs.writers.use_room.Goals as goal
 

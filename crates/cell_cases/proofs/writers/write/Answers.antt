@@ -2,7 +2,7 @@ use Rattle.std.proofs.Common.{◌≡◌, ℕ, rules, sym, subst}
 use Rattle.std.specs.Prelude.{ℤ}
 use Rattle.cell_cases.proofs.WriterLemmas.{after_reserve, stays, waits, whatever_fails}
 use Rattle.cell_cases.specs.Writers.{IsWriter}
-use Rattle.mon_value.specs.Positions.{leaf_numbered}
+use Rattle.mon_value.specs.Histories.{leaf_numbered}
 use Rattle.owners.specs.Calls.{HasLooked, HasReserved}
 use Rattle.cell_cases.proofs.writers.write.Goals as goal
 

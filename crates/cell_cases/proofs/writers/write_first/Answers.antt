@@ -1,7 +1,7 @@
 use Rattle.std.proofs.Common.{[], ◌∷◌}
 use Rattle.cell_cases.proofs.PlaceLemmas.{lies_by, lies_first}
 use Rattle.cell_cases.specs.Setups.{key_of_host}
-use Rattle.mon_value.specs.Positions.{range_numbered}
+use Rattle.mon_value.specs.Histories.{range_numbered}
 use Rattle.cell_cases.proofs.writers.write_first.Goals as goal
 
 pub write_series-requires-clause-lies : goal.write_series-requires-clause-lies

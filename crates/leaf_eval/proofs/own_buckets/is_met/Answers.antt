@@ -1,6 +1,6 @@
 use Rattle.std.proofs.Common.{◌≡◌, ◌∙◌, List, ℕ, ap, map}
-use Rattle.leaf_store.specs.LeafBuckets.{key_buckets}
-use Rattle.mon_hints.specs.HistoryBuckets.{history_buckets}
+use Rattle.leaf_store.specs.LeafStates.{key_buckets}
+use Rattle.mon_hints.specs.Hints.{history_buckets}
 use Rattle.leaf_eval.proofs.OwnWords.{met_by_words, own_word}
 use Rattle.leaf_eval.proofs.own_buckets.is_met.Goals as goal
 

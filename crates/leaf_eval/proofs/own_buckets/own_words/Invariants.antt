@@ -1,7 +1,7 @@
 -- the buckets so far
 use Rattle.std.proofs.Common.{◌≡◌, map, take}
-use Rattle.leaf_store.specs.LeafBuckets.{key_buckets}
-use Rattle.mon_hints.specs.HistoryBuckets.{history_buckets}
+use Rattle.leaf_store.specs.LeafStates.{key_buckets}
+use Rattle.mon_hints.specs.Hints.{history_buckets}
 use Rattle.leaf_eval.proofs.OwnWords.{own_word}
 use Rattle.leaf_eval.proofs.own_buckets.own_words.Given as goal
 

@@ -1,8 +1,8 @@
 -- The buckets of the rows so far were added.
 use Rattle.std.proofs.Common.{take}
 use Rattle.mon_hints.specs.BucketSets.{is_set}
-use Rattle.mon_hints.specs.HistoryBuckets.{rows_buckets}
-use Rattle.leaf_store.specs.LeafBuckets.{key_buckets}
+use Rattle.mon_hints.specs.Hints.{rows_buckets}
+use Rattle.leaf_store.specs.LeafStates.{key_buckets}
 use Rattle.leaf_store.specs.within.Raises.{AddsBuckets}
 use Rattle.leaf_store.proofs.raised.add_rows.Given as goal
 

@@ -1,8 +1,8 @@
 use Rattle.std.proofs.Common.{◌≡◌, ◌∙◌, ℕ, Bool, List, Some, None, ap, sym, rules}
 use Rattle.mon_hints.proofs.SetLemmas.{set_of_buckets}
 use Rattle.mon_hints.specs.Hints.{series_buckets}
-use Rattle.mon_hints.specs.Listings.{is_among}
-use Rattle.mon_schema.specs.SchemaLists.{metric_named, target_named}
+use Rattle.mon_hints.specs.Formulas.{is_among}
+use Rattle.mon_schema.specs.Names.{metric_named, target_named}
 use Rattle.leaf_store.proofs.BucketLemmas.{found_buckets, none_without_metric, none_without_target}
 use Rattle.leaf_store.proofs.raised.key_set.Goals as goal
 

@@ -1,5 +1,5 @@
 use Rattle.mon_hints.specs.BucketSets.{is_set}
-use Rattle.leaf_store.specs.LeafBuckets.{key_buckets}
+use Rattle.leaf_store.specs.LeafStates.{key_buckets}
 use Rattle.leaf_store.proofs.KnownLemmas.{known_adds}
 use Rattle.leaf_store.proofs.raised.raise.Goals as goal
 

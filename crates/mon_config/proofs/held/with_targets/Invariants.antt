@@ -1,7 +1,7 @@
 -- the schemas so far with the targets that are left are those with all
 use Rattle.std.proofs.Common.{◌≡◌, ◌+◌, length}
 use Rattle.std.specs.Vec.Iter.{into_iter_items, into_iter_len}
-use Rattle.mon_schema.specs.SchemaLists.{no_schemas}
+use Rattle.mon_schema.specs.Names.{no_schemas}
 use Rattle.mon_config.specs.Configs.{with_targets}
 use Rattle.mon_config.proofs.held.with_targets.Given as goal
 

@@ -1,7 +1,7 @@
 -- the elements so far and those of what is left are those of the whole list
 use Rattle.std.proofs.Common.{◌≡◌, drop, map}
 use Rattle.serde_json.specs.View.{view}
-use Rattle.mon_config.specs.Shapes.{elements_in}
+use Rattle.mon_config.specs.Objects.{elements_in}
 use Rattle.mon_config.proofs.Fronts.{with_front}
 use Rattle.mon_config.proofs.readers.read_elements.Given as goal
 

@@ -2,7 +2,7 @@
 use Rattle.std.proofs.Common.{◌≡◌, ◌≤◌, ◌+◌, drop, Some}
 use Rattle.std.specs.Prelude.{unsigned_abs}
 use Rattle.std.specs.List.{AllByRecursion}
-use Rattle.mon_value.specs.Limits.{greatest_sum}
+use Rattle.mon_value.specs.Values.{greatest_sum}
 use Rattle.mon_expr.specs.BoundSums.{CanTake, sum_of_both, terms_size, terms_total}
 use Rattle.mon_expr.proofs.bound_sums.total_of.Given as goal
 

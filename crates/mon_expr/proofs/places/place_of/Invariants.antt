@@ -1,6 +1,6 @@
 -- Where the column stands among those that are left, behind those before them.
 use Rattle.std.proofs.Common.{◌≡◌, ◌+◌, drop}
-use Rattle.mql_ast.specs.NamedCells.{place_of}
+use Rattle.mql_ast.specs.Rows.{place_of}
 use Rattle.mon_expr.proofs.places.place_of.Given as goal
 
 abbrev pub invariant-loop-place : goal.invariant-loop-place

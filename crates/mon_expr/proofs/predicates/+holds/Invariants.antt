@@ -1,7 +1,7 @@
 -- The truth of what is left, turned around or not, is that of the whole.
 use Rattle.std.proofs.Common.{◌≡◌, ◌≤◌}
 use Rattle.mql_ast.specs.Trees.{predicate_tree}
-use Rattle.mql_ast.specs.Truths.{predicate_truth}
+use Rattle.mql_ast.specs.Rows.{predicate_truth}
 use Rattle.mql_ast.specs.declared.predicates.Predicate.{size-Predicate}
 use Rattle.mon_expr.proofs.TurnLemmas.{truth_turned}
 use Rattle.mon_expr.proofs.predicates.+holds.Given as goal

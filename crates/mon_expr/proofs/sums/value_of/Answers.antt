@@ -1,6 +1,6 @@
 use Rattle.std.proofs.Common.{◌≡◌, ◌↔◌, ◌∙◌, IsNone, IsTrue}
 use Rattle.std.proofs.lemmas.Result.{IfOk-weaker}
-use Rattle.mql_ast.specs.Sums.{meets_no_values}
+use Rattle.mql_ast.specs.Rows.{meets_no_values}
 use Rattle.mql_ast.specs.Trees.{sum_tree}
 use Rattle.mon_expr.specs.BoundSums.{bound_value}
 use Rattle.mon_expr.proofs.NoValueLemmas.{none_exactly}

@@ -1,8 +1,7 @@
 use Rattle.std.proofs.Common.{◌≡◌, ◌-ℤ◌, ◌<ℤ◌, ◌≤ℤ◌, List, ℤ, to_z, of_z, w64, sym, ap, subst, ◌∙◌, rules, arith}
 use Rattle.std.specs.List.{AllByRecursion}
 use Rattle.std.proofs.lemmas.Int.{ints}
-use Rattle.mon_value.specs.Alignments.{aligned_values, SumFits, timed_values, value_at}
-use Rattle.mon_value.specs.Grids.{grid_times}
+use Rattle.mon_value.specs.Grids.{aligned_values, SumFits, timed_values, value_at, grid_times}
 use Rattle.mon_value.specs.declared.grids.Grid.{Grid}
 use Rattle.mon_value.specs.declared.grids.TimedValue.{TimedValue}
 use Rattle.mon_value.specs.declared.aligners.Aligner.{Aligner}

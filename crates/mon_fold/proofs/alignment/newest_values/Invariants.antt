@@ -2,9 +2,8 @@
 -- reach, and its sum fits
 use Rattle.std.proofs.Common.{◌≡◌, ◌-◌, ◌-ℤ◌, ◌<ℤ◌, ◌≤ℤ◌, ◌++◌}
 use Rattle.std.specs.List.{AllByRecursion, flat_map}
-use Rattle.mon_value.specs.Alignments.{aligned_values, SumFits, timed_values, value_at}
+use Rattle.mon_value.specs.Grids.{aligned_values, SumFits, timed_values, value_at, times_back}
 use Rattle.mon_value.specs.declared.aligners.Aligner.TheVariants.{NextOlder}
-use Rattle.mon_value.specs.Grids.{times_back}
 use Rattle.mon_fold.proofs.alignment.newest_values.Given as goal
 
 abbrev pub invariant-loop : goal.invariant-loop

@@ -1,7 +1,6 @@
 use Rattle.std.proofs.Common.{Some, refl, sym, ap, ◌∙◌}
-use Rattle.mon_value.specs.Aggregates.{counts_added, counts_of}
-use Rattle.mon_value.specs.Alignments.{values_of}
-use Rattle.mon_value.specs.Groups.{distributions_in}
+use Rattle.mon_value.specs.Groups.{counts_added, counts_of, distributions_in}
+use Rattle.mon_value.specs.Grids.{values_of}
 use Rattle.mon_value.specs.declared.values.Value.TheVariants as value
 use Rattle.mon_fold.proofs.AlignmentLemmas.{told_counts, total_merged}
 use Rattle.mon_fold.proofs.sliding.added_value.Goals as goal

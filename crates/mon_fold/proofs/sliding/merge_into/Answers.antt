@@ -1,5 +1,5 @@
 use Rattle.std.proofs.Common.{◌+◌, ◌≤◌, ◌^◌, sum, refl, sym, ap, ◌∙◌, arith}
-use Rattle.mon_value.specs.Aggregates.{counts_added}
+use Rattle.mon_value.specs.Groups.{counts_added}
 use Rattle.mon_value.proofs.CountsLemmas.{counts_added-nil, length-counts_added}
 use Rattle.mon_fold.proofs.AlignmentLemmas.{counts_more, counts_within, long_at, no_other, told_counts, told_none}
 use Rattle.mon_fold.proofs.AlignmentLemmas.{total_bounded}

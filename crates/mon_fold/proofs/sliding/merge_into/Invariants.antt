@@ -1,8 +1,7 @@
 -- the counts so far
 use Rattle.std.proofs.Common.{◌≡◌, take, length}
-use Rattle.mon_value.specs.Aggregates.{counts_added, counts_of}
-use Rattle.mon_value.specs.Alignments.{values_of}
-use Rattle.mon_value.specs.Groups.{distributions_in}
+use Rattle.mon_value.specs.Groups.{counts_added, counts_of, distributions_in}
+use Rattle.mon_value.specs.Grids.{values_of}
 use Rattle.mon_fold.proofs.sliding.merge_into.Given as goal
 
 abbrev pub invariant-loop-point : goal.invariant-loop-point

@@ -1,7 +1,7 @@
 use Rattle.std.proofs.Common.{◌≡◌, ◌≤◌, ◌-ℤ◌, ◌+ℤ◌, None, Some, unsigned_abs, to_z, of_z, sym, ap, ◌∙◌, rules, arith}
 use Rattle.std.specs.Int.{w128}
 use Rattle.std.proofs.lemmas.Int.{ints}
-use Rattle.mon_value.specs.Alignments.{most_aligned}
+use Rattle.mon_value.specs.Grids.{most_aligned}
 use Rattle.mon_value.specs.declared.values.Value.TheVariants as value
 use Rattle.mon_fold.specs.SlidingWindows.{points_between}
 use Rattle.mon_fold.proofs.SlidingLemmas.{counts-among, gone-held, gone-magnitude, left-alike, left-within}

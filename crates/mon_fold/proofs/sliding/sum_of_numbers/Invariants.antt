@@ -1,8 +1,7 @@
 -- the sum of the numbers so far
 use Rattle.std.proofs.Common.{◌≡◌, take}
-use Rattle.mon_value.specs.Aggregates.{sum_of}
-use Rattle.mon_value.specs.Alignments.{values_of}
-use Rattle.mon_value.specs.Groups.{numbers_in}
+use Rattle.mon_value.specs.Groups.{sum_of, numbers_in}
+use Rattle.mon_value.specs.Grids.{values_of}
 use Rattle.mon_fold.proofs.sliding.sum_of_numbers.Given as goal
 
 abbrev pub invariant-loop-point : goal.invariant-loop-point

@@ -1,8 +1,7 @@
 -- what is left, and the counts of the points so far, are the counts
 use Rattle.std.proofs.Common.{◌≡◌, ℕ, ◌+◌, get_or, take, length}
-use Rattle.mon_value.specs.Aggregates.{counts_of}
-use Rattle.mon_value.specs.Alignments.{values_of}
-use Rattle.mon_value.specs.Groups.{distributions_in}
+use Rattle.mon_value.specs.Groups.{counts_of, distributions_in}
+use Rattle.mon_value.specs.Grids.{values_of}
 use Rattle.mon_fold.proofs.sliding.take_off.Given as goal
 
 abbrev pub invariant-loop-point : goal.invariant-loop-point

@@ -1,7 +1,7 @@
 -- The excerpts so far, in front of the windows that are left.
 use Rattle.std.proofs.Common.{◌≡◌, ◌++◌}
 use Rattle.std.specs.Slice.Iter.{windows_rest, windows_size}
-use Rattle.mon_hints.specs.Excerpts.{windows}
+use Rattle.mon_hints.specs.Hints.{windows}
 use Rattle.mon_hints.proofs.excerpts.push_windows.Given as goal
 
 abbrev pub invariant-loop-window : goal.invariant-loop-window

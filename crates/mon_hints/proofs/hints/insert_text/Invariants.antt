@@ -1,7 +1,7 @@
 -- The set so far, with the buckets of the windows that are left.
 use Rattle.std.proofs.Common.{◌≡◌, ◌∷◌, ◌++◌, drop}
 use Rattle.mon_hints.specs.BucketSets.{is_set, with_buckets}
-use Rattle.mon_hints.specs.Excerpts.{back, text_excerpts, windows}
+use Rattle.mon_hints.specs.Hints.{back, text_excerpts, windows}
 use Rattle.mon_hints.specs.Labels.{buckets_behind}
 use Rattle.mon_hints.proofs.hints.insert_text.Given as goal
 

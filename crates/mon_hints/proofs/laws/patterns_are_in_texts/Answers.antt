@@ -1,6 +1,6 @@
 use Rattle.mon_hints.proofs.PatternLemmas.{are_in_text, relation_passes, test_passes}
 use Rattle.mon_hints.proofs.laws.patterns_are_in_texts.Goals as goal
-use Rattle.mon_hints.specs.Excerpts.{front}
+use Rattle.mon_hints.specs.Hints.{front}
 
 pub returns-clause-among : goal.returns-clause-among
 returns-clause-among c = are_in_text

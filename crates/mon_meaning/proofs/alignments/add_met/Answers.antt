@@ -1,6 +1,6 @@
 use Rattle.std.proofs.Common.{◌≡◌, ◌∙◌, ◌+◌, ◌∷◌, [], ℕ, List, Some, drop, refl, ap, slice_get, slice_index_or, arith}
 use Rattle.std.proofs.lemmas.List.{drop_more, map-append}
-use Rattle.mon_value.specs.Sources.{points_by_series}
+use Rattle.mon_value.specs.LeafHistories.{points_by_series}
 use Rattle.mon_series.specs.MetricNumbers.{metric_numbers}
 use Rattle.mon_meaning.specs.declared.alignments.Met.{Met}
 use Rattle.mon_meaning.specs.within.MetSeries.{met_count, series_met}

@@ -1,6 +1,6 @@
 -- the series so far that are counted, with those of the numbers that are left; so with their points
 use Rattle.std.proofs.Common.{◌≡◌, drop}
-use Rattle.mon_value.specs.Sources.{points_by_series}
+use Rattle.mon_value.specs.LeafHistories.{points_by_series}
 use Rattle.mon_meaning.specs.within.MetSeries.{series_met}
 use Rattle.mon_meaning.proofs.MetricSeries.{MetSoFar}
 use Rattle.mon_meaning.proofs.alignments.add_met.Given as goal

@@ -1,5 +1,5 @@
 use Rattle.std.proofs.Common.{◌≡◌, ◌∙◌, List, IfOk, sym, ap, subst}
-use Rattle.mon_value.specs.Alignments.{CanAlign, aligned_values}
+use Rattle.mon_value.specs.Grids.{CanAlign, aligned_values}
 use Rattle.mon_value.specs.declared.rows.Point.{Point}
 use Rattle.mon_value.specs.declared.rows.SeriesKey.{SeriesKey}
 use Rattle.mon_meaning.specs.within.FetchViews.{keeps, points_kept}

@@ -1,11 +1,10 @@
 use Rattle.std.proofs.Common.{◌≡◌, ◌∙◌, ◌++◌, ◌+◌, [], ℕ, List, to_z, of_z, w64, refl, sym, ap, subst, rules}
 use Rattle.std.specs.Prelude.{IsPermutation}
 use Rattle.std.proofs.lemmas.List.{append-nil}
-use Rattle.mon_value.specs.Sources.{points_by_series}
+use Rattle.mon_value.specs.LeafHistories.{points_by_series}
 use Rattle.mon_value.specs.declared.columns.Column.{Column}
 use Rattle.mon_value.specs.declared.grids.Grid.{Grid}
-use Rattle.mql_types.specs.Loads.{load_of}
-use Rattle.mql_types.specs.Meaning.{grid_of, rows_meant}
+use Rattle.mql_types.specs.Meaning.{load_of, grid_of, rows_meant}
 use Rattle.mql_types.specs.Nodes.{columns_of, node_tree, typed_tree}
 use Rattle.mql_types.specs.declared.nodes.NodeInfo.{NodeInfo}
 use Rattle.mon_meaning.specs.Central.{IsPartAsked, IsRefusedBy}

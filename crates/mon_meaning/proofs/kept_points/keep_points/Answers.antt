@@ -1,5 +1,5 @@
 use Rattle.std.proofs.Common.{◌≡◌, ◌∙◌, ◌++◌, ◌∷◌, [], ◌<ℤ◌, List, IfSome, cond, sym, ap, subst}
-use Rattle.mon_value.specs.Sources.{last_end}
+use Rattle.mon_value.specs.LeafHistories.{last_end}
 use Rattle.mon_value.specs.declared.rows.Point.{Point}
 use Rattle.mon_value.specs.declared.values.Value.{Value}
 use Rattle.mon_meaning.specs.within.FetchViews.{all_filters_hold, keeps}

@@ -1,5 +1,5 @@
 use Rattle.std.proofs.Common.{◌≡◌, ◌∙◌, [], sym, ap, subst}
-use Rattle.mon_value.specs.Windows.{EndsRise}
+use Rattle.mon_value.specs.Grids.{EndsRise}
 use Rattle.mon_meaning.specs.within.Reach.{points_within_reach}
 use Rattle.mon_meaning.proofs.WindowLemmas.{none_last}
 use Rattle.mon_meaning.proofs.kept_points.points_in_reach.Goals as goal

@@ -5,8 +5,8 @@ use Rattle.mql_ast.specs.Trees.{item_tree, predicate_tree}
 use Rattle.mql_types.specs.ExplanationParts.{nodes}
 use Rattle.mql_types.specs.Nodes as node
 use Rattle.mql_types.specs.Nodes.{node_tree}
-use Rattle.mql_types.specs.Pieces as spec
-use Rattle.mql_types.specs.Pieces.{top_parts}
+use Rattle.mql_types.specs.Levels as spec
+use Rattle.mql_types.specs.Levels.{top_parts}
 use Rattle.mql_types.specs.declared.nodes.Node.{Node}
 use Rattle.mon_meaning.specs.TopParts.{parts_seen, up_to}
 use Rattle.mon_meaning.specs.within.PartsToCome.{as_rows, nodes_left, part_nodes, parts_left, parts_of_part}

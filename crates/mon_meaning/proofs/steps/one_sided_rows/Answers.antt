@@ -2,7 +2,7 @@ use Rattle.std.proofs.Common.{◌≡◌, ◌∙◌, [], List, map, sym, ap, subs
 use Rattle.std.specs.List.{AllByRecursion}
 use Rattle.mon_value.specs.declared.columns.Column.{Column}
 use Rattle.mon_value.specs.declared.tables.TimedRow.{TimedRow}
-use Rattle.mql_ast.specs.SumWidths.{CanCompute}
+use Rattle.mql_ast.specs.Rows.{CanCompute}
 use Rattle.mql_ast.specs.Trees.{item_tree}
 use Rattle.mql_types.specs.Nodes as node
 use Rattle.mql_types.specs.Nodes.{NodeTree, columns_of, info_of, node_tree}

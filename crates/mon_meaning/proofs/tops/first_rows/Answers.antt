@@ -1,6 +1,6 @@
 use Rattle.std.proofs.Common.{◌≡◌, ◌∙◌, take, ap, rules}
-use Rattle.mon_value.specs.Sorting.{sorted_list}
-use Rattle.mon_value.specs.Tops.{rank_cmp}
+use Rattle.mon_value.specs.Order.{sorted_list}
+use Rattle.mon_value.specs.Groups.{rank_cmp}
 use Rattle.mon_meaning.proofs.TopLemmas.{sorted_by_rank}
 use Rattle.mon_meaning.proofs.tops.first_rows.Goals as goal
 

@@ -2,7 +2,7 @@
 use Rattle.std.proofs.Common.{◌≡◌, ◌++◌}
 use Rattle.std.specs.List.{flat_map}
 use Rattle.std.specs.Vec.Iter.{into_iter_items}
-use Rattle.mon_value.specs.Tops.{top_rows}
+use Rattle.mon_value.specs.Groups.{top_rows}
 use Rattle.mon_meaning.specs.within.Times.{groups_at}
 use Rattle.mon_meaning.proofs.TopLemmas.{first_of}
 use Rattle.mon_meaning.proofs.tops.top_rows.Given as goal

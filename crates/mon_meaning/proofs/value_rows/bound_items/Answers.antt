@@ -1,7 +1,7 @@
 use Rattle.std.proofs.Common.{◌≡◌, ◌∙◌, ◌+◌, ◌++◌, ◌∷◌, [], List, map, take, sym, ap, subst}
 use Rattle.std.proofs.lemmas.List.{map-append, take_more}
 use Rattle.mon_expr.specs.declared.bound_sums.BoundExpr.{BoundExpr}
-use Rattle.mql_ast.specs.SumWidths.{HasShares, IsTypedSum}
+use Rattle.mql_ast.specs.Rows.{HasShares, IsTypedSum}
 use Rattle.mql_ast.specs.Trees.{ItemTree, item_tree}
 use Rattle.mql_ast.specs.declared.operations.Item.{Item}
 use Rattle.mon_meaning.specs.within.Items.{AreBound}

@@ -5,7 +5,7 @@ use Rattle.std.proofs.lemmas.Iterator.Consumers.{YieldsList-turn, YieldsList-end
 use Rattle.std.proofs.lemmas.Iterator.Splits.{YieldsList-from_str_split}
 use Rattle.std.proofs.lemmas.List.{length_push}
 use Rattle.mon_value.specs.Values.{semicolon}
-use Rattle.mon_points.specs.Cells.{counts_of_texts}
+use Rattle.mon_points.specs.Records.{counts_of_texts}
 use Rattle.mon_points.proofs.CountsOfLemmas.{counts_of-more, counts_of-none}
 use Rattle.mon_points.proofs.cells.read_counts.Goals as goal
 

@@ -4,7 +4,7 @@ use Rattle.std.specs.Option.{option_eq}
 use Rattle.std.specs.Ordering.{int_eq}
 use Rattle.mon_value.specs.declared.values.FieldType.TheVariants as type
 use Rattle.mon_value.specs.declared.values.FieldValue.TheVariants as field
-use Rattle.mon_points.specs.Cells.{int_of}
+use Rattle.mon_points.specs.Records.{int_of}
 use Rattle.mon_points.specs.Keys.{is_value, spells_field}
 use Rattle.mon_points.proofs.OptionFilterLemmas.{field_of-int}
 use Rattle.mon_points.proofs.cells.spells_field.Goals as goal

@@ -1,6 +1,6 @@
 use Rattle.std.proofs.Common.{◌≡◌, ◌∙◌, ◌-◌, ◌+◌, arith, sym, ap, Some, None, Err, option_map}
 use Rattle.csv.specs.Records.{field_at, fields_of}
-use Rattle.mon_points.specs.Cells.{field_of}
+use Rattle.mon_points.specs.Records.{field_of}
 use Rattle.mon_points.specs.declared.faults.RowFault.TheVariants.{BadField}
 use Rattle.mon_points.proofs.FieldsReadLemmas.{field_at-some, some_from_map, fields_more, fields_bad}
 use Rattle.mon_points.proofs.keys.read_fields.Goals as goal

@@ -1,7 +1,7 @@
 use Rattle.std.proofs.Common.{◌≡◌, ◌∙◌, ◌+◌, Some, sym, ap, drop, length, arith}
 use Rattle.std.proofs.lemmas.List.{length-drop}
 use Rattle.csv.specs.Records.{fields_of}
-use Rattle.mon_schema.specs.SchemaLists.{target_named, metric_named}
+use Rattle.mon_schema.specs.Names.{target_named, metric_named}
 use Rattle.mon_points.proofs.FieldsReadLemmas.{row_read-row}
 use Rattle.mon_points.proofs.records.read_fitting.Goals as goal
 

@@ -1,9 +1,8 @@
 use Rattle.std.proofs.Common.{rules, ◌≡◌, ◌∙◌, ℕ, Bool, List, [], Option, IfSome, Err, map, string_bytes, sym, subst}
 use Rattle.std.proofs.Common.{ap}
-use Rattle.mon_run.specs.Endings.{Progress, RunIs, progress}
+use Rattle.mon_run.specs.Endings.{Progress, RunIs, progress, RunTells, seen_by}
 use Rattle.mon_run.specs.Plans.{came, run_plan}
 use Rattle.mon_run.specs.Steps.{Plan}
-use Rattle.mon_run.specs.Tellings.{RunTells, seen_by}
 use Rattle.mon_run.specs.declared.stop.Stop.{Stop}
 use Rattle.mon_run.specs.declared.stop.Stop.TheVariants as stop
 use Rattle.mon_run.specs.within.Stops.{Causes, Completes, Done, Halts, Stops, noted, seen, words_plan}

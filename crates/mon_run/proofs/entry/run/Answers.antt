@@ -1,6 +1,5 @@
 use Rattle.std.proofs.Common.{◌≡◌, ℕ, [], Option, IfSome, map, string_bytes, subst}
-use Rattle.mon_run.specs.Endings.{progress}
-use Rattle.mon_run.specs.Tellings.{seen_by}
+use Rattle.mon_run.specs.Endings.{progress, seen_by}
 use Rattle.mon_run.specs.Trials.{IsRunBy, TellBy}
 use Rattle.mon_run.proofs.TrialLemmas.{is_none_of}
 use Rattle.mon_run.proofs.entry.run.Goals as goal

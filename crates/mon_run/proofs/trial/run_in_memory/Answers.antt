@@ -1,5 +1,5 @@
 use Rattle.std.proofs.Common.{◌∙◌, [], map, string_bytes, ap}
-use Rattle.mon_run.specs.Folders.{Files, calm_folder_state}
+use Rattle.mon_run.specs.Outside.{Files, calm_folder_state}
 use Rattle.mon_run.proofs.TrialLemmas.{ran_made}
 use Rattle.mon_run.proofs.trial.run_in_memory.Goals as goal
 

@@ -2,9 +2,8 @@ use Rattle.std.proofs.Common.{rules, ◌≡◌, ◌∙◌, ◌+◌, ◌∷◌, �
 use Rattle.std.proofs.Common.{subst, to_z, of_z, w64, arith}
 use Rattle.std.proofs.lemmas.Int.{ints}
 use Rattle.std.proofs.lemmas.List.{drop_more}
-use Rattle.mon_value.specs.Distributions.{bounds_rise}
-use Rattle.mon_schema.specs.Fits.{is_number}
-use Rattle.mon_schema.specs.HeldMetrics.{AreNumbers}
+use Rattle.mon_value.specs.Groups.{bounds_rise}
+use Rattle.mon_schema.specs.Fits.{is_number, AreNumbers}
 use Rattle.mon_schema.proofs.BoundLemmas.{rise_more}
 use Rattle.mon_schema.proofs.metrics.bounds_rise.Goals as goal
 

@@ -1,7 +1,7 @@
 -- the bounds rise where those from the last one on do, and are numbers where those that are left are
 use Rattle.std.proofs.Common.{◌≡◌, ◌∷◌, drop}
-use Rattle.mon_schema.specs.HeldMetrics.{AreNumbers}
-use Rattle.mon_value.specs.Distributions.{bounds_rise}
+use Rattle.mon_schema.specs.Fits.{AreNumbers}
+use Rattle.mon_value.specs.Groups.{bounds_rise}
 use Rattle.mon_schema.proofs.metrics.bounds_rise.Given as goal
 
 abbrev pub invariant-loop-bound : goal.invariant-loop-bound

@@ -1,7 +1,7 @@
 -- no line so far ends a block
 use Rattle.std.proofs.Common.{◌≡◌, length}
 use Rattle.mon_script.specs.Lines.{lines_of}
-use Rattle.mon_script.specs.Places.{has_end}
+use Rattle.mon_script.specs.Blocks.{has_end}
 use Rattle.mon_script.proofs.places.has_end.Given as goal
 
 abbrev pub invariant-loop-line : goal.invariant-loop-line

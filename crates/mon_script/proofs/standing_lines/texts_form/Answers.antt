@@ -1,5 +1,5 @@
 use Rattle.std.proofs.Common.{◌≡◌, ◌∙◌, ℕ, List, Some, None, sym, subst}
-use Rattle.mon_script.specs.StandingLines.{texts_form}
+use Rattle.mon_script.specs.Forms.{texts_form}
 use Rattle.mon_value.specs.Answers.{Gives}
 use Rattle.mon_script.proofs.StandingLineLemmas.{name_text}
 use Rattle.mon_script.proofs.standing_lines.texts_form.Goals as goal

@@ -1,5 +1,5 @@
 use Rattle.std.proofs.Common.{rules, ◌∙◌, List, [], ◌∷◌, ◌++◌, ap, sym, subst, IfSome, ◌<ℤ◌}
-use Rattle.mon_value.specs.Sources.{last_end}
+use Rattle.mon_value.specs.LeafHistories.{last_end}
 use Rattle.mon_value.specs.declared.rows.Point.{Point}
 use Rattle.mon_series.specs.within.Places.{place_at}
 use Rattle.mon_series.proofs.HeldLemmas.{held_count, held_get, held_grown, held_same}

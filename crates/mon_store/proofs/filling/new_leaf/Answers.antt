@@ -4,7 +4,7 @@ use Rattle.history_book.specs.Seats.{Owner, new_owner}
 use Rattle.know.proofs.FirstLemmas.{nothing_is_sound}
 use Rattle.know.specs.Sound.{IsSound}
 use Rattle.leaf_cell.specs.Rest.{IsAtRest}
-use Rattle.leaf_store.specs.LeafBuckets.{key_buckets}
+use Rattle.leaf_store.specs.LeafStates.{key_buckets}
 use Rattle.leaf_store.specs.LeafStates as store
 use Rattle.mon_topo.specs.Settings.{Setting}
 use Rattle.mon_topo.specs.Sights.{no_sight, sight_of}

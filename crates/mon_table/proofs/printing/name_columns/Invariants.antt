@@ -2,7 +2,7 @@
 use Rattle.std.proofs.Common.{◌≡◌, ◌∷◌, ◌++◌, []}
 use Rattle.std.specs.Slice.Iter.{iter_rest}
 use Rattle.csv.specs.Records.{AllText, fields_of, partial_of}
-use Rattle.mon_value.specs.Columns.{column_names}
+use Rattle.mon_value.specs.Tables.{column_names}
 use Rattle.mon_table.specs.Tables.{codes}
 use Rattle.mon_table.proofs.printing.name_columns.Given as goal
 

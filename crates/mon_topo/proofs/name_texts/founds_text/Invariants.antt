@@ -1,6 +1,6 @@
 -- the text is that of the leaves so far
 use Rattle.std.proofs.Common.{◌≡◌, take, string_bytes}
-use Rattle.mon_topo.specs.NameTexts as spec
+use Rattle.mon_topo.specs.Zones as spec
 use Rattle.mon_topo.proofs.name_texts.founds_text.Given as goal
 
 abbrev pub invariant-loop-found : goal.invariant-loop-found

@@ -6,9 +6,8 @@ use Rattle.mon_value.specs.Same.{same_text}
 use Rattle.mon_topo.proofs.NumberedLemmas.{keys-numbered}
 use Rattle.mon_topo.proofs.PlaceLemmas.{first_at-found, first_at-past}
 use Rattle.mon_topo.proofs.RepeatLemmas.{leaves_more, leaves_so_far, repeated, unrepeated, with_new_name}
-use Rattle.mon_topo.specs.Faults.{repeated_at}
+use Rattle.mon_topo.specs.Faults.{repeated_at, first_at}
 use Rattle.mon_topo.specs.Indexed.{numbered_texts, with_name}
-use Rattle.mon_topo.specs.Places.{first_at}
 use Rattle.mon_topo.specs.declared.places.Place.TheVariants as place
 use Rattle.mon_topo.proofs.repeats.add_leaves.Goals as goal
 

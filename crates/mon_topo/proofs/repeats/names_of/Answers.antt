@@ -6,8 +6,7 @@ use Rattle.mon_topo.proofs.NumberedLemmas.{length-numbered}
 use Rattle.mon_topo.proofs.PlaceLemmas.{first_at-past}
 use Rattle.mon_topo.proofs.RepeatLemmas.{names_more, refused_first, seen_repeat-names_of}
 use Rattle.mon_topo.proofs.SizeLemmas.{parts_so_far}
-use Rattle.mon_topo.specs.Faults.{duplicate, repeat_behind}
-use Rattle.mon_topo.specs.Places.{first_at}
+use Rattle.mon_topo.specs.Faults.{duplicate, repeat_behind, first_at}
 use Rattle.mon_topo.specs.Zones.{leaves_in}
 use Rattle.mon_topo.specs.declared.names.Names.{Names}
 use Rattle.mon_topo.specs.declared.places.Place.{Place}

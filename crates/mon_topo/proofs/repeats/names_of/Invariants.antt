@@ -1,8 +1,7 @@
 -- the names so far are those of the zones so far, and nothing so far stood earlier
 use Rattle.std.proofs.Common.{◌≡◌, drop, take}
-use Rattle.mon_topo.specs.Faults.{repeat_behind}
+use Rattle.mon_topo.specs.Faults.{repeat_behind, first_at}
 use Rattle.mon_topo.specs.Indexed.{names_of_zones}
-use Rattle.mon_topo.specs.Places.{first_at}
 use Rattle.mon_topo.proofs.repeats.names_of.Given as goal
 
 abbrev pub invariant-loop-i : goal.invariant-loop-i

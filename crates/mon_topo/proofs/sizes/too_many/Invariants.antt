@@ -1,7 +1,6 @@
 -- nothing so far is at fault, so the first place is that of the rest
 use Rattle.std.proofs.Common.{◌≡◌, drop}
-use Rattle.mon_topo.specs.Faults.{leaves_over}
-use Rattle.mon_topo.specs.Places.{first_at}
+use Rattle.mon_topo.specs.Faults.{leaves_over, first_at}
 use Rattle.mon_topo.proofs.sizes.too_many.Given as goal
 
 abbrev pub invariant-loop-i : goal.invariant-loop-i

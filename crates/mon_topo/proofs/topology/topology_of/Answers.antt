@@ -5,7 +5,7 @@ use Rattle.std.specs.Option.{option_map}
 use Rattle.mon_value.specs.Same.{same_text}
 use Rattle.mon_topo.proofs.FindsLemmas.{lookup-located, lookup-numbered}
 use Rattle.mon_topo.specs.Indexed.{all_replicas, leaves_found, spans_from, FindsPlaces}
-use Rattle.mon_value.specs.Positions.{leaf_numbered}
+use Rattle.mon_value.specs.Histories.{leaf_numbered}
 use Rattle.mon_topo.specs.Zones.{leaves_in, range_names, ranges_in}
 use Rattle.mon_topo.specs.declared.names.Names.{Names}
 use Rattle.mon_topo.specs.declared.zones.RangeSpec.{RangeSpec}

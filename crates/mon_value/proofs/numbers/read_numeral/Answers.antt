@@ -8,7 +8,7 @@ use Rattle.std.specs.Char.{digit_value}
 use Rattle.std.specs.Int.{w128}
 use Rattle.std.proofs.lemmas.Int.{ints}
 use Rattle.std.proofs.lemmas.Int.Digits.{digits_value_more}
-use Rattle.mon_value.specs.Numbers.{numeral_of}
+use Rattle.mon_value.specs.Values.{numeral_of}
 use Rattle.mon_value.proofs.NumberLemmas.{digits_grow, value_small, no_numeral, whole_numeral}
 use Rattle.mon_value.proofs.numbers.read_numeral.Goals as goal
 

@@ -1,7 +1,7 @@
 -- The lines that were found, from the last one back, behind those of the parts to come.
 use Rattle.std.proofs.Common.{◌≡◌, ◌++◌, None, reverse}
 use Rattle.mql_types.specs.ExplanationParts.{remaining_lines, remaining_nodes}
-use Rattle.mql_types.specs.Explanations.{lines_below}
+use Rattle.mql_types.specs.Plans.{lines_below}
 use Rattle.mql_types.specs.Nodes.{node_tree}
 use Rattle.mql_types.proofs.explanations.op_levels.Given as goal
 

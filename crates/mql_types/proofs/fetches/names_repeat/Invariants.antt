@@ -1,7 +1,7 @@
 -- No name so far stands twice, and those names are taken.
 use Rattle.std.proofs.Common.{◌≡◌, drop}
 use Rattle.mon_schema.specs.Faults.{texts_repeat}
-use Rattle.mon_value.specs.Columns.{column_names}
+use Rattle.mon_value.specs.Tables.{column_names}
 use Rattle.mql_types.proofs.ColumnNameLemmas.{repeats_behind}
 use Rattle.mql_types.proofs.fetches.names_repeat.Given as goal
 

@@ -2,7 +2,7 @@
 use Rattle.std.proofs.Common.{◌≡◌}
 use Rattle.mql_ast.specs.Trees.{predicate_tree}
 use Rattle.mql_types.specs.Faults.{first_with}
-use Rattle.mql_types.specs.Filters.{predicate_faults}
+use Rattle.mql_types.specs.Fetches.{predicate_faults}
 use Rattle.mql_types.specs.PredicateParts.{remaining_faults, remaining_nodes}
 use Rattle.mql_types.proofs.filters.tell_parts.Given as goal
 

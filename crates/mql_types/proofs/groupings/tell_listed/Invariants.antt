@@ -2,7 +2,7 @@
 use Rattle.std.proofs.Common.{◌≡◌, drop}
 use Rattle.std.specs.List.{flat_map}
 use Rattle.mql_types.specs.Faults.{first_with}
-use Rattle.mql_types.specs.Filters.{unknown_faults}
+use Rattle.mql_types.specs.Fetches.{unknown_faults}
 use Rattle.mql_types.proofs.groupings.tell_listed.Given as goal
 
 abbrev pub invariant-loop-name : goal.invariant-loop-name

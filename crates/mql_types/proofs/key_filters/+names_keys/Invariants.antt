@@ -2,7 +2,7 @@
 use Rattle.std.proofs.Common.{◌≡◌, ◌≤◌}
 use Rattle.mql_ast.specs.Trees.{predicate_tree}
 use Rattle.mql_ast.specs.PredicateParts.{nodes}
-use Rattle.mql_types.specs.Loads.{names_keys}
+use Rattle.mql_types.specs.Meaning.{names_keys}
 use Rattle.mql_types.proofs.key_filters.+names_keys.Given as goal
 
 abbrev pub decreases-names_keys : goal.decreases-names_keys

@@ -5,7 +5,7 @@ use Rattle.mon_config.specs.declared.config.Config.{Config}
 use Rattle.mon_script.specs.declared.forms.LineForm.TheVariants as form
 use Rattle.part_runs.specs.PartsDone.{AloneDid}
 use Rattle.part_runs.proofs.StandLemmas.{stand_answers}
-use Rattle.standing.specs.Adding.{add_fault}
+use Rattle.standing.specs.DueLists.{add_fault}
 use Rattle.part_runs.proofs.alone.stand.Goals as goal
 
 pub returns-clause-ran : goal.returns-clause-ran

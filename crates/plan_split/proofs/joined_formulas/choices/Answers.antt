@@ -1,6 +1,6 @@
 use Rattle.std.proofs.Common.{◌∙◌, ap, sym}
 use Rattle.mon_hints.specs.Formulas.{formula_tree}
-use Rattle.plan_split.specs.JoinedFormulas.{choices}
+use Rattle.plan_split.specs.FetchFormulas.{choices}
 use Rattle.plan_split.proofs.JoinedLemmas.{choices-Or}
 use Rattle.plan_split.proofs.joined_formulas.choices.Goals as goal
 

@@ -1,6 +1,6 @@
 use Rattle.std.proofs.Common.{◌∙◌, ap, sym}
 use Rattle.mon_hints.specs.Formulas.{formula_tree}
-use Rattle.plan_split.specs.JoinedFormulas.{wanted_formulas}
+use Rattle.plan_split.specs.FetchFormulas.{wanted_formulas}
 use Rattle.plan_split.proofs.JoinedLemmas.{wanted_formulas-And}
 use Rattle.plan_split.proofs.joined_formulas.wanted.Goals as goal
 

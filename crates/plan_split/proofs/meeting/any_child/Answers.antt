@@ -2,7 +2,7 @@ use Rattle.std.proofs.Common.{◌≡◌, ◌∙◌, ◌+◌, ◌∷◌, List, ap
 use Rattle.std.proofs.lemmas.List.{drop_more}
 use Rattle.mon_hints.proofs.MaskLemmas.{AnyLeft, any_step}
 use Rattle.mon_hints.specs.Formulas.{any_holds, formula_tree, formulas, holds}
-use Rattle.mon_hints.specs.Words.{buckets_of_child}
+use Rattle.mon_hints.specs.Hints.{buckets_of_child}
 use Rattle.mon_hints.specs.declared.formulas.Formula.{Formula}
 use Rattle.plan_split.proofs.meeting.any_child.Goals as goal
 

@@ -1,7 +1,7 @@
 -- the children that were found, with those that the formulas to come let in
 use Rattle.std.proofs.Common.{drop, map}
 use Rattle.mon_hints.specs.Formulas.{any_holds, formula_tree, formulas}
-use Rattle.mon_hints.specs.Words.{buckets_of_child}
+use Rattle.mon_hints.specs.Hints.{buckets_of_child}
 use Rattle.mon_hints.proofs.MaskLemmas.{AnyLeft}
 use Rattle.plan_split.proofs.meeting.any_child.Given as goal
 

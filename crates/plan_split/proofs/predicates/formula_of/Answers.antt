@@ -2,8 +2,8 @@ use Rattle.std.proofs.Common.{◌≡◌, Result, Ok, Err, IfOk, sym, subst}
 use Rattle.mon_hints.specs.Formulas.{FormulaTree, formula_tree}
 use Rattle.mon_hints.specs.declared.formulas.Formula.{Formula}
 use Rattle.mql_ast.specs.Trees.{predicate_tree}
-use Rattle.plan_split.specs.PredicateFormulas.{predicate_formula}
-use Rattle.plan_split.specs.Promises.{HoldsWhereTrue}
+use Rattle.plan_split.specs.FetchFormulas.{predicate_formula}
+use Rattle.plan_split.specs.Meeting.{HoldsWhereTrue}
 use Rattle.plan_split.proofs.PredicateLemmas.{predicate_promise}
 use Rattle.plan_split.proofs.predicates.formula_of.Goals as goal
 

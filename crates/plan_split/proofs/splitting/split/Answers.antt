@@ -3,7 +3,7 @@ use Rattle.mon_hints.specs.Formulas.{FormulaTree, formula_tree}
 use Rattle.mql_types.proofs.FetchColumnLemmas.{fetches_have_columns}
 use Rattle.mql_types.specs.Nodes.{node_tree, typed_tree}
 use Rattle.mql_types.specs.Plans.{fetches}
-use Rattle.plan_split.specs.Promises.{AllHoldWhereMet}
+use Rattle.plan_split.specs.Meeting.{AllHoldWhereMet}
 use Rattle.plan_split.proofs.FetchLemmas.{fetches_promise}
 use Rattle.plan_split.proofs.PlanBuckets.{plan_below}
 use Rattle.plan_split.proofs.splitting.split.Goals as goal

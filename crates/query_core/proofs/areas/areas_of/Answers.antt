@@ -2,7 +2,7 @@ use Rattle.std.proofs.Common.{rules, ◌≡◌, ◌∙◌, ◌≤◌, ◌++◌, 
 use Rattle.std.proofs.lemmas.List.FromFn.{map-range_with_len_more}
 use Rattle.std.specs.List.{AllByRecursion, range_with_len}
 use Rattle.query_core.specs.declared.areas.Area.{Area}
-use Rattle.query_core.specs.Areas.{IsSmall, area_of, areas_of}
+use Rattle.query_core.specs.Rounds.{IsSmall, area_of, areas_of}
 use Rattle.query_core.proofs.AreaLemmas.{all_small, few_areas}
 use Rattle.query_core.proofs.areas.areas_of.Goals as goal
 

@@ -1,7 +1,7 @@
 -- the zones so far
 use Rattle.std.proofs.Common.{◌≡◌, map}
 use Rattle.std.specs.List.{range_with_len}
-use Rattle.query_core.specs.Areas.{area_of}
+use Rattle.query_core.specs.Rounds.{area_of}
 use Rattle.query_core.proofs.areas.areas_of.Given as goal
 
 abbrev pub invariant-loop-number : goal.invariant-loop-number

@@ -2,8 +2,7 @@ use Rattle.std.proofs.Common.{◌∙◌, ◌++◌, ◌∷◌, ℕ, List, [], ap,
 use Rattle.std.proofs.lemmas.List.FromFn.{map-range_with_len_more}
 use Rattle.std.specs.List.{range_with_len}
 use Rattle.mon_value.specs.declared.positions.RangeSlot.{RangeSlot}
-use Rattle.query_core.specs.Areas.{leaf_at}
-use Rattle.query_core.specs.Rounds.{slots_on}
+use Rattle.query_core.specs.Rounds.{leaf_at, slots_on}
 use Rattle.query_core.proofs.rounds.no_slots.Goals as goal
 
 pub loop-leaf-preserved : goal.loop-leaf-preserved

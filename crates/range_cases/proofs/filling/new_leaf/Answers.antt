@@ -1,7 +1,7 @@
 use Rattle.std.proofs.Common.{ap, ◌∙◌}
 use Rattle.leaf_store.specs.LeafStates as store
-use Rattle.mon_schema.specs.SchemaLists.{SchemaLists}
-use Rattle.mon_value.specs.Positions.{leaf_numbered}
+use Rattle.mon_schema.specs.Names.{SchemaLists}
+use Rattle.mon_value.specs.Histories.{leaf_numbered}
 use Rattle.raise_table.specs.Places.{zone_leaf}
 use Rattle.range_cases.proofs.OpeningLemmas.{is_of_leaf, nothing_seen, nothing_sight, nothing_sound, rests_there}
 use Rattle.range_cases.proofs.filling.new_leaf.Goals as goal

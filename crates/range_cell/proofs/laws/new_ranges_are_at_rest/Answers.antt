@@ -5,7 +5,7 @@ use Rattle.history_book.proofs.HistoryLemmas.{none_at}
 use Rattle.history_book.specs.Histories.{empty_histories}
 use Rattle.history_book.specs.Seats.{times_range}
 use Rattle.mon_value.specs.LeafHistories.{is_opened}
-use Rattle.mon_value.specs.Positions.{same_range}
+use Rattle.mon_value.specs.Histories.{same_range}
 use Rattle.mon_value.specs.declared.histories.RangeEntry.{RangeEntry}
 use Rattle.mon_value.specs.declared.positions.Range.{Range}
 use Rattle.range_cell.specs.Rest.{HaveJust, others}

@@ -1,6 +1,6 @@
 use Rattle.std.proofs.Common.{◌≡◌, ◌∙◌, length, take, sym}
 use Rattle.std.proofs.lemmas.List.{length-take-le}
-use Rattle.mon_topo.specs.FirstHistories.{openings_from}
+use Rattle.mon_topo.specs.HeldHistories.{openings_from}
 use Rattle.range_cell.proofs.FirstReplicaLemmas.{first_serves, length-openings}
 use Rattle.range_cell.proofs.new_ranges.openings_sight.Goals as goal
 

@@ -1,7 +1,7 @@
 use Rattle.std.proofs.Common.{◌≡◌, ◌∙◌, ◌++◌, ◌∷◌, [], Some, ap, get_or, slice_get, take, arith, refl}
 use Rattle.std.proofs.lemmas.List.{take_all}
 use Rattle.mon_topo.proofs.FirstOpenings.{item_at}
-use Rattle.mon_topo.specs.FirstHistories.{openings_from, slot_numbered}
+use Rattle.mon_topo.specs.HeldHistories.{openings_from, slot_numbered}
 use Rattle.mon_value.specs.declared.histories.RangeEntry.TheVariants as entry
 use Rattle.mon_value.specs.declared.positions.Leaf.{Leaf}
 use Rattle.range_cell.proofs.FirstReplicaLemmas.{next_opening}

@@ -1,6 +1,6 @@
 use Rattle.std.proofs.Common.{rules, ◌≡◌, ◌∙◌, ℤ, to_z, of_z, w64, refl, sym, subst}
 use Rattle.query_core.specs.Program.{ask_of}
-use Rattle.query_core.specs.Settings.{QuerySetting}
+use Rattle.query_core.specs.Rounds.{QuerySetting}
 use Rattle.query_core.specs.declared.asks.Ask.TheVariants as ask
 use Rattle.running_query.proofs.EndLemmas.{AreEndsRight, begun, ends_rightly}
 use Rattle.running_query.proofs.FunctionLemmas.{on_at}

@@ -1,5 +1,5 @@
 use Rattle.std.proofs.Common.{rules, ◌≡◌, ◌∙◌, ℤ, to_z, of_z, w64, ap}
-use Rattle.mon_value.specs.Sorting.{sorted_list}
+use Rattle.mon_value.specs.Order.{sorted_list}
 use Rattle.standing.specs.DueLists.{due_marks, mark_cmp}
 use Rattle.standing.proofs.MarkLemmas.{marks_sorted}
 use Rattle.standing.proofs.marks.due_marks.Goals as goal

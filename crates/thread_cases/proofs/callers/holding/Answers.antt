@@ -1,5 +1,5 @@
 use Rattle.std.proofs.Common.{ap, ◌∙◌}
-use Rattle.mon_value.specs.Positions.{range_numbered}
+use Rattle.mon_value.specs.Histories.{range_numbered}
 use Rattle.history_book.specs.Seats.{guest_purse}
 use Rattle.thread_cases.proofs.CallerLemmas.{holds_first}
 use Rattle.thread_cases.proofs.callers.holding.Goals as goal

@@ -1,5 +1,5 @@
 use Rattle.std.proofs.Common.{ap, ◌∙◌}
-use Rattle.mon_value.specs.Positions.{range_numbered}
+use Rattle.mon_value.specs.Histories.{range_numbered}
 use Rattle.thread_cases.proofs.HistoryLemmas.{holds_own}
 use Rattle.thread_cases.proofs.histories.holding.Goals as goal
 

@@ -1,4 +1,4 @@
-use Rattle.mon_value.specs.Positions.{leaf_numbered, range_numbered}
+use Rattle.mon_value.specs.Histories.{leaf_numbered, range_numbered}
 use Rattle.thread_cases.proofs.HistoryLemmas.{still_has_room, still_held}
 use Rattle.thread_cases.proofs.histories.opened_in.Goals as goal
 

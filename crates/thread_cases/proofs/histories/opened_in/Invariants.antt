@@ -1,7 +1,7 @@
 use Rattle.std.specs.Prelude.{[]}
 use Rattle.mon_value.specs.declared.histories.Entry.TheVariants as entry
 use Rattle.history_book.specs.declared.views.BookEntry.TheVariants as one
-use Rattle.mon_value.specs.Positions.{range_numbered}
+use Rattle.mon_value.specs.Histories.{range_numbered}
 use Rattle.thread_cases.proofs.histories.opened_in.Given as goal
 
 abbrev pub ghosts-append_opened : goal.ghosts-append_opened

@@ -1,6 +1,6 @@
 use Rattle.std.proofs.Common.{◌≡◌, ◌∙◌, sym, true}
 use Rattle.mon_topo.proofs.SharedZoneLemmas.{shared_zone}
-use Rattle.mon_topo.specs.SharedZones.{share_zone}
+use Rattle.mon_topo.specs.Zones.{share_zone}
 use Rattle.weave_core.proofs.lines.recover_form.Goals as goal
 
 pub returns-then-share_zone-clause-lawful : goal.returns-then-share_zone-clause-lawful

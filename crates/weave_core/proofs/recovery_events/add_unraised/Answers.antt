@@ -1,5 +1,5 @@
 use Rattle.std.proofs.Common.{rules}
-use Rattle.leaf_store.specs.LeafBuckets.{is_unraised}
+use Rattle.leaf_store.specs.LeafStates.{is_unraised}
 use Rattle.mon_hints.specs.BucketSets.{is_set}
 use Rattle.weave_core.proofs.RecoveryBuckets.{wanted_all, wanted_first, wanted_next}
 use Rattle.weave_core.proofs.recovery_events.add_unraised.Goals as goal

@@ -2,7 +2,7 @@ use Rattle.std.proofs.Common.{◌≡◌, ◌∙◌, ◌∷◌, [], ap, length, m
 use Rattle.std.proofs.lemmas.List.{map-append}
 use Rattle.std.specs.List.{range_with_len}
 use Rattle.mon_topo.specs.Zones.{ranges_in}
-use Rattle.mon_topo.specs.FirstHistories.{first_range_history}
+use Rattle.mon_topo.specs.HeldHistories.{first_range_history}
 use Rattle.weave_core.proofs.OpeningLemmas.{opened_all}
 use Rattle.mon_topo.proofs.FirstOpenings.{histories_more}
 use Rattle.weave_core.specs.Openings.{replayed}

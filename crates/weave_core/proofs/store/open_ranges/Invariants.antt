@@ -1,7 +1,7 @@
 -- the replicas of the ranges so far are opened
 use Rattle.std.proofs.Common.{◌≡◌, map}
 use Rattle.std.specs.List.{range_with_len}
-use Rattle.mon_topo.specs.FirstHistories.{first_range_history, opened_before}
+use Rattle.mon_topo.specs.HeldHistories.{first_range_history, opened_before}
 use Rattle.weave_core.specs.Openings.{AreOpenedSo, replayed}
 use Rattle.weave_core.proofs.store.open_ranges.Given as goal
 

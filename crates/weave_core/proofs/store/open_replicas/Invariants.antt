@@ -1,7 +1,7 @@
 -- the replicas in the slots so far are opened
 use Rattle.std.proofs.Common.{◌≡◌, take}
 use Rattle.mon_topo.specs.Zones.{first_replicas}
-use Rattle.mon_topo.specs.FirstHistories.{openings_from, opened_up_to}
+use Rattle.mon_topo.specs.HeldHistories.{openings_from, opened_up_to}
 use Rattle.weave_core.specs.Openings.{AreOpenedSo}
 use Rattle.weave_core.proofs.store.open_replicas.Given as goal
 

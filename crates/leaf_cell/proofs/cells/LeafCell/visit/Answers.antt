@@ -2,7 +2,7 @@ use Rattle.std.proofs.Common.{rules, ◌≡◌, ℤ, IfOk, to_z, of_z, w64, subs
 use Rattle.know.specs.declared.answers.Found.{Found}
 use Rattle.leaf_cell.proofs.PlanVisitLemmas.{Tells, finds}
 use Rattle.leaf_cell.specs.Visits.{HasVisited}
-use Rattle.mon_value.specs.Positions.{leaf_numbered}
+use Rattle.mon_value.specs.Histories.{leaf_numbered}
 use Rattle.leaf_cell.proofs.cells.LeafCell.visit.Goals as goal
 
 pub returns-clause-visited : goal.returns-clause-visited

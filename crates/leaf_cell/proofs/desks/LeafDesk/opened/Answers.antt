@@ -9,8 +9,8 @@ use Rattle.leaf_cell.proofs.RestLemmas.{rests_gone}
 use Rattle.leaf_cell.specs.Raising.{HasRaisedRow, rows_unraised}
 use Rattle.leaf_cell.specs.Rest.{GoesBy}
 use Rattle.leaf_store.specs.LeafStates as store
-use Rattle.mon_hints.specs.HistoryBuckets.{history_buckets}
-use Rattle.mon_hints.specs.Listings.{is_among}
+use Rattle.mon_hints.specs.Hints.{history_buckets}
+use Rattle.mon_hints.specs.Formulas.{is_among}
 use Rattle.mon_value.specs.Histories.{leaf_history}
 use Rattle.mon_value.specs.LeafHistories.{MayFollow, is_down, is_opened}
 use Rattle.mon_value.specs.declared.histories.Entry.{Entry}

@@ -5,10 +5,10 @@ use Rattle.history_book.specs.Seats.{HasGuestRoom, Owner, after_append, guest_pu
 use Rattle.leaf_cell.proofs.PutLemmas.{brings_unraised, holds_among}
 use Rattle.leaf_cell.proofs.RestLemmas.{rests_gone, rests_with_put}
 use Rattle.leaf_cell.specs.Raising.{HasRaisedRow}
-use Rattle.leaf_store.specs.LeafBuckets.{is_unraised}
+use Rattle.leaf_store.specs.LeafStates.{is_unraised}
 use Rattle.leaf_store.specs.LeafStates as store
-use Rattle.mon_hints.specs.HistoryBuckets.{history_buckets}
-use Rattle.mon_hints.specs.Listings.{is_among}
+use Rattle.mon_hints.specs.Hints.{history_buckets}
+use Rattle.mon_hints.specs.Formulas.{is_among}
 use Rattle.mon_value.specs.Histories.{leaf_history}
 use Rattle.mon_value.specs.LeafHistories.{MayFollow, is_down}
 use Rattle.mon_value.specs.declared.histories.Entry.{Entry}

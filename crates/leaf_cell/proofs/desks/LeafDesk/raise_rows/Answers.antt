@@ -4,7 +4,7 @@ use Rattle.know.specs.Sound.{known_bits}
 use Rattle.leaf_cell.proofs.OpenedLemmas.{lead_both, raises_both, raises_no_row, row_more}
 use Rattle.leaf_cell.specs.Raising.{HasRaisedRow, rows_unraised}
 use Rattle.leaf_cell.specs.Rest.{GoesBy}
-use Rattle.leaf_store.specs.LeafBuckets.{is_unraised}
+use Rattle.leaf_store.specs.LeafStates.{is_unraised}
 use Rattle.leaf_store.specs.LeafStates as store
 use Rattle.mon_hints.specs.Covers.{IsRaised}
 use Rattle.mon_topo.specs.Settings.{zone_of_leaf}

@@ -2,7 +2,7 @@ use Rattle.std.proofs.Common.{◌≡◌, true, rules, sym, subst}
 use Rattle.leaf_cell.proofs.OpenedLemmas.{raises_no_row}
 use Rattle.leaf_cell.specs.Raising.{HasRaisedRow}
 use Rattle.leaf_cell.specs.Rest.{GoesBy}
-use Rattle.leaf_store.specs.LeafBuckets.{is_unraised}
+use Rattle.leaf_store.specs.LeafStates.{is_unraised}
 use Rattle.leaf_store.specs.LeafStates as store
 use Rattle.mon_value.specs.declared.rows.SeriesKey.{SeriesKey}
 use Rattle.leaf_cell.proofs.desks.LeafDesk.raise_unknown.Goals as goal

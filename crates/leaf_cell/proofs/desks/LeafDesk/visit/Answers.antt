@@ -1,7 +1,7 @@
 use Rattle.std.proofs.Common.{ℕ, List, sym, ap, subst, ◌∙◌}
 use Rattle.history_book.specs.declared.rooms.RoomMove.TheVariants as move
 use Rattle.leaf_cell.proofs.VisitLemmas.{reads_up}
-use Rattle.leaf_store.specs.LeafBuckets.{key_buckets}
+use Rattle.leaf_store.specs.LeafStates.{key_buckets}
 use Rattle.leaf_store.specs.LeafStates as store
 use Rattle.mon_value.specs.LeafHistories.{is_down}
 use Rattle.mon_value.specs.declared.rows.SeriesKey.{SeriesKey}

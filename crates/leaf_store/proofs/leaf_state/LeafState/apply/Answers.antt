@@ -4,12 +4,11 @@ use Rattle.std.specs.List.{count_by}
 use Rattle.std.specs.Vec.{vec_len}
 use Rattle.std.proofs.lemmas.List.{drop-append-le, length-append}
 use Rattle.mon_hints.specs.BucketSets.{is_set}
-use Rattle.mon_hints.specs.Listings.{is_among}
+use Rattle.mon_hints.specs.Formulas.{is_among}
 use Rattle.mon_value.specs.LeafHistories.{IsWellFormed, is_down, is_switch}
 use Rattle.mon_value.specs.declared.histories.Entry.{Entry}
-use Rattle.mon_hints.specs.HistoryBuckets.{history_buckets}
-use Rattle.leaf_store.specs.LeafBuckets.{key_buckets}
-use Rattle.leaf_store.specs.LeafStates.{LeafView}
+use Rattle.mon_hints.specs.Hints.{history_buckets}
+use Rattle.leaf_store.specs.LeafStates.{key_buckets, LeafView}
 use Rattle.leaf_store.specs.within.Replicas.{IsInTwoParts, shown_entries}
 use Rattle.leaf_store.specs.within.States.{AllSwitches, history_inside, left_of}
 use Rattle.leaf_store.proofs.KnownLemmas.{holds_buckets}

@@ -1,11 +1,10 @@
 use Rattle.std.proofs.Common.{rules, ◌≡◌, ◌∙◌, List, true, false, refl, ap, subst}
 use Rattle.std.specs.Prelude.{is_some}
-use Rattle.mon_hints.specs.HistoryBuckets.{history_buckets}
-use Rattle.mon_hints.specs.Listings.{is_among}
-use Rattle.mon_value.specs.Sources.{last_end, points_of}
+use Rattle.mon_hints.specs.Hints.{history_buckets}
+use Rattle.mon_hints.specs.Formulas.{is_among}
+use Rattle.mon_value.specs.LeafHistories.{last_end, points_of}
 use Rattle.mon_value.specs.declared.rows.Row.{Row}
-use Rattle.leaf_store.specs.LeafBuckets.{is_unraised, key_buckets}
-use Rattle.leaf_store.specs.LeafStates.{LeafView}
+use Rattle.leaf_store.specs.LeafStates.{is_unraised, key_buckets, LeafView}
 use Rattle.leaf_store.specs.within.Replicas.{HoldsHistory, shown_entries}
 use Rattle.leaf_store.specs.within.States.{history_inside, left_of}
 use Rattle.leaf_store.proofs.FollowLemmas.{settled_holds}

@@ -1,5 +1,5 @@
 use Rattle.std.proofs.Common.{rules, ◌≡◌, ◌∙◌, List, Some, true, ap, subst, to_z, of_z, w64}
-use Rattle.mon_value.specs.Sources.{last_end, points_of}
+use Rattle.mon_value.specs.LeafHistories.{last_end, points_of}
 use Rattle.mon_value.specs.declared.rows.Row.{Row}
 use Rattle.leaf_store.specs.LeafStates.{LeafView}
 use Rattle.leaf_store.specs.within.Replicas.{HoldsHistory, shown_entries}

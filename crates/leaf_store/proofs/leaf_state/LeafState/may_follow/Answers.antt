@@ -1,7 +1,6 @@
 use Rattle.std.proofs.Common.{◌++◌, ◌∷◌, [], sym, subst}
 use Rattle.mon_value.proofs.LeafHistoryLemmas.{IsWellFormed-push}
-use Rattle.mon_value.specs.LeafHistories.{IsWellFormed, MayFollow, brought_rows}
-use Rattle.mon_value.specs.Sources.{IsSource}
+use Rattle.mon_value.specs.LeafHistories.{IsWellFormed, MayFollow, brought_rows, IsSource}
 use Rattle.mon_value.specs.declared.histories.Entry.{Entry}
 use Rattle.mon_value.specs.declared.histories.Entry.TheVariants as entry
 use Rattle.leaf_store.proofs.leaf_state.LeafState.may_follow.Goals as goal

@@ -2,13 +2,12 @@ use Rattle.std.proofs.Common.{◌≡◌, ◌∙◌, ◌≤◌, ◌+◌, ◌++◌
 use Rattle.std.proofs.Common.{subst}
 use Rattle.std.specs.List.{count_by}
 use Rattle.mon_hints.specs.BucketSets.{is_set}
-use Rattle.mon_hints.specs.HistoryBuckets.{history_buckets, rows_buckets}
-use Rattle.mon_hints.specs.Listings.{is_among}
+use Rattle.mon_hints.specs.Hints.{history_buckets, rows_buckets}
+use Rattle.mon_hints.specs.Formulas.{is_among}
 use Rattle.mon_value.specs.LeafHistories.{IsWellFormed, is_down, is_switch}
 use Rattle.mon_value.specs.declared.histories.Entry.{Entry}
 use Rattle.mon_value.specs.declared.histories.Entry.TheVariants as entry
-use Rattle.leaf_store.specs.LeafBuckets.{key_buckets}
-use Rattle.leaf_store.specs.LeafStates.{LeafView, leaf_with_put}
+use Rattle.leaf_store.specs.LeafStates.{key_buckets, LeafView, leaf_with_put}
 use Rattle.leaf_store.specs.declared.kept.Kept.{Kept}
 use Rattle.leaf_store.specs.declared.kept.Kept.TheVariants as kept
 use Rattle.leaf_store.specs.declared.replicas.Replica.{Replica}

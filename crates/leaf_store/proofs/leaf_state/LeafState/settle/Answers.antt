@@ -1,10 +1,10 @@
 use Rattle.std.proofs.Common.{◌≡◌, ◌∙◌, ◌≤◌, ◌+◌, ◌++◌, List, length, drop, sym, ap, subst}
 use Rattle.std.specs.List.{count_by}
-use Rattle.mon_hints.specs.Listings.{is_among}
+use Rattle.mon_hints.specs.Formulas.{is_among}
 use Rattle.mon_value.specs.LeafHistories.{is_down, is_switch}
 use Rattle.mon_value.specs.declared.histories.Entry.{Entry}
-use Rattle.mon_hints.specs.HistoryBuckets.{history_buckets}
-use Rattle.leaf_store.specs.LeafBuckets.{key_buckets}
+use Rattle.mon_hints.specs.Hints.{history_buckets}
+use Rattle.leaf_store.specs.LeafStates.{key_buckets}
 use Rattle.leaf_store.specs.within.Replicas.{IsInTwoParts, shown_entries}
 use Rattle.leaf_store.specs.within.States.{history_inside}
 use Rattle.leaf_store.proofs.StateLemmas.{later_switches}

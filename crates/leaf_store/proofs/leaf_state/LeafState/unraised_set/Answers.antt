@@ -1,7 +1,6 @@
 use Rattle.std.proofs.Common.{◌∙◌, ◌<◌, ℕ, not, ◌&&◌, sym, ap, subst}
 use Rattle.leaf_store.proofs.BucketLemmas.{unraised_below}
-use Rattle.leaf_store.specs.LeafBuckets.{is_unraised}
-use Rattle.leaf_store.specs.LeafStates.{LeafView}
+use Rattle.leaf_store.specs.LeafStates.{is_unraised, LeafView}
 use Rattle.leaf_store.specs.within.States.{history_inside}
 use Rattle.leaf_store.proofs.leaf_state.LeafState.unraised_set.Goals as goal
 

@@ -1,7 +1,7 @@
 use Rattle.std.proofs.Common.{rules, ◌≡◌, ◌∙◌, List, Some, true, slice_get, sym, ap, subst}
 use Rattle.mon_value.proofs.SameLemmas.{eq-same_series, same_series-Decides}
 use Rattle.mon_value.specs.Same.{same_series}
-use Rattle.mon_value.specs.Sources.{last_end, points_of, series_of}
+use Rattle.mon_value.specs.LeafHistories.{last_end, points_of, series_of}
 use Rattle.mon_value.specs.declared.rows.Row.{Row}
 use Rattle.leaf_store.proofs.GuessLemmas.{guessed_series, if_any, if_some_is}
 use Rattle.leaf_store.proofs.slot_rows.SlotRows.guessed.Goals as goal

@@ -1,5 +1,5 @@
 use Rattle.std.proofs.Common.{◌≡◌, [], true, length, ap, arith}
-use Rattle.mon_value.specs.Aggregates.{counts_added}
+use Rattle.mon_value.specs.Groups.{counts_added}
 use Rattle.mon_value.proofs.CountsLemmas.{length-counts_added, counts_added-nil}
 use Rattle.mon_value.proofs.CountsPartLemmas.{counts_added_one, or-comm}
 use Rattle.mon_fold.specs.CountsSoFar.{CountsSoFar}

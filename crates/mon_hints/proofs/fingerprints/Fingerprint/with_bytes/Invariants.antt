@@ -1,6 +1,6 @@
 -- The fingerprint so far, behind which the other bytes come.
 use Rattle.std.proofs.Common.{◌≡◌, drop}
-use Rattle.mon_hints.specs.Fingerprints.{with_bytes}
+use Rattle.mon_hints.specs.Hints.{with_bytes}
 use Rattle.mon_hints.proofs.fingerprints.Fingerprint.with_bytes.Given as goal
 
 abbrev pub invariant-loop-byte : goal.invariant-loop-byte

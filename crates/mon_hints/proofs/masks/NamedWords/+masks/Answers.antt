@@ -1,7 +1,7 @@
 use Rattle.std.proofs.Common.{◌≡◌, ◌+◌, ◌∷◌, List, drop, map, sym, ap, ◌∙◌, subst, arith}
 use Rattle.std.proofs.lemmas.List.{drop_more}
 use Rattle.mon_hints.specs.Formulas.{All, FormulaTree, all_hold, any_holds, formula_tree, formulas, holds}
-use Rattle.mon_hints.specs.Words.{IsMask, buckets_of_child}
+use Rattle.mon_hints.specs.Hints.{IsMask, buckets_of_child}
 use Rattle.mon_hints.specs.declared.formulas.Formula.{Formula}
 use Rattle.mon_hints.proofs.FormulaLemmas.{and_seen, or_seen}
 use Rattle.mon_hints.proofs.MaskLemmas.{AllLeft, AnyLeft, all_begin, all_step, any_step, mask_of_every}

@@ -1,7 +1,7 @@
 -- The children that are left or found, with what the formulas to come say.
 use Rattle.std.proofs.Common.{drop, map}
 use Rattle.mon_hints.specs.Formulas.{all_hold, any_holds, formula_tree, formulas}
-use Rattle.mon_hints.specs.Words.{buckets_of_child}
+use Rattle.mon_hints.specs.Hints.{buckets_of_child}
 use Rattle.mon_hints.proofs.MaskLemmas.{AllLeft, AnyLeft}
 use Rattle.mon_hints.proofs.masks.NamedWords.+masks.Given as goal
 

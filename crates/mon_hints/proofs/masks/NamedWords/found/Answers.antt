@@ -2,7 +2,7 @@ use Rattle.std.proofs.Common.{inl, inr, sym, ap, ◌∙◌, arith}
 use Rattle.std.proofs.lemmas.Bool.{cases_lt}
 use Rattle.std.proofs.lemmas.List.Kept.{AllPairs-from_increasing}
 use Rattle.std.proofs.lemmas.List.Sorted.{searched}
-use Rattle.mon_hints.specs.Words.{has_bit}
+use Rattle.mon_hints.specs.Hints.{has_bit}
 use Rattle.mon_hints.proofs.MaskLemmas.{mask_of_none}
 use Rattle.mon_hints.proofs.WordLemmas.{absent, present, rising_weakly}
 use Rattle.mon_hints.proofs.masks.NamedWords.found.Goals as goal

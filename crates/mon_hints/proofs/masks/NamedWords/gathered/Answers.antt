@@ -1,8 +1,8 @@
 use Rattle.std.proofs.lemmas.Slice.Zip.{Zip-more, either_empty_from_Zip}
 use Rattle.std.specs.Iterator.Adapters.{zip_first, zip_second}
 use Rattle.std.specs.Slice.Iter.{iter_rest}
-use Rattle.mon_hints.specs.Listings.{is_among}
-use Rattle.mon_hints.specs.Words.{buckets_of_child}
+use Rattle.mon_hints.specs.Formulas.{is_among}
+use Rattle.mon_hints.specs.Hints.{buckets_of_child}
 use Rattle.mon_hints.proofs.WordLemmas.{all_gathered, more_gathered}
 use Rattle.mon_hints.proofs.masks.NamedWords.gathered.Goals as goal
 

@@ -1,8 +1,8 @@
 -- The children that were found, with those of the buckets to come.
 use Rattle.std.specs.Iterator.Adapters.{zip_first, zip_second}
 use Rattle.std.specs.Slice.Iter.{iter_rest}
-use Rattle.mon_hints.specs.Listings.{is_among}
-use Rattle.mon_hints.specs.Words.{buckets_of_child}
+use Rattle.mon_hints.specs.Formulas.{is_among}
+use Rattle.mon_hints.specs.Hints.{buckets_of_child}
 use Rattle.mon_hints.proofs.MaskLemmas.{AnyLeft}
 use Rattle.mon_hints.proofs.masks.NamedWords.gathered.Given as goal
 

@@ -2,7 +2,7 @@ use Rattle.std.proofs.Common.{◌≡◌, ◌∙◌, List, sym, ap, subst}
 use Rattle.mon_expr.specs.BoundPredicates.{IsBoundPredicate}
 use Rattle.mon_value.specs.declared.columns.Column.{Column}
 use Rattle.mql_ast.specs.Trees.{predicate_tree}
-use Rattle.mql_types.specs.Loads.{names_keys}
+use Rattle.mql_types.specs.Meaning.{names_keys}
 use Rattle.mql_types.specs.Nodes as node
 use Rattle.mql_types.specs.Nodes.{NodeTree, node_tree}
 use Rattle.mon_meaning.proofs.FilterSteps.{Remains, moved, with_points, with_series}

@@ -1,7 +1,7 @@
 use Rattle.std.proofs.Common.{◌∷◌, [], List, ℕ, refl, subst}
 use Rattle.std.proofs.lemmas.Result.{err_from_is_err_and}
 use Rattle.mon_run.specs.Endings.{Did, Progress}
-use Rattle.mon_run.specs.Folders.{Told}
+use Rattle.mon_run.specs.Outside.{Told}
 use Rattle.mon_run.specs.Steps.{Ask}
 use Rattle.mon_run.specs.declared.stop.Stop.{Stop}
 use Rattle.mon_run.specs.within.Lines.{FileStops}

@@ -1,6 +1,6 @@
 -- the files of the lines so far were read
 use Rattle.std.proofs.Common.{◌≡◌, drop, length}
-use Rattle.mon_run.specs.Folders.{Told}
+use Rattle.mon_run.specs.Outside.{Told}
 use Rattle.mon_run.specs.within.Stops.{Continues, seen}
 use Rattle.mon_run.proofs.ReadingLemmas.{ReadTo}
 use Rattle.mon_run.proofs.runs.Run.contents.Given as goal

@@ -1,6 +1,6 @@
 use Rattle.std.proofs.Common.{◌∙◌, List, ℕ, None, ap, refl, sym, subst}
 use Rattle.mon_run.specs.Endings.{Progress}
-use Rattle.mon_run.specs.Folders.{Told, content_of}
+use Rattle.mon_run.specs.Outside.{Told, content_of}
 use Rattle.mon_run.specs.Plans.{came}
 use Rattle.mon_run.specs.within.Lines.{NamedTells}
 use Rattle.mon_run.specs.within.Stops.{Halts, HasRead, named_plan, noted, seen}

@@ -1,7 +1,6 @@
 use Rattle.std.proofs.Common.{◌∙◌, None, ap}
-use Rattle.mon_run.specs.Endings.{Progress}
+use Rattle.mon_run.specs.Endings.{Progress, CommandTells}
 use Rattle.mon_run.specs.Plans.{Command, IsWovenBy, came, command}
-use Rattle.mon_run.specs.Tellings.{CommandTells}
 use Rattle.mon_run.specs.within.Stops.{files_plan, noted, seen}
 use Rattle.std.proofs.lemmas.Result.{err_from_is_err_and}
 use Rattle.mon_run.proofs.RunLemmas.{files_weave, none_noted, weaves_stopped}

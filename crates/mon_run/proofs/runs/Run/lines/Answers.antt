@@ -18,7 +18,7 @@ use Rattle.mon_run.proofs.LineLemmas.{all_ran_to, lines_halt, ran_further, ran_t
 use Rattle.mon_run.proofs.RunLemmas.{handed_on}
 use Rattle.mon_run.proofs.runs.Run.lines.Goals as goal
 use Rattle.part_runs.specs.PartsDone.{CanSplit}
-use Rattle.standing.specs.StandingStates.{standing_state}
+use Rattle.standing.specs.DueLists.{standing_state}
 
 pub loop-line-init : goal.loop-line-init
 loop-line-init g c = record {

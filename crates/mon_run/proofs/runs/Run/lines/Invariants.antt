@@ -9,7 +9,7 @@ use Rattle.mon_run.specs.within.Lines.{LinesRanTo}
 use Rattle.mon_run.specs.within.Stops.{Continues, seen}
 use Rattle.mon_run.proofs.runs.Run.lines.Given as goal
 use Rattle.part_runs.specs.PartsDone.{CanSplit}
-use Rattle.standing.specs.StandingStates.{standing_state}
+use Rattle.standing.specs.DueLists.{standing_state}
 
 abbrev pub invariant-loop-line : goal.invariant-loop-line
 invariant-loop-line g l = record {

@@ -1,15 +1,13 @@
 use Rattle.std.proofs.Common.{rules, ◌≡◌, ◌∙◌, Ok, Err, Some, Option, length, ap, sym, subst}
 use Rattle.mon_config.specs.declared.config.Config.{Config}
-use Rattle.mon_run.specs.Endings.{Progress}
-use Rattle.mon_run.specs.Tellings.{seen_by}
+use Rattle.mon_run.specs.Endings.{Progress, seen_by}
 use Rattle.mon_run.specs.within.Lines.{AllRanLines, LinesHalt, ScriptEnds}
 use Rattle.mon_run.specs.within.Stops.{noted, seen}
 use Rattle.mon_run.proofs.DueLemmas.{dues_then}
 use Rattle.mon_run.proofs.EndingLemmas.{first_leaves, first_ranges, script_done, script_halted}
 use Rattle.mon_run.proofs.NumberLemmas.{every_first, split_first}
 use Rattle.mon_store.specs.Stores.{setting_of}
-use Rattle.mon_topo.specs.FirstHistories.{first_histories}
-use Rattle.mon_topo.specs.HeldHistories.{AreHeld}
+use Rattle.mon_topo.specs.HeldHistories.{first_histories, AreHeld}
 use Rattle.mon_topo.specs.Settings.{Setting}
 use Rattle.mon_topo.specs.Zones.{leaves_in, ranges_in}
 use Rattle.mon_value.specs.declared.histories.Histories.{Histories}

@@ -2,7 +2,7 @@ use Rattle.std.proofs.Common.{◌≡◌, inl, inr, ◌<◌, ◌∷◌, [], List,
 use Rattle.std.proofs.lemmas.Bool.Decides.{nat_tests}
 use Rattle.mon_value.specs.declared.limits.TheConstants.{LONGEST_FILE}
 use Rattle.mon_run.specs.Endings.{Did, Progress, progress}
-use Rattle.mon_run.specs.Folders.{content_of}
+use Rattle.mon_run.specs.Outside.{content_of}
 use Rattle.mon_run.specs.Steps.{Ask, Miss, is_too_long}
 use Rattle.mon_run.specs.declared.stop.Stop.TheVariants as stop
 use Rattle.mon_run.specs.declared.outside.folder.FolderFault.TheVariants as fault

@@ -1,6 +1,6 @@
 use Rattle.std.proofs.Common.{ap, ◌∙◌}
 use Rattle.mon_value.specs.declared.schemas.MetricSchema.{MetricSchema}
-use Rattle.mon_schema.specs.SchemaLists.{metric_named}
+use Rattle.mon_schema.specs.Names.{metric_named}
 use Rattle.mon_schema.proofs.NamedLemmas.{lookup-first_named}
 use Rattle.mon_schema.proofs.table.Schemas.metric.Goals as goal
 

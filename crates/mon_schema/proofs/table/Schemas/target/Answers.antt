@@ -1,6 +1,6 @@
 use Rattle.std.proofs.Common.{ap, ◌∙◌}
 use Rattle.mon_value.specs.declared.schemas.TargetSchema.{TargetSchema}
-use Rattle.mon_schema.specs.SchemaLists.{target_named}
+use Rattle.mon_schema.specs.Names.{target_named}
 use Rattle.mon_schema.proofs.NamedLemmas.{lookup-first_named}
 use Rattle.mon_schema.proofs.table.Schemas.target.Goals as goal
 

@@ -1,6 +1,5 @@
 use Rattle.std.proofs.Common.{◌∙◌, subst, sym}
-use Rattle.mon_schema.specs.HeldMetrics.{AreMetricsHeld}
-use Rattle.mon_schema.specs.HeldTargets.{AllTellLocations}
+use Rattle.mon_schema.specs.Fits.{AreMetricsHeld, AllTellLocations}
 use Rattle.mon_value.specs.declared.schemas.MetricSchema.{MetricSchema}
 use Rattle.mon_value.specs.declared.schemas.TargetSchema.{TargetSchema}
 use Rattle.mon_schema.proofs.NamedEntriesLemmas.{names-named_entries, schemas-named_entries}

@@ -1,7 +1,7 @@
 use Rattle.std.proofs.Common.{rules, ◌≡◌, ◌∙◌, None, Some, position, sym, ap, to_z, of_z, w64}
 use Rattle.std.specs.Map.{keys_of, lookup}
 use Rattle.mon_value.specs.Same.{same_series}
-use Rattle.mon_value.specs.Sources.{last_end}
+use Rattle.mon_value.specs.LeafHistories.{last_end}
 use Rattle.mon_series.proofs.HeldLemmas.{held_entry, held_first, none_held, same_test}
 use Rattle.mon_series.proofs.KeptLemmas.{found_none, found_points, last_none}
 use Rattle.mon_series.proofs.kept_rows.KeptRows.find.Goals as goal

@@ -1,6 +1,6 @@
 use Rattle.std.proofs.Common.{◌≡◌, ◌∙◌, ◌+◌, List, ◌∷◌, drop, IfSome, ◌<ℤ◌, sym, ap, subst}
 use Rattle.std.proofs.lemmas.List.{drop_more}
-use Rattle.mon_value.specs.Sources.{last_end, points_of}
+use Rattle.mon_value.specs.LeafHistories.{last_end, points_of}
 use Rattle.mon_value.specs.declared.rows.Row.{Row}
 use Rattle.mon_series.proofs.SourceEnds.{source_at}
 use Rattle.mon_series.proofs.kept_rows.KeptRows.of_rows.Goals as goal

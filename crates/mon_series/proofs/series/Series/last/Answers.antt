@@ -1,6 +1,6 @@
 use Rattle.std.proofs.Common.{ap, subst, arith}
 use Rattle.std.proofs.lemmas.Grind.{common_steps}
-use Rattle.mon_value.specs.Windows.{EndsRise}
+use Rattle.mon_value.specs.Grids.{EndsRise}
 use Rattle.mon_series.specs.SeriesPoints.{SeriesPoints}
 use Rattle.mon_series.proofs.EndsRiseLemmas.{last_end_at}
 use Rattle.mon_series.proofs.series.Series.last.Goals as goal

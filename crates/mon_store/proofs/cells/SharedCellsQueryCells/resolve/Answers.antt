@@ -1,5 +1,5 @@
 use Rattle.std.proofs.Common.{ℕ, subst}
-use Rattle.mon_value.specs.Positions.{range_numbered}
+use Rattle.mon_value.specs.Histories.{range_numbered}
 use Rattle.range_cell.specs.Calls.{HasResolved}
 use Rattle.mon_store.proofs.cells.SharedCellsQueryCells.resolve.Goals as goal
 

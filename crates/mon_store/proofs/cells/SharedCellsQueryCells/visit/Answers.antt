@@ -1,7 +1,7 @@
 use Rattle.std.proofs.Common.{rules, ◌≡◌, ℕ, ℤ, subst, to_z, of_z, w64}
 use Rattle.leaf_cell.specs.PlanVisits.{FindsVisit, HasFoundSo}
 use Rattle.leaf_eval.specs.declared.visits.Visit.{Visit}
-use Rattle.mon_value.specs.Positions.{leaf_numbered}
+use Rattle.mon_value.specs.Histories.{leaf_numbered}
 use Rattle.mon_store.proofs.cells.SharedCellsQueryCells.visit.Goals as goal
 
 pub returns-clause-visited : goal.returns-clause-visited

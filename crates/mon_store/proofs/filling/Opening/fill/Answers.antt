@@ -4,9 +4,9 @@ use Rattle.history_book.specs.Seats.{IsPurseBorneOut, first_seat}
 use Rattle.know.proofs.FirstLemmas.{nothing_is_sound}
 use Rattle.know.specs.Knowledge.{Knowledge, from_seats}
 use Rattle.know.specs.Sound.{IsSound}
-use Rattle.mon_topo.specs.FirstHistories.{first_histories}
+use Rattle.mon_topo.specs.HeldHistories.{first_histories}
 use Rattle.mon_topo.specs.Settings.{Setting}
-use Rattle.mon_value.specs.Positions.{leaf_numbered}
+use Rattle.mon_value.specs.Histories.{leaf_numbered}
 use Rattle.raise_table.specs.Seats as raising
 use Rattle.mon_store.proofs.EndLemmas.{is_first, is_pass, seen_first}
 use Rattle.mon_store.proofs.StartLemmas.{begins, numbered_from}

@@ -2,8 +2,7 @@ use Rattle.std.proofs.Common.{◌≡◌, ◌<◌, ◌++◌, ◌∷◌, ℕ, List
 use Rattle.std.specs.Prelude.{option_map}
 use Rattle.history_book.specs.Seats.{times_range}
 use Rattle.history_book.specs.declared.views.Kept.{Kept}
-use Rattle.mon_topo.specs.FirstHistories.{first_range_history}
-use Rattle.mon_topo.specs.HeldHistories.{IsHeldBy}
+use Rattle.mon_topo.specs.HeldHistories.{first_range_history, IsHeldBy}
 use Rattle.mon_topo.specs.Replicas.{HasReplicas}
 use Rattle.mon_topo.specs.Settings.{Setting}
 use Rattle.mon_topo.specs.Zones.{first_replicas, ranges_in}

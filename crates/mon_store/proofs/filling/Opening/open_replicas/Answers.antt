@@ -5,7 +5,7 @@ use Rattle.std.proofs.lemmas.Option.{slice_get-get_or}
 use Rattle.history_book.specs.Seats.{times_range}
 use Rattle.leaf_cell.specs.NewLeaves.{NewLeafView}
 use Rattle.mon_topo.proofs.FirstOpenings.{item_at, replica_there}
-use Rattle.mon_topo.specs.FirstHistories.{slot_numbered}
+use Rattle.mon_topo.specs.HeldHistories.{slot_numbered}
 use Rattle.mon_topo.specs.Replicas.{HasReplicas}
 use Rattle.mon_topo.specs.Settings.{Setting}
 use Rattle.mon_topo.specs.Zones.{first_replicas, leaves_in, ranges_in}

@@ -2,7 +2,7 @@ use Rattle.std.proofs.Common.{rules, ◌≡◌, ℤ, sym, subst, to_z, of_z, w64
 use Rattle.mon_config.specs.declared.config.Config.{Config}
 use Rattle.mon_topo.specs.Settings.{Setting}
 use Rattle.query_core.specs.Machine.{Query}
-use Rattle.query_texts.specs.Plans.{IsPlanOver}
+use Rattle.query_texts.specs.TextTypes.{IsPlanOver}
 use Rattle.running_query.proofs.GoingLemmas.{same_goes}
 use Rattle.running_query.specs.Asking.{IsAskedHere}
 use Rattle.mon_store.proofs.QueryLemmas.{asked_here}

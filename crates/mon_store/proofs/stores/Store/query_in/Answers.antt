@@ -1,7 +1,6 @@
 use Rattle.std.proofs.Common.{rules, ◌≡◌, ℤ, Ok, to_z, of_z, w64, subst}
 use Rattle.mon_config.specs.declared.config.Config.{Config}
-use Rattle.query_texts.specs.Plans.{IsPlanOver, plan_type}
-use Rattle.query_texts.specs.TextTypes.{text_type}
+use Rattle.query_texts.specs.TextTypes.{IsPlanOver, plan_type, text_type}
 use Rattle.running_query.proofs.GoingLemmas.{same_goes}
 use Rattle.mon_store.proofs.QueryLemmas.{queried}
 use Rattle.mon_store.proofs.SeenTraceLemmas.{answer_seen}

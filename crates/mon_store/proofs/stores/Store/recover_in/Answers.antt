@@ -6,14 +6,12 @@ use Rattle.mon_store.proofs.RecoveredLemmas.{ended_nothing, ended_pass, ended_re
 use Rattle.mon_store.proofs.stores.Store.recover_in.Goals as goal
 use Rattle.mon_topo.proofs.FirstLemmas.{range_is}
 use Rattle.mon_topo.proofs.PartLemmas.{length-zones_of}
-use Rattle.mon_topo.specs.FirstHistories.{first_range_history}
-use Rattle.mon_topo.specs.HeldHistories.{BeginsWith}
+use Rattle.mon_topo.specs.HeldHistories.{first_range_history, BeginsWith}
 use Rattle.mon_topo.specs.RangeHistories.{IsInZoneOf}
 use Rattle.mon_topo.specs.Settings.{Setting}
 use Rattle.mon_topo.specs.Zones.{leaves_in, ranges_in}
 use Rattle.mon_topo.specs.declared.zones.ZoneSpec.{ZoneSpec}
-use Rattle.mon_value.specs.Histories.{range_history}
-use Rattle.mon_value.specs.Positions.{range_numbered}
+use Rattle.mon_value.specs.Histories.{range_history, range_numbered}
 use Rattle.mon_value.specs.declared.histories.RangeEntry.{RangeEntry}
 use Rattle.owners.specs.Puts.{pass_of}
 use Rattle.range_cell.specs.Recoveries.{HasRecovered}

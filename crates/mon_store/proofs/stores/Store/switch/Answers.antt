@@ -6,7 +6,7 @@ use Rattle.mon_store.proofs.SwitchLemmas.{ended_nothing, ended_pass, ended_refus
 use Rattle.mon_store.proofs.stores.Store.switch.Goals as goal
 use Rattle.mon_topo.specs.Settings.{Setting}
 use Rattle.mon_topo.specs.Zones.{leaves_in}
-use Rattle.mon_value.specs.Positions.{leaf_numbered}
+use Rattle.mon_value.specs.Histories.{leaf_numbered}
 use Rattle.owners.specs.Puts.{pass_of}
 
 pub leaf_cell-cell-requires : goal.leaf_cell-cell-requires

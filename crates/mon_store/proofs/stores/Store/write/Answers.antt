@@ -1,7 +1,7 @@
 use Rattle.std.proofs.Common.{◌≡◌, rules, subst, Some}
 use Rattle.std.specs.Prelude.{IfErr, IfOk, OnErr}
 use Rattle.know.specs.Knowledge.{Knowledge}
-use Rattle.mon_config.specs.KeyRanges.{range_of_key}
+use Rattle.mon_config.specs.Configs.{range_of_key}
 use Rattle.mon_config.specs.declared.config.Config.{Config}
 use Rattle.mon_store.proofs.EndedLemmas.{ended_pass, ended_refused, ended_unwritten, ended_written}
 use Rattle.mon_store.proofs.stores.Store.write.Goals as goal

@@ -1,7 +1,7 @@
 use Rattle.std.proofs.Common.{ℕ, sym, subst}
 use Rattle.know.specs.Knowledge.{Knowledge}
 use Rattle.mon_topo.specs.HeldHistories.{IsAtHome}
-use Rattle.mon_value.specs.Positions.{range_numbered}
+use Rattle.mon_value.specs.Histories.{range_numbered}
 use Rattle.mon_store.proofs.stores.Store.write_in.Goals as goal
 use Rattle.owners.specs.Puts.{pass_of}
 use Rattle.range_cell.specs.Writes.{HasWritten}

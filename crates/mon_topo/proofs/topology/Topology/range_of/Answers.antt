@@ -3,8 +3,8 @@ use Rattle.std.proofs.lemmas.List.Sorted.{IsPartitionPoint-from_clause}
 use Rattle.std.proofs.lemmas.Option.{get_or_from_slice_get}
 use Rattle.mon_topo.proofs.KeptLemmas.{range_found, range_known, range_searched, range_zoned, ranges_parted, span_kept}
 use Rattle.mon_topo.proofs.SpanLemmas.{length-spans_from}
-use Rattle.mon_topo.specs.Bounds.{is_bound_below, range_of}
-use Rattle.mon_value.specs.Positions.{range_numbered}
+use Rattle.mon_topo.specs.Locations.{is_bound_below, range_of}
+use Rattle.mon_value.specs.Histories.{range_numbered}
 use Rattle.mon_topo.specs.Zones.{no_zone, ranges_in, zone_at, IsRangeOf}
 use Rattle.mon_topo.specs.declared.zones.RangeSpec.{RangeSpec}
 use Rattle.mon_topo.specs.declared.zones.ZoneSpec.{ZoneSpec}

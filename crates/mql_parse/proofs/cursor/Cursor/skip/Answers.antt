@@ -1,6 +1,5 @@
 use Rattle.std.proofs.Common.{◌≡◌, true, ap, ◌∙◌, rules}
-use Rattle.mql_ast.specs.Bytes.{is_blank}
-use Rattle.mql_ast.specs.Rests.{head, skip}
+use Rattle.mql_ast.specs.Tokens.{is_blank, head, skip}
 use Rattle.mql_parse.specs.Outcomes.{rest_of}
 use Rattle.mql_parse.proofs.RestLemmas.{skip_on}
 use Rattle.mql_parse.proofs.cursor.Cursor.skip.Goals as goal

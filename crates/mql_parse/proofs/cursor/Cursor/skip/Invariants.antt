@@ -1,6 +1,6 @@
 -- Behind the blanks is the same place all along.
 use Rattle.std.proofs.Common.{◌≡◌, length}
-use Rattle.mql_ast.specs.Rests.{skip}
+use Rattle.mql_ast.specs.Tokens.{skip}
 use Rattle.mql_parse.specs.Outcomes.{rest_of}
 use Rattle.mql_parse.proofs.cursor.Cursor.skip.Given as goal
 

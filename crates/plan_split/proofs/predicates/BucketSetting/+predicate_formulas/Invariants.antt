@@ -4,7 +4,7 @@ use Rattle.mon_hints.specs.Formulas.{formula_tree}
 use Rattle.mql_ast.specs.PredicateParts.{nodes}
 use Rattle.mql_ast.specs.Trees.{predicate_tree}
 use Rattle.plan_split.specs.FormulaLinks.{link_nodes, linked_formula, linked_nodes}
-use Rattle.plan_split.specs.PredicateFormulas.{predicate_formula}
+use Rattle.plan_split.specs.FetchFormulas.{predicate_formula}
 use Rattle.plan_split.proofs.predicates.BucketSetting.+predicate_formulas.Given as goal
 
 abbrev pub decreases-joined : goal.decreases-joined

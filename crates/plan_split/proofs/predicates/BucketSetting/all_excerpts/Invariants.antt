@@ -1,7 +1,7 @@
 -- The formulas so far, with those of the excerpts that are left, are all.
 use Rattle.std.proofs.Common.{◌≡◌, ◌++◌, drop, map}
 use Rattle.mon_hints.specs.Formulas.{formula_tree}
-use Rattle.plan_split.specs.PredicateFormulas.{bucket_formula}
+use Rattle.plan_split.specs.FetchFormulas.{bucket_formula}
 use Rattle.plan_split.proofs.predicates.BucketSetting.all_excerpts.Given as goal
 
 abbrev pub invariant-loop-excerpt : goal.invariant-loop-excerpt

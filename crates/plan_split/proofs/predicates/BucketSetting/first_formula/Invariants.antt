@@ -3,7 +3,7 @@ use Rattle.std.proofs.Common.{◌≡◌, ◌+◌}
 use Rattle.mql_ast.specs.PredicateParts.{nodes}
 use Rattle.mql_ast.specs.Trees.{predicate_tree}
 use Rattle.plan_split.specs.FormulaLinks.{linked_formula, linked_nodes}
-use Rattle.plan_split.specs.PredicateFormulas.{predicate_formula}
+use Rattle.plan_split.specs.FetchFormulas.{predicate_formula}
 use Rattle.plan_split.proofs.predicates.BucketSetting.first_formula.Given as goal
 
 abbrev pub invariant-loop-first : goal.invariant-loop-first

@@ -1,8 +1,7 @@
 -- the leaves so far
 use Rattle.std.proofs.Common.{◌≡◌, filter, map}
 use Rattle.std.specs.List.{range_with_len}
-use Rattle.query_core.specs.Areas.{leaf_at}
-use Rattle.query_core.specs.Rounds.{is_to_visit}
+use Rattle.query_core.specs.Rounds.{leaf_at, is_to_visit}
 use Rattle.query_core.proofs.rounds.Round.leaves_to_visit.Given as goal
 
 abbrev pub invariant-loop-place : goal.invariant-loop-place

@@ -1,9 +1,8 @@
 use Rattle.std.proofs.Common.{rules, ◌≡◌, ◌∙◌, ◌-◌, ◌<◌, ℕ, List, [], true, ap, arith, get_or, length}
 use Rattle.std.proofs.lemmas.List.{get_or_read}
 use Rattle.mon_value.specs.declared.positions.RangeSlot.{RangeSlot}
-use Rattle.query_core.specs.Areas.{has_leaf}
+use Rattle.query_core.specs.Rounds.{has_leaf, slots_on}
 use Rattle.query_core.specs.Rounds as spec
-use Rattle.query_core.specs.Rounds.{slots_on}
 use Rattle.query_core.proofs.RoundLemmas.{slots_at, slots_count, within_zone}
 use Rattle.query_core.proofs.rounds.Round.slots.Goals as goal
 

@@ -1,6 +1,6 @@
 use Rattle.std.proofs.Common.{ℕ, ◌<◌, sym, subst}
 use Rattle.history_book.specs.Seats.{times_room, without_one}
-use Rattle.mon_value.specs.Positions.{leaf_numbered}
+use Rattle.mon_value.specs.Histories.{leaf_numbered}
 use Rattle.range_cases.proofs.fakes.FakeLeavesLeafSide.cancel.Goals as goal
 use Rattle.owners.specs.Calls.{HasLooked}
 

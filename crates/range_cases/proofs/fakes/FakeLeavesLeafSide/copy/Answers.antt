@@ -1,6 +1,6 @@
 use Rattle.std.proofs.Common.{ℕ, subst}
 use Rattle.std.specs.Prelude.{IfOk, OnErr}
-use Rattle.mon_value.specs.Positions.{leaf_numbered}
+use Rattle.mon_value.specs.Histories.{leaf_numbered}
 use Rattle.range_cases.proofs.fakes.FakeLeavesLeafSide.copy.Goals as goal
 use Rattle.owners.specs.Calls.{HasLooked}
 use Rattle.owners.specs.Copies.{HasCopied}

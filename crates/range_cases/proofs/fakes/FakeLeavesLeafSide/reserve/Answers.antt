@@ -1,8 +1,7 @@
 use Rattle.std.proofs.Common.{◌≡◌, ℕ, true, sym, subst}
 use Rattle.std.specs.Prelude.{IfOk, OnErr}
-use Rattle.mon_value.specs.Histories.{leaf_history}
+use Rattle.mon_value.specs.Histories.{leaf_history, leaf_numbered}
 use Rattle.mon_value.specs.LeafHistories.{is_opened}
-use Rattle.mon_value.specs.Positions.{leaf_numbered}
 use Rattle.range_cases.proofs.fakes.FakeLeavesLeafSide.reserve.Goals as goal
 use Rattle.owners.specs.Calls.{HasLooked, HasReserved}
 

@@ -1,7 +1,6 @@
 use Rattle.std.proofs.Common.{◌≡◌, ◌<◌, [], ◌∷◌, map, sym, ap, subst, ◌∙◌}
 use Rattle.history_book.specs.Seats.{times_range}
-use Rattle.mon_topo.specs.FirstHistories.{first_range_history}
-use Rattle.mon_topo.specs.HeldHistories.{IsHeldBy}
+use Rattle.mon_topo.specs.HeldHistories.{first_range_history, IsHeldBy}
 use Rattle.mon_topo.specs.Replicas.{HasReplicas}
 use Rattle.mon_topo.specs.Settings.{Setting}
 use Rattle.mon_topo.specs.Zones.{first_replicas}

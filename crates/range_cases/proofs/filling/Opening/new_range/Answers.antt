@@ -3,9 +3,8 @@ use Rattle.std.specs.Vec.Iter.{into_iter_items}
 use Rattle.history_book.proofs.HistoryLemmas.{none_at}
 use Rattle.history_book.specs.Seats.{Owner, new_owner}
 use Rattle.history_book.specs.declared.views.History.TheVariants as of
-use Rattle.mon_value.specs.Histories.{leaf_history, range_history}
+use Rattle.mon_value.specs.Histories.{leaf_history, range_history, range_numbered}
 use Rattle.mon_value.specs.LeafHistories.{is_opened}
-use Rattle.mon_value.specs.Positions.{range_numbered}
 use Rattle.range_cell.specs.Rest.{others}
 use Rattle.history_book.specs.Seats.{times_range}
 use Rattle.raise_table.specs.Seats.{no_hints}

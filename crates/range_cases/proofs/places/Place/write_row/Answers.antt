@@ -1,9 +1,9 @@
 use Rattle.std.proofs.Common.{◌≡◌, ℕ, true, rules, sym, ap, subst, ◌∙◌}
 use Rattle.mon_schema.specs.Fits.{fits}
-use Rattle.mon_schema.specs.SchemaLists.{SchemaLists}
+use Rattle.mon_schema.specs.Names.{SchemaLists}
 use Rattle.mon_topo.specs.HeldHistories.{IsAtHome}
 use Rattle.mon_topo.specs.Settings.{Setting}
-use Rattle.mon_value.specs.Positions.{range_numbered}
+use Rattle.mon_value.specs.Histories.{range_numbered}
 use Rattle.owners.specs.Puts.{pass_of}
 use Rattle.range_cases.proofs.CallerLemmas.{has_number, written_none}
 use Rattle.range_cases.proofs.places.Place.write_row.Goals as goal

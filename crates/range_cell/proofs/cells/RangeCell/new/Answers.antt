@@ -1,5 +1,5 @@
 use Rattle.std.proofs.Common.{◌≡◌, sym, ap, subst}
-use Rattle.mon_topo.specs.FirstHistories.{first_range_history}
+use Rattle.mon_topo.specs.HeldHistories.{first_range_history}
 use Rattle.mon_value.specs.declared.positions.Range.{Range}
 use Rattle.range_cell.specs.NewRanges.{NewRangeView}
 use Rattle.range_cell.specs.Rest.{HaveJust}

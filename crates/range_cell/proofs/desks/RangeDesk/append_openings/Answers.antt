@@ -9,7 +9,7 @@ use Rattle.history_book.specs.Histories.{with_book_entry}
 use Rattle.history_book.specs.Seats.{Owner, after_append, guest_purse, hand_of}
 use Rattle.know.specs.Sound.{IsSound}
 use Rattle.mon_topo.proofs.FirstOpenings.{item_at}
-use Rattle.mon_topo.specs.FirstHistories.{openings_from, slot_numbered}
+use Rattle.mon_topo.specs.HeldHistories.{openings_from, slot_numbered}
 use Rattle.mon_topo.specs.Sights.{range_sight}
 use Rattle.mon_topo.specs.Zones.{first_replicas}
 use Rattle.mon_value.specs.Histories.{range_history}

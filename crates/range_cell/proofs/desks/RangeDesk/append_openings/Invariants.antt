@@ -2,7 +2,7 @@
 use Rattle.std.proofs.Common.{◌≡◌, take}
 use Rattle.history_book.specs.declared.views.BookEntry.TheVariants as one
 use Rattle.know.specs.Sound.{IsSound}
-use Rattle.mon_topo.specs.FirstHistories.{openings_from}
+use Rattle.mon_topo.specs.HeldHistories.{openings_from}
 use Rattle.mon_value.specs.declared.histories.RangeEntry.TheVariants as entry
 use Rattle.range_cell.specs.NewRanges.{after_entries}
 use Rattle.range_cell.proofs.desks.RangeDesk.append_openings.Given as goal

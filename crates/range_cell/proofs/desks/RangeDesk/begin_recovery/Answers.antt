@@ -11,7 +11,7 @@ use Rattle.range_cell.proofs.RestLemmas.{more_held}
 use Rattle.range_cell.specs.Calls.{HasBegun, HasMetRange, parted_owner}
 use Rattle.range_cell.specs.Recoveries.{IsDeniedAs}
 use Rattle.range_cell.specs.Rest.{IsRangeAtRest, IsRangeHeld}
-use Rattle.write_core.specs.Openings.{denial_of}
+use Rattle.write_core.specs.Recovering.{denial_of}
 use Rattle.write_core.specs.Replays.{Replay}
 use Rattle.range_cell.proofs.desks.RangeDesk.begin_recovery.Goals as goal
 

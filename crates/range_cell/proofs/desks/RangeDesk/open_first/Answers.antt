@@ -1,7 +1,6 @@
 use Rattle.std.proofs.Common.{◌≡◌, List, false, sym, ap, subst, ◌∙◌, rules}
 use Rattle.history_book.specs.Seats.{Owner, guest_purse, hand_of}
-use Rattle.mon_topo.specs.FirstHistories.{openings_from}
-use Rattle.mon_topo.specs.HeldHistories.{IsHeldBy}
+use Rattle.mon_topo.specs.HeldHistories.{openings_from, IsHeldBy}
 use Rattle.mon_topo.specs.Replicas.{HasReplicas}
 use Rattle.mon_topo.specs.Zones.{first_replicas}
 use Rattle.mon_value.specs.Histories.{range_history}

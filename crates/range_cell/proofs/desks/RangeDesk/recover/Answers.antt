@@ -3,8 +3,7 @@ use Rattle.std.specs.Prelude.{option_map}
 use Rattle.history_book.specs.Seats.{hand_of, times_range}
 use Rattle.history_book.specs.declared.views.Kept.{Kept}
 use Rattle.mon_topo.proofs.FrontLemmas.{begins_from, begins_through}
-use Rattle.mon_topo.specs.FirstHistories.{first_range_history}
-use Rattle.mon_topo.specs.HeldHistories.{BeginsWith}
+use Rattle.mon_topo.specs.HeldHistories.{first_range_history, BeginsWith}
 use Rattle.mon_topo.specs.RangeHistories.{IsInZoneOf, serving}
 use Rattle.mon_value.specs.Histories.{range_history}
 use Rattle.mon_value.specs.declared.histories.RangeEntry.{RangeEntry}

@@ -1,5 +1,5 @@
 use Rattle.std.proofs.Common.{◌≡◌, false, refl, sym, ap, subst, ◌∙◌}
-use Rattle.mon_topo.specs.Serving.{first_serving}
+use Rattle.mon_topo.specs.RangeHistories.{first_serving}
 use Rattle.range_cell.proofs.MeetingLemmas.{if_rests, whole_so}
 use Rattle.range_cell.specs.Calls.{parted_owner}
 use Rattle.range_cell.specs.Rest.{IsRangeAtRest}

@@ -1,6 +1,5 @@
 use Rattle.std.proofs.Common.{◌∙◌, ap}
-use Rattle.standing.specs.Adding.{is_taken}
-use Rattle.standing.specs.StandingStates.{StandingState}
+use Rattle.standing.specs.DueLists.{is_taken, StandingState}
 use Rattle.standing.proofs.queries.Standing.has.Goals as goal
 
 pub returns : goal.returns

@@ -4,8 +4,7 @@ use Rattle.std.specs.BTreeSet.{contains}
 use Rattle.std.specs.List.{AllByRecursion}
 use Rattle.std.specs.Ordering.{is_eq}
 use Rattle.mon_value.specs.Order.{text_cmp}
-use Rattle.standing.specs.Adding.{is_taken}
-use Rattle.standing.specs.DueLists.{HasPeriod, seconds}
+use Rattle.standing.specs.DueLists.{is_taken, HasPeriod, seconds}
 use Rattle.standing.specs.declared.queries.StandingQuery.{StandingQuery}
 use Rattle.standing.proofs.NameLemmas.{has_period, lawful_more, named_more}
 use Rattle.standing.proofs.queries.Standing.push.Goals as goal

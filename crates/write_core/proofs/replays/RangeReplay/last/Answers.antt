@@ -3,7 +3,7 @@ use Rattle.std.proofs.lemmas.Bool.{false≢true}
 use Rattle.std.specs.Map.{lookup}
 use Rattle.insertion_map.proofs.EntryLemmas.{value_at}
 use Rattle.mon_topo.specs.RangeHistories.{acknowledged_rows}
-use Rattle.mon_value.specs.Sources.{last_end, points_of}
+use Rattle.mon_value.specs.LeafHistories.{last_end, points_of}
 use Rattle.write_core.specs.Replays.{Replay}
 use Rattle.write_core.proofs.ReplayLemmas.{none_found, same_test}
 use Rattle.write_core.proofs.replays.RangeReplay.last.Goals as goal

@@ -1,6 +1,6 @@
 use Rattle.std.proofs.Common.{◌∙◌, ap}
 use Rattle.mon_run.proofs.ReadLemmas.{counts_noted, failed_noted}
-use Rattle.mon_run.specs.Folders.{asking, is_failed}
+use Rattle.mon_run.specs.Outside.{asking, is_failed}
 use Rattle.mon_run.proofs.outside.file_folder.FileFolderFolder.read.Goals as goal
 
 pub returns-clause-counts : goal.returns-clause-counts

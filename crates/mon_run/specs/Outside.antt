@@ -1,11 +1,13 @@
--- Folders as contracts see them, and what is read of them.
+-- Folders and sinks as contracts see them: what is read of them, and what was written.
 use Rattle.std.specs.Prelude.{◌≡◌, ◌⊎◌, ℕ, ◌+◌, Bool, true, false, List, [], ◌∷◌, ◌++◌, map, Option, Some, None}
-use Rattle.std.specs.Prelude.{unwrap_or, Result, Ok, Err, if◌then◌else◌}
+use Rattle.std.specs.Prelude.{unwrap_or, Result, Ok, Err, if◌then◌else◌, ◌<◌, length, option_map}
 use Rattle.mon_value.specs.Same.{same_text}
 use Rattle.mon_run.specs.declared.outside.folder.Asked.{Asked}
 use Rattle.mon_run.specs.declared.outside.folder.FolderFault.{FolderFault}
 use Rattle.mon_run.specs.declared.outside.folder.FolderFault.TheVariants as fault
 use Rattle.mon_run.specs.declared.outside.memory_folder.MemoryFile.{MemoryFile}
+
+-- Folders as contracts see them, and what is read of them.
 
 -- ---- files
 
@@ -79,3 +81,29 @@ folder_state files asked =
 -- a folder without faults
 abbrev pub calm_folder_state : Files → List Asked → FolderState
 calm_folder_state files asked = record { files = Some files; asked = asked; faults = 0; last = [] }
+
+-- Sinks as contracts see them, and what was written.
+
+-- a sink: the bytes that were written, where it tells them; the count of its faults
+pub record SinkState : Type 0 where
+  pub written : Option (List ℕ)
+  pub faults : ℕ
+
+abbrev pub sink_state : Option (List ℕ) → ℕ → SinkState
+sink_state written faults = record { written = written; faults = faults }
+
+-- what was written, and a text behind it
+abbrev pub written_then : List ℕ → Option (List ℕ) → Option (List ℕ)
+written_then text written = option_map (λ bytes. bytes ++ text) written
+
+-- a sink took a text
+abbrev pub Takes : List ℕ → SinkState → SinkState → Type 0
+Takes text before after = after.written ≡ written_then text before.written
+
+-- a sink took the front of a text, and not all of it
+pub record TakesFront (text : List ℕ) (before after : SinkState) : Type 0 where
+  pub front : List ℕ
+  pub rest : List ℕ
+  pub split : text ≡ front ++ rest
+  pub some : 0 < length rest
+  pub takes : Takes front before after

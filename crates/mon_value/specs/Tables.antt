@@ -1,12 +1,44 @@
--- Tables put together: the pairs of a join, and both sides of a union.
-use Rattle.std.specs.Prelude.{ℕ, Bool, not, ◌&&◌, ◌||◌, List, ◌++◌, map}
-use Rattle.std.specs.List.{filter, flat_map, list_all, list_any, zip}
+-- Columns and what stands in them, and tables put together.
+use Rattle.std.specs.Prelude.{◌≡◌, ◌+◌, ℕ, List, [], ◌∷◌, length, map, Bool, not, ◌&&◌, ◌||◌, ◌++◌}
+use Rattle.std.specs.List.{AllByRecursion, filter, flat_map, list_all, list_any, zip}
 use Rattle.std.specs.Ordering.{int_eq}
-use Rattle.mon_value.specs.Same.{same_text, same_value}
 use Rattle.mon_value.specs.declared.columns.Column.{Column}
 use Rattle.mon_value.specs.declared.tables.Table.{Table}
-use Rattle.mon_value.specs.declared.tables.TimedRow.{TimedRow}
 use Rattle.mon_value.specs.declared.values.Value.{Value}
+use Rattle.mon_value.specs.declared.values.Value.TheVariants as value
+use Rattle.mon_value.specs.declared.values.ValueType.{ValueType}
+use Rattle.mon_value.specs.declared.values.ValueType.TheVariants as type
+use Rattle.mon_value.specs.Same.{same_text, same_value}
+use Rattle.mon_value.specs.declared.tables.TimedRow.{TimedRow}
+
+-- Columns and what stands in them.
+
+-- a value of a type; a distribution has one count more than its type has bounds
+abbrev pub HasType : ValueType → Value → Type 0
+HasType type.Int (value.Int z) = Unit {0}
+HasType type.Int b = ⊥
+HasType type.Bool (value.Bool p) = Unit {0}
+HasType type.Bool b = ⊥
+HasType type.Text (value.Text s) = Unit {0}
+HasType type.Text b = ⊥
+HasType (type.Dist bounds) (value.Dist counts) = length counts ≡ length bounds + 1
+HasType (type.Dist bounds) b = ⊥
+
+-- one cell for each column, of its type
+abbrev pub FitColumns : List Column → List Value → Type 0
+FitColumns [] [] = Unit {0}
+FitColumns [] (cell ∷ cells) = ⊥
+FitColumns (column ∷ columns) [] = ⊥
+FitColumns (column ∷ columns) (cell ∷ cells) = HasType column.of cell × FitColumns columns cells
+
+-- each row has one cell for each column
+abbrev pub IsWhole : Table → Type 0
+IsWhole table = AllByRecursion (λ row. length row.cells ≡ length table.columns) table.rows
+
+abbrev pub column_names : List Column → List (List ℕ)
+column_names columns = map (λ column. column.name) columns
+
+-- Tables put together: the pairs of a join, and both sides of a union.
 
 -- a cell and its column
 abbrev pub Named : Type 0
