@@ -1,8 +1,9 @@
 -- The words of a write, one after another.
-use Rattle.std.proofs.Common.{◌≡◌, ℕ, zero, suc, ◌≤◌, ◌<◌, cond, List, [], ◌∷◌, take, drop, length, refl, sym, ap, ◌∙◌, arith, lt-ltb, le-ltb}
+use Rattle.std.proofs.Common.{◌≡◌, ℕ, zero, suc, ◌≤◌, ◌<◌, cond, List, [], ◌∷◌, drop, length}
+use Rattle.std.proofs.Common.{refl, sym, ap, ◌∙◌, arith, lt-ltb, le-ltb}
 use Rattle.std.proofs.lemmas.List.{length-drop}
 use Rattle.std.specs.List.{fold}
-use Rattle.insertion_map.specs.WordHasher.{absorb, word_of, words, write}
+use Rattle.insertion_map.specs.WordHasher.{absorb, first_word, last_word, words, write}
 use Rattle.insertion_map.specs.declared.hash.WordHasher.{WordHasher}
 
 -- what is left of a write comes to the whole
@@ -14,19 +15,19 @@ pub record AreLeft (before : WordHasher) (bytes : List ℕ) (now : WordHasher) (
 pub all_left : (before : WordHasher) (bytes : List ℕ) → AreLeft before bytes before bytes
 all_left before bytes = record { n = length bytes; enough = omega arith; whole = refl }
 
-words_long : (n : ℕ) (rest : List ℕ) → 8 ≤ length rest → words (suc n) rest ≡ word_of 0 (take 8 rest) ∷ words n (drop 8 rest)
+words_long : (n : ℕ) (rest : List ℕ) → 8 ≤ length rest → words (suc n) rest ≡ first_word rest ∷ words n (drop 8 rest)
 unfolding words
 words_long n rest long =
-    ap (λ b. cond b (word_of (length rest) rest ∷ []) (word_of 0 (take 8 rest) ∷ words n (drop 8 rest))) (le-ltb _ _ long)
+    ap (λ b. cond b (last_word rest ∷ []) (first_word rest ∷ words n (drop 8 rest))) (le-ltb _ _ long)
 
-words_short : (n : ℕ) (rest : List ℕ) → length rest < 8 → words n rest ≡ word_of (length rest) rest ∷ []
+words_short : (n : ℕ) (rest : List ℕ) → length rest < 8 → words n rest ≡ last_word rest ∷ []
 unfolding words
 words_short zero rest short = refl
 words_short (suc n) rest short =
-    ap (λ b. cond b (word_of (length rest) rest ∷ []) (word_of 0 (take 8 rest) ∷ words n (drop 8 rest))) (lt-ltb _ _ short)
+    ap (λ b. cond b (last_word rest ∷ []) (first_word rest ∷ words n (drop 8 rest))) (lt-ltb _ _ short)
 
 pub less_left : (before : WordHasher) (bytes : List ℕ) (now next : WordHasher) (rest : List ℕ) → 8 ≤ length rest
-    → next ≡ absorb now (word_of 0 (take 8 rest)) → AreLeft before bytes now rest → AreLeft before bytes next (drop 8 rest)
+    → next ≡ absorb now (first_word rest) → AreLeft before bytes now rest → AreLeft before bytes next (drop 8 rest)
 less_left before bytes now next rest long same left = by left.n left.enough left.whole
   where
     by : (n : ℕ) → length rest ≤ n → fold absorb now (words n rest) ≡ fold absorb before (words (length bytes) bytes)
@@ -40,6 +41,6 @@ less_left before bytes now next rest long same left = by left.n left.enough left
     }
 
 pub none_left : (before : WordHasher) (bytes : List ℕ) (now : WordHasher) (rest : List ℕ) → length rest < 8
-    → AreLeft before bytes now rest → absorb now (word_of (length rest) rest) ≡ write before bytes
+    → AreLeft before bytes now rest → absorb now (last_word rest) ≡ write before bytes
 unfolding write
 none_left before bytes now rest short left = ap (fold absorb now) (sym (words_short left.n rest short)) ∙ left.whole

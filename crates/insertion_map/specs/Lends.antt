@@ -7,7 +7,8 @@ use Rattle.std.specs.declared.hash.BuildHasher as builder
 use Rattle.indexmap.specs.IndexMap.{IndexMap, WritesThrough, with_value_at}
 use Rattle.insertion_map.specs.contracts.map.InsertionMap.{the_row}
 
-module _ (K V S H : RattleType) (key : HashMembers K.Denot) (build : builder.Ghosts S.Denot H.Denot) (hash : hasher.Ghosts H.Denot) where
+module _ (K V S H : RattleType) (key : HashMembers K.Denot) (build : builder.Ghosts S.Denot H.Denot)
+    (hash : hasher.Ghosts H.Denot) where
   -- the map's type, as the logic holds it
   abbrev pub map_row : RattleType
   map_row = the_row K V S H (record { eq = key.eq }) (record { hash_input = key.hash_input }) build hash

@@ -1,5 +1,5 @@
 // The hash of a key.
-ghost use Rattle.std.specs.Prelude.{◌≡◌, length};
+ghost use Rattle.std.specs.Prelude.{◌≡◌};
 ghost use Rattle.insertion_map.specs.WordHasher as spec;
 
 use std::hash::Hasher;

@@ -1,12 +1,16 @@
 // The map: its entries in their order, and the tree over the hashes of their keys.
 // A clause `writes_back` says what the map holds once the borrow that the method returns has ended.
-ghost use Rattle.std.specs.Prelude.{◌≡◌, ◌+◌, ◌-◌, ◌<◌, ◌≤◌, ◌^◌, ◌++◌, ◌∷◌, ◌↔◌, length, is_some, slice_get, slice_index_or, if◌then◌else◌, None, Some, IsOk, IsSome, IsTrue, IfErr, IfOk, IfSome, OnErr, OnOk, []};
+ghost use Rattle.std.specs.Prelude.{◌≡◌, ◌+◌, ◌-◌, ◌<◌, ◌≤◌, ◌^◌, ◌++◌, ◌∷◌, ◌↔◌, []};
+ghost use Rattle.std.specs.Prelude.{length, is_some, slice_get, slice_index_or, if◌then◌else◌, None, Some};
+ghost use Rattle.std.specs.Prelude.{IsOk, IsSome, IsTrue, IfErr, IfOk, IfSome, OnErr, OnOk};
 ghost use Rattle.std.specs.Borrow.{sem};
 ghost use Rattle.std.specs.List.{IsAmong};
 ghost use Rattle.std.specs.Map.{keys_of};
 ghost use Rattle.std.specs.Map.Iter.{deref_pair};
 ghost use Rattle.std.specs.Option.{option_map, option_copied, option_copied_mut};
-ghost use Rattle.indexmap.specs.IndexMap.{values, get, get_by, get_key_by, hasher_of, set_value_at, index_map_len, index_of_by, insert_entry, insert_index, spare, IsEmpty, IsUnchanged, IsUnique, KeepsRoom, Updates};
+ghost use Rattle.indexmap.specs.IndexMap.{values, get, get_by, get_key_by, hasher_of, set_value_at, index_map_len};
+ghost use Rattle.indexmap.specs.IndexMap.{index_of_by, insert_entry, insert_index, spare};
+ghost use Rattle.indexmap.specs.IndexMap.{IsEmpty, IsUnchanged, IsUnique, KeepsRoom, Updates};
 ghost use Rattle.indexmap.specs.Layout.{hash_map};
 ghost use Rattle.insertion_map.specs.Hashes.{key_hash};
 ghost use Rattle.insertion_map.specs.Lends.{lends_at, lends_get, lends_index};
@@ -39,9 +43,12 @@ impl<K: Eq + Hash, V, S: BuildHasher> Model for InsertionMap<K, V, S> {
 
     ghost coded = { hash_map_code K.code V.code S.code };
 
-    ghost view = { λ m. hash_map m.entries.items m.hash_builder (min m.tree.1 (vec_capacity m.entries - length m.entries.items)) };
+    ghost view = { λ m.
+        hash_map m.entries.items m.hash_builder (min m.tree.1 (vec_capacity m.entries - length m.entries.items)) };
 
-    ghost invariant = { λ m. IsHashed K.eq (λ k. key_hash S.BuildHasher S.Hasher.Hasher m.hash_builder (K.hash_input k)) m.tree.0 m.entries.items };
+    ghost invariant = { λ m.
+        IsHashed K.eq (λ k. key_hash S.BuildHasher S.Hasher.Hasher m.hash_builder (K.hash_input k))
+        m.tree.0 m.entries.items };
 }
 
 impl<K: Eq + Hash, V> InsertionMap<K, V> {
@@ -63,6 +70,7 @@ impl<K: Eq + Hash, V> InsertionMap<K, V> {
         ensures len { IfOk result (λ m. index_map_len m ≡ 0) }
         ensures spare { IfOk result (λ m. n ≤ spare m) }
         ensures unique { IfOk result (IsUnique K.eq) }
+        ensures succeeds { n ≡ 0 → IsOk result }
     {
         let mut map = InsertionMap::new(alloc);
         map.reserve(n)?;
@@ -170,16 +178,14 @@ impl<K: Eq + Hash, V, S: BuildHasher> InsertionMap<K, V, S> {
         ensures value { IfSome result (λ i. slice_get (values self.now) i ≡ get_by (Q.equivalent key) self.now) }
         ensures unique { IsUnique K.eq self.now }
     {
-        if self.is_at(guess, key) {
-            return Some(guess);
-        }
-        self.get_index_of(key)
+        self.locate(guess, key).ok()
     }
 
     /// The value at `key`, to write.
     #[inline(always)]
     pub fn get_mut<Q: Equivalent<K>>(&mut self, key: Q) -> Option<&mut V>
-        ensures* writes_back { sem 𝓛 (lends_get K.row V.row S.row S.Hasher.row K.Hash S.BuildHasher S.Hasher.Hasher self.entry (Q.equivalent key) result) }
+        ensures* writes_back { sem 𝓛 (lends_get K.row V.row S.row S.Hasher.row K.Hash S.BuildHasher S.Hasher.Hasher
+            self.entry (Q.equivalent key) result) }
         ensures value { option_copied_mut result ≡ get_by (Q.equivalent key) self.old }
         ensures member { IfSome result (λ x. IsAmong (values self.old) x.now) }
         ensures unique { IsUnique K.eq self.old }
@@ -202,7 +208,8 @@ impl<K: Eq + Hash, V, S: BuildHasher> InsertionMap<K, V, S> {
 
     /// The value at `index`, which can be written.
     pub fn get_index_mut(&mut self, index: usize) -> Option<&mut V>
-        ensures* writes_back { sem 𝓛 (lends_at K.row V.row S.row S.Hasher.row K.Hash S.BuildHasher S.Hasher.Hasher self.entry index result) }
+        ensures* writes_back { sem 𝓛 (lends_at K.row V.row S.row S.Hasher.row K.Hash S.BuildHasher S.Hasher.Hasher
+            self.entry index result) }
         ensures value { option_copied_mut result ≡ slice_get (values self.old) index }
         ensures found { IsSome result ↔ (index < index_map_len self.old) }
         ensures unique { IsUnique K.eq self.old }
@@ -238,7 +245,8 @@ impl<K: Eq + Hash, V, S: BuildHasher> InsertionMap<K, V, S> {
         ensures old { IfOk result (λ old. old ≡ get K.eq self.old key) }
         ensures updates { OnOk result (Updates K.eq self.old self.new key (Some value)) }
         ensures entries { OnOk result (self.new.entries ≡ insert_entry K.eq self.old.entries key value) }
-        ensures len { IfOk result (λ old. index_map_len self.new ≡ index_map_len self.old + (if is_some old then 0 else 1)) }
+        ensures len { IfOk result (λ old.
+            index_map_len self.new ≡ index_map_len self.old + (if is_some old then 0 else 1)) }
 
         // On failure the pair comes back and the entries stay. Only a new key can fail.
         ensures value_returned { IfErr result (λ y. y.value ≡ (key, value)) }
@@ -251,7 +259,7 @@ impl<K: Eq + Hash, V, S: BuildHasher> InsertionMap<K, V, S> {
         ensures hasher { hasher_of self.new ≡ hasher_of self.old }
         ensures unique { IsUnique K.eq self.new }
     {
-        let (_, old) = self.insert_full(key, value)?;
+        let (_, old) = self.insert_near(self.len(), key, value)?;
         Ok(old)
     }
 
@@ -269,7 +277,8 @@ impl<K: Eq + Hash, V, S: BuildHasher> InsertionMap<K, V, S> {
         ensures old { IfOk result (λ r. r.1 ≡ get K.eq self.old key) }
         ensures updates { OnOk result (Updates K.eq self.old self.new key (Some value)) }
         ensures entries { OnOk result (self.new.entries ≡ insert_entry K.eq self.old.entries key value) }
-        ensures len { IfOk result (λ r. index_map_len self.new ≡ index_map_len self.old + (if is_some r.1 then 0 else 1)) }
+        ensures len { IfOk result (λ r.
+            index_map_len self.new ≡ index_map_len self.old + (if is_some r.1 then 0 else 1)) }
 
         // On failure the pair comes back and the entries stay. Only a new key can fail.
         ensures value_returned { IfErr result (λ y. y.value ≡ (key, value)) }
@@ -282,43 +291,10 @@ impl<K: Eq + Hash, V, S: BuildHasher> InsertionMap<K, V, S> {
         ensures hasher { hasher_of self.new ≡ hasher_of self.old }
         ensures unique { IsUnique K.eq self.new }
     {
-        if self.is_at(guess, &key) {
-            return Ok((guess, Some(self.replace_value(guess, value))));
-        }
-        self.insert_full(key, value)
-    }
-
-    /// Inserts a pair as `insert` does, and returns its index with the old value.
-    #[inline(always)]
-    pub fn insert_full(
-        &mut self,
-        key: K,
-        value: V,
-    ) -> Result<(usize, Option<V>), AllocFailed<(K, V)>>
-    where
-        K: Drop,
-        // On success `key` has `value`, its old value is returned, and other keys keep theirs.
-        ensures index { IfOk result (λ r. r.0 ≡ insert_index K.eq self.old key) }
-        ensures old { IfOk result (λ r. r.1 ≡ get K.eq self.old key) }
-        ensures updates { OnOk result (Updates K.eq self.old self.new key (Some value)) }
-        ensures entries { OnOk result (self.new.entries ≡ insert_entry K.eq self.old.entries key value) }
-        ensures len { IfOk result (λ r. index_map_len self.new ≡ index_map_len self.old + (if is_some r.1 then 0 else 1)) }
-
-        // On failure the pair comes back and the entries stay. Only a new key can fail.
-        ensures value_returned { IfErr result (λ y. y.value ≡ (key, value)) }
-        ensures err { OnErr result (IsUnchanged self.old self.new) }
-        ensures absent { OnErr result (get K.eq self.old key ≡ None) }
-
-        // With room to spare it succeeds, and it uses up at most one place.
-        ensures succeeds { 0 < spare self.old → IsOk result }
-        ensures spare { spare self.old ≤ spare self.new + 1 }
-        ensures hasher { hasher_of self.new ≡ hasher_of self.old }
-        ensures unique { IsUnique K.eq self.new }
-    {
-        let hash = self.hash_of(&key);
-        if let Some(i) = self.find(hash, &key) {
-            return Ok((i, Some(self.replace_value(i, value))));
-        }
+        let hash = match self.locate(guess, &key) {
+            Ok(i) => return Ok((i, Some(self.replace_value(i, value)))),
+            Err(hash) => hash,
+        };
         if !self.make_room() {
             return Err(AllocFailed {
                 value: (key, value),
@@ -344,6 +320,22 @@ impl<K: Eq + Hash, V, S: BuildHasher> InsertionMap<K, V, S> {
         ensures { result ≡ key_hash S.BuildHasher S.Hasher.Hasher (hasher_of self.now) (Q.hash_input key) }
     {
         self.hash_builder.hash_one(key)
+    }
+
+    // Where the key's entry is, which is tried first at a guess, or the key's hash where there is none.
+    #[inline(always)]
+    fn locate<Q: Equivalent<K>>(&self, guess: usize, key: Q) -> Result<usize, u64>
+        ensures found { IfOk result (λ i. index_of_by (Q.equivalent key) self.now ≡ Some i) }
+        ensures absent { OnErr result (index_of_by (Q.equivalent key) self.now ≡ None) }
+        ensures hash { IfErr result (λ hash.
+            hash ≡ key_hash S.BuildHasher S.Hasher.Hasher (hasher_of self.now) (Q.hash_input key)) }
+        ensures unique { IsUnique K.eq self.now }
+    {
+        if self.is_at(guess, key) {
+            return Ok(guess);
+        }
+        let hash = self.hash_of(key);
+        self.find(hash, key).ok_or(hash)
     }
 
     // Whether the entry at an index has the key.
@@ -392,7 +384,8 @@ impl<K: Eq + Hash, V, S: BuildHasher> InsertionMap<K, V, S> {
 
     fn value_mut(&mut self, i: usize) -> &mut V
         requires { i < index_map_len self.old }
-        ensures* writes_back { sem 𝓛 (lends_index K.row V.row S.row S.Hasher.row K.Hash S.BuildHasher S.Hasher.Hasher self.entry i result) }
+        ensures* writes_back { sem 𝓛 (lends_index K.row V.row S.row S.Hasher.row K.Hash S.BuildHasher S.Hasher.Hasher
+            self.entry i result) }
         ensures value { slice_get (values self.old) i ≡ Some result.now }
     {
         &mut self.entries[i].1
@@ -412,7 +405,8 @@ impl<K: Eq + Hash, V, S: BuildHasher> InsertionMap<K, V, S> {
         requires hash { hash ≡ key_hash S.BuildHasher S.Hasher.Hasher (hasher_of self.old) (K.hash_input key) }
         requires absent { get K.eq self.old key ≡ None }
         requires spare { 0 < spare self.old }
-        ensures { self.new ≡ hash_map (self.old.entries ++ (key, value) ∷ []) (hasher_of self.old) (spare self.old - 1) }
+        ensures { self.new
+            ≡ hash_map (self.old.entries ++ (key, value) ∷ []) (hasher_of self.old) (spare self.old - 1) }
     {
         self.tree.push(hash);
         self.entries.push_reserved((key, value));

@@ -1,5 +1,6 @@
 // The tree that finds entries by their hashes. It sees no key.
-ghost use Rattle.std.specs.Prelude.{◌≡◌, ℕ, ◌+◌, ◌^◌, ◌<◌, ◌≤◌, true, false, [], ◌∷◌, ◌++◌, length, slice_get, IfSome, IfNone, IfOk, Some, OnOk};
+ghost use Rattle.std.specs.Prelude.{◌≡◌, ℕ, ◌+◌, ◌^◌, ◌<◌, ◌≤◌, true, false, [], ◌∷◌, ◌++◌, length, slice_get};
+ghost use Rattle.std.specs.Prelude.{IfSome, IfNone, Some, OnOk};
 ghost use Rattle.insertion_map.specs.Tree.{below, hung, EndsAt, IsTree};
 
 use std::alloc::{AllocError, Global};
@@ -92,8 +93,8 @@ impl HashTree {
         self.nodes.reserve(additional)
     }
 
-    // The first entry on a hash's path that has this hash and passes a test. The test is asked of entries with this hash
-    // alone, until it returns `true`.
+    // The first entry on a hash's path that has this hash and passes a test. The test is asked of entries with this
+    // hash alone, until it returns `true`.
     #[inline(always)]
     pub(crate) fn find<F: Fn(usize) -> bool>(&self, hash: u64, test: F) -> Option<usize>
         requires { (i : ℕ) → i < length self.now.0 → F.pre test i }

@@ -29,8 +29,21 @@ returns-in-Some g c =
 
 pub returns-in-None : goal.returns-in-None
 returns-in-None g c =
-    let missing = Missing-position (g.Q.Equivalent.equivalent c.args.key) c.args.self.now.entries (sym c.in-None.ensures.index) in
+    let test = g.Q.Equivalent.equivalent c.args.key in
+    let missing = Missing-position test c.args.self.now.entries (sym c.in-None.ensures.index) in
     let unique = c.get_index_of.ensures.unique in (
-      (refl, λ w. (set_value-IsAbsent _ _ w missing.absent, refl, refl, (λ s. absurd (true≢false (sym s ∙ ap is_some missing.value))), unique, refl, refl), refl),
+      (
+        refl,
+        λ w. (
+          set_value-IsAbsent _ _ w missing.absent,
+          refl,
+          refl,
+          (λ s. absurd (true≢false (sym s ∙ ap is_some missing.value))),
+          unique,
+          refl,
+          refl,
+        ),
+        refl,
+      ),
       record { writes_back = tt; value = sym missing.value; member = tt; unique = unique },
     )

@@ -1,11 +1,17 @@
-use Rattle.std.proofs.Common.{◌∙◌, ap, sym, is_some}
-use Rattle.indexmap.proofs.MapLemmas.{Found-position, some_index}
+use Rattle.std.proofs.Common.{◌≡◌, ◌∙◌, ap, sym, subst, is_some, slice_get, IfSome, rules}
+use Rattle.indexmap.specs.IndexMap.{values, get_by, index_of_by}
+use Rattle.indexmap.proofs.MapLemmas.{some_index, value_index}
 use Rattle.insertion_map.proofs.map.InsertionMap.get_near.Goals as goal
 
-pub returns-then-is_at-clause-found : goal.returns-then-is_at-clause-found
-returns-then-is_at-clause-found g c =
-    sym (ap is_some (c.is_at.ensures.at c.if-is_at.true)) ∙ some_index (g.Q.Equivalent.equivalent c.args.key) c.args.self.now.entries
+pub returns-clause-found : goal.returns-clause-found
+returns-clause-found g c =
+    let test = g.Q.Equivalent.equivalent c.args.key in
+    let index : c.ok.result ≡ index_of_by test c.args.self.now = search rules in
+    ap is_some index ∙ some_index test c.args.self.now.entries
 
-pub returns-then-is_at-clause-value : goal.returns-then-is_at-clause-value
-returns-then-is_at-clause-value g c =
-    sym (Found-position (g.Q.Equivalent.equivalent c.args.key) c.args.self.now.entries _ (c.is_at.ensures.at c.if-is_at.true)).value
+pub returns-clause-value : goal.returns-clause-value
+returns-clause-value g c =
+    let test = g.Q.Equivalent.equivalent c.args.key in
+    let index : c.ok.result ≡ index_of_by test c.args.self.now = search rules in
+    subst (λ r. IfSome r (λ i. slice_get (values c.args.self.now) i ≡ get_by test c.args.self.now))
+    (sym index) (value_index test c.args.self.now.entries)
