@@ -8,14 +8,11 @@ use Rattle.mixer.specs.Divisions.{ShareNoLocation, has_location, lies_at}
 use Rattle.mon_meaning.specs.ReadableSlots.{ShareNoTarget, has_target}
 use Rattle.mon_schema.specs.Names.{SchemaLists}
 use Rattle.mon_topo.specs.Locations.{location_of}
-use Rattle.mon_value.proofs.SameLemmas.{same_text-Decides}
+use Rattle.mon_value.proofs.SameLemmas.{same_text-itself}
 use Rattle.mon_value.specs.Same.{same_target, same_text}
 use Rattle.mon_value.specs.declared.rows.Row.{Row}
 use Rattle.mon_value.specs.declared.rows.Target.{Target}
 use Rattle.case_readings.specs.Readings.{ShareNoPlace}
-
-same_place : (place : List ℕ) → same_text place place ≡ true
-same_place place = (same_text-Decides place place).1 refl
 
 -- ---- places
 
@@ -28,7 +25,7 @@ module _ (held : SchemaLists) (place : List ℕ) (target : Target) (at : locatio
   lies_there row same =
       ap (λ (one : Target). option_map_or (same_text place) (location_of held one) false)
       (one_target row.key.target target same)
-      ∙ ap (λ (some : Option (List ℕ)). option_map_or (same_text place) some false) at ∙ same_place place
+      ∙ ap (λ (some : Option (List ℕ)). option_map_or (same_text place) some false) at ∙ same_text-itself place
 
   is_other : (row : Row) → lies_at held place row ≡ false → same_target row.key.target target ≡ false
   is_other row apart =

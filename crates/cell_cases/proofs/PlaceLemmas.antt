@@ -1,9 +1,6 @@
 -- The leaf to which nothing happened, and what its first callers may do.
-use Rattle.std.proofs.Common.{◌≡◌, ℕ, ◌<◌, Some, List, [], ◌∷◌, length, refl, sym, ap, subst, ◌∙◌, arith}
-use Rattle.std.proofs.Common.{◌+◌, cond, nat_eq, true}
-use Rattle.std.proofs.lemmas.Bool.Decides.{nat_tests}
-use Rattle.std.proofs.lemmas.List.Sums.{sum_by-cons}
-use Rattle.std.specs.Prelude.{Contains}
+use Rattle.std.proofs.Common.{◌≡◌, ℕ, ◌<◌, Some, [], ◌∷◌, length, refl, sym, ap, subst, ◌∙◌, arith}
+use Rattle.std.proofs.Common.{◌+◌}
 use Rattle.cell_cases.specs.Setups.{held, key_of_host, one_leaf}
 use Rattle.cell_cases.specs.Writers.{first_slot}
 use Rattle.history_book.specs.declared.views.History.TheVariants as of
@@ -11,6 +8,7 @@ use Rattle.history_book.specs.Histories.{empty_histories}
 use Rattle.history_book.specs.Seats as book
 use Rattle.history_book.specs.Seats.{hand_of, times_range}
 use Rattle.know.proofs.FirstLemmas.{nothing_is_sound}
+use Rattle.mon_value.proofs.PlainLemmas.{contains_none}
 use Rattle.know.specs.Knowledge.{Knowledge}
 use Rattle.know.specs.Sound.{IsSound}
 use Rattle.leaf_cell.specs.Rest.{IsAtRest}
@@ -19,7 +17,7 @@ use Rattle.leaf_store.specs.LeafStates as store
 use Rattle.mon_topo.specs.Locations.{LiesIn}
 use Rattle.mon_topo.specs.Settings.{Setting}
 use Rattle.mon_topo.specs.Zones.{leaves_in, ranges_in}
-use Rattle.mon_value.specs.Histories.{leaf_history, leaf_numbered, range_numbered, same_range}
+use Rattle.mon_value.specs.Histories.{leaf_history, leaf_numbered, range_numbered}
 use Rattle.mon_value.specs.LeafHistories.{is_opened}
 use Rattle.mon_value.specs.declared.histories.Histories.{Histories}
 use Rattle.mon_value.specs.declared.positions.Range.{Range}
@@ -31,21 +29,6 @@ use Rattle.owners.specs.Puts.{pass_of}
 use Rattle.raise_table.specs.Places.{zone_leaf}
 use Rattle.raise_table.specs.Seats as hints
 use Rattle.raise_table.specs.Tables.{RaiseIdentity}
-
-none_there : {X : Type 0} (x : X) → Contains [] x → ⊥
-none_there x there = let low : there.0 < 0 = there.1 in absurd (omega arith)
-
--- a range that is held first
-pub holds_first : (range : Range) (holds : List Range) → 0 < times_range range (range ∷ holds)
-holds_first range holds =
-    let n : ℕ = range.0 in
-    let same : same_range range range ≡ true = let e : nat_eq n n ≡ true = grind (arith, nat_tests) in e in
-    let all : times_range range (range ∷ holds)
-    ≡ cond {A = ℕ} (same_range range range) 1 0 + times_range range holds =
-    sum_by-cons (λ (other : Range). cond {A = ℕ} (same_range range other) 1 0) range holds in
-    let one : times_range range (range ∷ holds) ≡ 1 + times_range range holds =
-    all ∙ ap (λ b. cond {A = ℕ} b 1 0 + times_range range holds) same in
-    omega (arith, one)
 
 -- the first range has the host a, and the second the host z
 pub lies_first : LiesIn one_leaf.held one_leaf.zones (range_numbered 0) (key_of_host (97 ∷ [])).target
@@ -118,6 +101,6 @@ module _ (setting : Setting) (is : setting ≡ one_leaf) where
     number = number;
     holds = holds;
     new = ap (λ (s : Histories). is_opened range first_slot (leaf_history s (leaf_numbered 0))) seen;
-    home = λ row among. absurd (none_there row among);
+    home = λ row among. absurd (contains_none row among);
     source = tt;
   }

@@ -1,11 +1,10 @@
 -- What a writer knows after its calls.
-use Rattle.std.proofs.Common.{◌≡◌, ℕ, ◌<◌, Bool, true, List, [], ◌∷◌, ◌++◌, append-nil, cond, eq-eqb, refl, sym, ap}
+use Rattle.std.proofs.Common.{◌≡◌, ℕ, ◌<◌, true, List, [], ◌∷◌, ◌++◌, append-nil, cond, eq-eqb, refl, sym, ap}
 use Rattle.std.proofs.Common.{subst, ◌∙◌, arith}
 use Rattle.leaf_cell.specs.Controls.{HasControlled}
 use Rattle.leaf_cell.specs.declared.controls.Control.{Control}
 use Rattle.leaf_cell.specs.declared.controls.ControlFault.{ControlFault}
 use Rattle.std.specs.Prelude.{IfOk, OnErr, Result, Ok, Err, ℤ, ◌<ℤ◌, pos, ◌&&◌, nat_eq}
-use Rattle.std.specs.List.{AllByRecursion}
 use Rattle.std.proofs.lemmas.Int.{ints}
 use Rattle.std.proofs.lemmas.Bool.{or_left, or_right}
 use Rattle.std.proofs.lemmas.List.Concat.{flat_map-append}
@@ -22,6 +21,7 @@ use Rattle.mon_value.specs.declared.histories.Histories.{Histories}
 use Rattle.mon_value.specs.declared.positions.Range.{Range}
 use Rattle.mon_value.specs.declared.rows.Row.{Row}
 use Rattle.owners.proofs.EntryLemmas.{same_opened, same_rows}
+use Rattle.mon_value.proofs.PlainLemmas.{all_push}
 use Rattle.know.specs.declared.answers.Found.{Found}
 use Rattle.know.specs.declared.answers.Found.TheVariants as found
 use Rattle.mon_value.specs.declared.positions.Leaf.{Leaf}
@@ -36,11 +36,6 @@ whatever_fails (Ok x) P fact = tt
 whatever_fails (Err e) P fact = fact
 
 -- ---- rows
-
-all_push : {X : Type 0} (P : X → Type 0) (xs : List X) (x : X) → AllByRecursion P xs → P x
-    → AllByRecursion P (xs ++ x ∷ [])
-all_push P [] x all here = (here, tt)
-all_push P (y ∷ xs) x all here = (all.0, all_push P xs x all.1 here)
 
 before_on : (end next : ℤ) (rows : List Row) → end <ℤ next → AreBefore end rows → AreBefore next rows
 before_on end next [] later before = tt

@@ -36,9 +36,10 @@ use Rattle.history_book.specs.Steps.{view_after_append, own_history}
 use Rattle.history_book.proofs.ListLemmas.{prefix_push, prefix_refl}
 use Rattle.history_book.proofs.HistoryLemmas.{entries_added, entries_else, numbered_once, same_cases, same_history_refl}
 use Rattle.history_book.proofs.SumLemmas.{part_of_sum, parts_of_sum, seat_cases, seat_changed, seat_stays, sum_changed}
-use Rattle.history_book.proofs.PurseLemmas.{contains_none, counted, kept_counts, sum_one, times_kept}
+use Rattle.history_book.proofs.PurseLemmas.{counted, kept_counts, sum_one, times_kept}
 use Rattle.history_book.proofs.RuleLemmas.{no_other_owner}
 use Rattle.history_book.proofs.KeepLemmas.{at_most_once}
+use Rattle.mon_value.proofs.PlainLemmas.{contains_none}
 
 filter_out : {X : Type 0} (p : X → Bool) (xs : List X) (x : X) → p x ≡ false → filter p (xs ++ x ∷ []) ≡ filter p xs
 filter_out p xs x e = filter-append p xs (x ∷ []) ∙ ap (λ b. filter p xs ++ cond b (x ∷ []) []) e

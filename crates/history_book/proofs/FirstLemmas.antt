@@ -1,5 +1,5 @@
 -- A new book keeps the book rule, and its owners are dealt out in order.
-use Rattle.std.proofs.Common.{◌≡◌, ℕ, zero, suc, ◌+◌, ◌<◌, ◌≤◌, ◌≢◌, List, [], ◌∷◌, length, filter, map, get_or}
+use Rattle.std.proofs.Common.{◌≡◌, ℕ, zero, suc, ◌+◌, ◌<◌, ◌≤◌, ◌≢◌, List, [], ◌∷◌, length, filter, get_or}
 use Rattle.std.proofs.Common.{replicate, refl, sym, ap, ◌∙◌, subst, arith, nat_eq, true, false, cond, inl, inr}
 use Rattle.std.specs.List.{Contains, sum_by}
 use mathlib.Core.Logic.{dite}
@@ -24,16 +24,12 @@ use Rattle.history_book.specs.Steps.{first_view, ranges_on}
 use Rattle.history_book.proofs.ListLemmas.{prefix_refl}
 use Rattle.history_book.proofs.HistoryLemmas.{no_entries_at, numbered_once}
 use Rattle.history_book.proofs.SumLemmas.{seat_alone}
-use Rattle.history_book.proofs.PurseLemmas.{among_high, among_yes, contains_none, cut_among, none_among, one_if_same}
+use Rattle.history_book.proofs.PurseLemmas.{among_high, among_yes, cut_among, none_among, one_if_same}
 use Rattle.history_book.proofs.PurseLemmas.{sum_one}
 use Rattle.history_book.proofs.KeepLemmas.{no_entries_in}
+use Rattle.mon_value.proofs.PlainLemmas.{sum_by-map, contains_none}
 
 -- ---- how often a number stands in a row of numbers
-
-sum_mapped : {X Y : Type 0} (f : Y → ℕ) (g : X → Y) (xs : List X) → sum_by f (map g xs) ≡ sum_by (λ x. f (g x)) xs
-sum_mapped f g [] = refl
-sum_mapped f g (x ∷ xs) =
-    sum_by-cons f (g x) (map g xs) ∙ ap (λ n. f (g x) + n) (sum_mapped f g xs) ∙ sym (sum_by-cons (λ y. f (g y)) x xs)
 
 sum_alike : {X : Type 0} (f g : X → ℕ) → ((x : X) → f x ≡ g x) → (xs : List X) → sum_by f xs ≡ sum_by g xs
 sum_alike f g same [] = refl
@@ -86,7 +82,7 @@ once_among n first (suc count) low high =
 histories_once : (leaves ranges n : ℕ) → n < leaves + ranges
     → sum_by (λ g. cond (same_history (history_numbered leaves n) g) 1 0) (histories_in leaves ranges) ≡ 1
 histories_once leaves ranges n low =
-    sum_mapped (λ g. cond (same_history (history_numbered leaves n) g) 1 0) (history_numbered leaves) (numbers_on 0
+    sum_by-map (λ g. cond (same_history (history_numbered leaves n) g) 1 0) (history_numbered leaves) (numbers_on 0
     (leaves + ranges))
     ∙ sum_alike (λ m. cond (same_history (history_numbered leaves n) (history_numbered leaves m)) 1 0) (one_if_same n)
     (λ m. ap
@@ -95,7 +91,7 @@ histories_once leaves ranges n low =
 
 ranges_counted : (ranges n : ℕ) → times_range (range_numbered n) (ranges_on 0 ranges) ≡ sum_by
     (one_if_same n) (numbers_on 0 ranges)
-ranges_counted ranges n = sum_mapped (λ r. cond (same_range (range_numbered n) r) 1 0) range_numbered
+ranges_counted ranges n = sum_by-map (λ r. cond (same_range (range_numbered n) r) 1 0) range_numbered
     (numbers_on 0 ranges)
 
 -- ---- a new book

@@ -17,6 +17,7 @@ use Rattle.history_book.specs.Histories.{AreFronts, IsFor, empty_histories, entr
 use Rattle.history_book.specs.Histories.{history_number, numbered_as, same_history}
 use Rattle.history_book.specs.Histories.{with_book_entry}
 use Rattle.history_book.proofs.ListLemmas.{added_else, added_here, map_longer, prefix_unmapped}
+use Rattle.mon_value.proofs.PlainLemmas.{equal_means}
 
 -- ---- which history
 
@@ -24,14 +25,11 @@ pub same_history_refl : (h : History) → same_history h h ≡ true
 same_history_refl (of.Leaf leaf) = let n : ℕ = leaf.0 in let e : nat_eq n n ≡ true = grind (arith, nat_tests) in e
 same_history_refl (of.Range range) = let n : ℕ = range.0 in let e : nat_eq n n ≡ true = grind (arith, nat_tests) in e
 
-equal_numbers : (n m : ℕ) → nat_eq n m ≡ true → n ≡ m
-equal_numbers n m e = grind (arith, nat_tests)
-
 same_if_same : (h g : History) → same_history h g ≡ true → h ≡ g
-same_if_same (of.Leaf a) (of.Leaf b) e = ap (λ n. of.Leaf (record { 0 = n })) (equal_numbers a.0 b.0 e)
+same_if_same (of.Leaf a) (of.Leaf b) e = ap (λ n. of.Leaf (record { 0 = n })) (equal_means a.0 b.0 e)
 same_if_same (of.Leaf a) (of.Range b) e = absurd (grind (arith, nat_tests))
 same_if_same (of.Range a) (of.Leaf b) e = absurd (grind (arith, nat_tests))
-same_if_same (of.Range a) (of.Range b) e = ap (λ n. of.Range (record { 0 = n })) (equal_numbers a.0 b.0 e)
+same_if_same (of.Range a) (of.Range b) e = ap (λ n. of.Range (record { 0 = n })) (equal_means a.0 b.0 e)
 
 same_by : (h g : History) (b : Bool) → same_history h g ≡ b → (h ≡ g) ⊎ (same_history h g ≡ false)
 same_by h g true e = inl (same_if_same h g e)

@@ -38,10 +38,11 @@ use Rattle.history_book.proofs.ListLemmas.{filter_between, longer_first, longer_
 use Rattle.history_book.proofs.ListLemmas.{prefix_nil}
 use Rattle.history_book.proofs.HistoryLemmas.{entries_longer}
 use Rattle.history_book.proofs.SumLemmas.{part_of_sum, parts_of_sum}
-use Rattle.history_book.proofs.PurseLemmas.{both_count, contains_none, guest_ranges, kept_after_handing, kept_both}
+use Rattle.history_book.proofs.PurseLemmas.{both_count, guest_ranges, kept_after_handing, kept_both}
 use Rattle.history_book.proofs.PurseLemmas.{kept_counts, no_number, number_both, number_handed, ranges_both}
 use Rattle.history_book.proofs.PurseLemmas.{rooms_both, stock_counts}
 use Rattle.history_book.proofs.RuleLemmas.{keeps_change, keeps_cut, keeps_union}
+use Rattle.mon_value.proofs.PlainLemmas.{contains_none}
 
 filter_by : {X : Type 0} (p : X → Bool) (x : X) (xs : List X) (b : Bool) → p x ≡ b
     → ((y : X) → Contains (x ∷ xs) y → p y ≡ true → ⊥) → filter p xs ≡ [] → filter p (x ∷ xs) ≡ []

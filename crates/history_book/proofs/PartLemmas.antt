@@ -18,10 +18,11 @@ use Rattle.history_book.specs.Seats.{guest_purse, promised_after, rooms_after, t
 use Rattle.history_book.specs.BookRule.{KeepsBookRule, has_number, has_room, hold_count, owns}
 use Rattle.history_book.specs.Steps.{CanGiveBack, after_part, own_history, part}
 use Rattle.history_book.proofs.SumLemmas.{part_of_sum}
-use Rattle.history_book.proofs.PurseLemmas.{contains_none, guest_kept, guest_number, guest_ranges, guest_rooms}
+use Rattle.history_book.proofs.PurseLemmas.{guest_kept, guest_number, guest_ranges, guest_rooms}
 use Rattle.history_book.proofs.PurseLemmas.{ranges_parted, room_made, room_taken, sum_one}
 use Rattle.history_book.proofs.RuleLemmas.{keeps_cut}
 use Rattle.history_book.proofs.KeepLemmas.{true_alike, was_true}
+use Rattle.mon_value.proofs.PlainLemmas.{contains_none}
 
 -- how often a history is that of a leaf
 abbrev is_of : Leaf → History → ℕ

@@ -1,5 +1,5 @@
 -- Each kind of step of a book is allowed.
-use Rattle.std.proofs.Common.{◌≡◌, ℕ, zero, suc, ◌+◌, ◌^◌, ◌%◌, ◌<◌, ◌≤◌, Bool, true, false, List, [], ◌∷◌, length}
+use Rattle.std.proofs.Common.{◌≡◌, ℕ, ◌+◌, ◌^◌, ◌%◌, ◌<◌, ◌≤◌, Bool, true, List, [], ◌∷◌, length}
 use Rattle.std.proofs.Common.{filter, get_or, set, refl, sym, ap, ◌∙◌, subst, arith, nat_eq, cond}
 use Rattle.std.specs.Prelude.{Option, Some, None, IfSome, option_map}
 use Rattle.std.specs.List.{Contains, sum_by}
@@ -43,6 +43,7 @@ use Rattle.history_book.proofs.KeepLemmas.{at_most_once, keeps_deal, keeps_hand_
 use Rattle.history_book.proofs.KeepLemmas.{keeps_split_off}
 use Rattle.history_book.proofs.PartLemmas.{keeps_part}
 use Rattle.history_book.proofs.AppendLemmas.{keeps_append}
+use Rattle.mon_value.proofs.PlainLemmas.{contains_kept}
 
 abbrev pub holds_of : ℕ → ℕ → State (Unit {0}) SeatView → Type 0
 holds_of leaves ranges state = BookHolds leaves ranges state.words state.views
@@ -88,19 +89,6 @@ allows_learn leaves ranges slots id me n low s rule _ is _ =
         refl,
       ),
     )
-
-contains_past : {X : Type 0} (b : Bool) (y : X) (xs : List X) (x : X) → Contains xs x → Contains (cond b (y ∷ xs) xs) x
-contains_past true y xs x has = (suc has.0, (let w : has.0 < length xs = has.1 in omega arith), has.2)
-contains_past false y xs x has = has
-
-contains_filter : {X : Type 0} (test : X → Bool) (xs : List X) (x : X) → Contains xs x → test x ≡ true
-    → Contains (filter test xs) x
-contains_filter test [] x has passes = absurd (let none : has.0 < 0 = has.1 in omega arith)
-contains_filter test (y ∷ xs) x (zero, within, e) passes =
-    subst (λ z. Contains (filter test (z ∷ xs)) x) (sym e) (subst
-    (λ b. Contains (cond b (x ∷ filter test xs) (filter test xs)) x) (sym passes) (0, omega arith, refl))
-contains_filter test (y ∷ xs) x (suc k, within, e) passes =
-    contains_past (test y) y (filter test xs) x (contains_filter test xs x (k, omega arith, e) passes)
 
 module _ (leaves ranges : ℕ) (whole : Histories) (words : List ℕ) (seats : List SeatView)
     (rule : KeepsBookRule leaves ranges whole words seats) (id : ℕ) (v : SeatView) (is : get_elem? seats id ≡ some v)
@@ -166,7 +154,7 @@ module _ (leaves ranges : ℕ) (whole : Histories) (words : List ℕ) (seats : L
           kept = k.kept;
           has = subst (λ o. Contains (kept_in_purse o) k.kept) e own_kept;
           under = k.under;
-          own = subst (λ xs. Contains xs x) (true_v.exact k.kept h own_kept) (contains_filter
+          own = subst (λ xs. Contains xs x) (true_v.exact k.kept h own_kept) (contains_kept
               (is_under k.kept.number) (entries whole h) x there passes);
         })
         (λ apart'. absurd (

@@ -1,4 +1,5 @@
 -- How often numbers, rooms and ranges stand in purses, and what becomes of that as purses are cut and put together.
+use Rattle.history_book.specs.declared.views.BookEntry.TheVariants as one
 use Rattle.std.proofs.Common.{◌≡◌, ℕ, ◌+◌, ◌-◌, ◌<◌, ◌≤◌, ◌≢◌, Bool, true, false, not, ◌&&◌, List, [], ◌∷◌, ◌++◌}
 use Rattle.std.proofs.Common.{filter, refl, sym, ap, ◌∙◌, subst, arith, nat_eq, nat_lt, cond}
 use Rattle.std.specs.Prelude.{Option, Some, None, option_map, option_to_list}
@@ -23,6 +24,7 @@ use Rattle.history_book.specs.Seats.{met_purse, new_number, no_purse, times_numb
 use Rattle.history_book.specs.Seats.{with_stock_handed, without_one}
 use Rattle.history_book.specs.BookRule.{in_purse, kept_in_purse}
 use Rattle.history_book.specs.Steps.{both_purses}
+use Rattle.mon_value.proofs.PlainLemmas.{contains_none}
 
 -- ---- counting
 
@@ -31,9 +33,6 @@ sum_one f x = sum_by-cons f x [] ∙ (let n : ℕ = f x in let none : sum_by f [
 
 pub counted : {X : Type 0} (f : X → ℕ) (xs : List X) (x : X) → Contains xs x → f x ≤ sum_by f xs
 counted f xs x has = subst (λ y. f y ≤ sum_by f xs) has.2 (get_or-le-sum_by f xs has.0 x has.1)
-
-pub contains_none : {X : Type 0} (x : X) → Contains [] x → ⊥
-contains_none x has = let none : has.0 < 0 = has.1 in omega arith
 
 -- ---- numbers among some
 
@@ -273,3 +272,14 @@ pub room_taken : (leaf own : Leaf) (rooms : List Leaf) → 0 < times_room own ro
 room_taken leaf own [] some = absurd (let none : times_room own [] ≡ 0 = refl in omega arith)
 room_taken leaf own (room ∷ rooms) some = taken_by leaf own room rooms (same_leaf own room) refl
     (room_taken leaf own rooms) some
+
+-- who holds a range in front of others holds it
+pub holds_first : (range : Range) (holds : List Range) → 0 < times_range range (range ∷ holds)
+holds_first range holds =
+    let all : times_range range (range ∷ holds) ≡ cond (same_range range range) 1 0 + times_range range holds
+    = sum_by-cons (λ other. cond (same_range range other) 1 0) range holds in
+    let n : ℕ = range.0 in
+    let same : same_range range range ≡ true = let e : nat_eq n n ≡ true = grind (arith, nat_tests) in e in
+    let one : times_range range (range ∷ holds) ≡ 1 + times_range range holds
+    = all ∙ ap (λ b. cond b 1 0 + times_range range holds) same in
+    omega arith

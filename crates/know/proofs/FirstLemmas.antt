@@ -1,6 +1,6 @@
 -- Who has seen nothing: that is held and covered, whatever bits are known.
-use Rattle.std.proofs.Common.{◌≡◌, ℕ, zero, suc, ◌<◌, List, [], ◌∷◌, length, map, replicate, refl, sym, ap}
-use Rattle.std.proofs.Common.{subst, ◌∙◌, arith}
+use Rattle.std.proofs.Common.{◌≡◌, ℕ, zero, suc, ◌<◌, List, [], ◌∷◌, length, replicate, refl, sym, ap}
+use Rattle.std.proofs.Common.{subst, ◌∙◌}
 use Rattle.std.specs.Prelude.{Contains}
 use Rattle.mon_value.specs.LeafHistories.{IsWellFormed}
 use Rattle.mon_value.specs.declared.histories.Entry.{Entry}
@@ -13,19 +13,13 @@ use Rattle.mon_topo.specs.Settings.{Setting, zone_of_leaf}
 use Rattle.mon_topo.specs.Zones.{leaves_in, ranges_in}
 use Rattle.history_book.specs.Histories.{empty_histories}
 use Rattle.history_book.proofs.HistoryLemmas.{none_at, nothing}
+use Rattle.mon_value.proofs.PlainLemmas.{contains_none}
 use Rattle.raise_table.specs.declared.views.Hints.{Hints}
 use Rattle.know.specs.Sound.{IsSound, known_bits}
 
 count_of : {X : Type 0} (n : ℕ) (x : X) → length (replicate n x) ≡ n
 count_of zero x = refl
 count_of (suc n) x = ap suc (count_of n x)
-
-each_of : {X Y : Type 0} (f : X → Y) (n : ℕ) (x : X) → map f (replicate n x) ≡ replicate n (f x)
-each_of f zero x = refl
-each_of f (suc n) x = ap (λ rest. f x ∷ rest) (each_of f n x)
-
-none_there : {X : Type 0} (x : X) → Contains [] x → ⊥
-none_there x there = let l : there.0 < 0 = there.1 in absurd (omega arith)
 
 pub nothing_is_sound : (setting : Setting) (hints : Hints) (leaves ranges : ℕ) → leaves
     ≡ length (leaves_in setting.zones)
@@ -38,7 +32,7 @@ nothing_is_sound setting hints leaves ranges all_leaves all_ranges =
         all_ranges = count_of ranges (nothing RangeEntry) ∙ all_ranges;
         formed = λ leaf here. subst IsWellFormed (sym (none_at leaves leaf.0)) tt;
         at_home = λ leaf e. subst (λ (h : List Entry). Contains h e → AreAtHome setting.held setting.zones e)
-            (sym (none_at leaves leaf.0)) (λ there. absurd (none_there e there));
+            (sym (none_at leaves leaf.0)) (λ there. absurd (contains_none e there));
         legal = λ range here.
             subst (IsLegal setting.held setting.zones setting.points range) (sym (none_at ranges range.0)) tt;
         borne_out = λ range here. subst (IsHeldBy seen range) (sym (none_at ranges range.0))

@@ -87,7 +87,7 @@ module _ (setting : Setting) where
 
 -- ---- two together
 
-within : (front all : Histories) → AreFronts front all → AreWithin front all
+pub within : (front all : Histories) → AreFronts front all → AreWithin front all
 within front all fronts = record {
   leaves = λ leaf. begins_from (leaf_history all leaf) (leaf_history front leaf) (fronts.0 leaf).0
       (sym (fronts.0 leaf).1);

@@ -1,6 +1,6 @@
 -- The series of replicas that share none are those of all their rows.
 use Rattle.std.proofs.lemmas.Bool.{or_from}
-use Rattle.std.proofs.Common.{◌≡◌, ◌∙◌, ◌||◌, Bool, true, false, List, [], ◌∷◌, ◌++◌, map, refl, sym, ap}
+use Rattle.std.proofs.Common.{◌≡◌, ◌∙◌, ◌||◌, true, false, List, [], ◌∷◌, ◌++◌, map, refl, sym, ap}
 use Rattle.std.specs.Borrow.{Bor}
 use Rattle.std.specs.List.{AllByRecursion, flat_map}
 use Rattle.std.proofs.lemmas.List.Folds.{list_any-append}
@@ -14,6 +14,7 @@ use Rattle.mon_value.specs.declared.rows.Row.{Row}
 use Rattle.mon_value.specs.declared.rows.SeriesKey.{SeriesKey}
 use Rattle.mon_meaning.specs.Central.{all_held}
 use Rattle.mon_meaning.proofs.ApartSeries.{series-apart}
+use Rattle.mon_value.proofs.PlainLemmas.{not_both, or_true}
 use Rattle.leaf_eval.specs.Replicas.{AreReplicasApart, ShareNoSeries, has_series, replica_rows_of}
 use Rattle.mon_meaning.specs.ReadableSlots.{slot_rows}
 
@@ -21,10 +22,6 @@ abbrev SeriesGroup : Type 0
 SeriesGroup = SeriesKey × List Point
 
 -- ---- a series has its own rows
-
-or_true : (b : Bool) → (b || true) ≡ true
-or_true true = refl
-or_true false = refl
 
 weaker : (P Q : Row → Type 0) (rows : List Row) → ((row : Row) → P row → Q row) → AllByRecursion P rows
     → AllByRecursion Q rows
@@ -41,10 +38,6 @@ own_series (row ∷ rows) = (
 )
 
 -- ---- two sides that share none
-
-not_both : (b : Bool) → b ≡ false → b ≡ true → ⊥
-not_both true e f = absurd cc
-not_both false e f = absurd cc
 
 pub two_apart : (rows others : List Row) → ShareNoSeries rows others
     → points_by_series (rows ++ others) ≡ points_by_series rows ++ points_by_series others

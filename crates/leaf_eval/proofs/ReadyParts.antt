@@ -13,6 +13,7 @@ use Rattle.mql_types.specs.Meaning.{load_of, grid_of, rows_meant}
 use Rattle.mql_types.proofs.FetchColumnLemmas.{fetches_have_columns}
 use Rattle.mql_types.proofs.QueryLaws.{typed_evaluable}
 use Rattle.mql_types.proofs.TypedGridLemmas.{typed_grid}
+use Rattle.mon_value.proofs.PlainLemmas.{all_front, all_back, all_append}
 use Rattle.mql_types.specs.Nodes as node
 use Rattle.mql_types.specs.Nodes.{NodeTree, TypedTree, columns_of, level_of}
 use Rattle.mql_types.specs.Levels as up
@@ -28,19 +29,6 @@ pub record IsPartReady (grid : Grid) (series : List (SeriesKey × List Point)) (
   pub asked : IsPartAsked grid part.1 series
   pub can : IsWithinRows (load_of grid part.1 asked.source)
       → CanGoUp (columns_of part.1) part.0 (rows_meant grid part.1 asked.source)
-
-all_first : {A : Type 0} (P : A → Type 0) (xs ys : List A) → AllByRecursion P (xs ++ ys) → AllByRecursion P xs
-all_first P [] ys all = tt
-all_first P (x ∷ xs) ys all = (all.0, all_first P xs ys all.1)
-
-all_second : {A : Type 0} (P : A → Type 0) (xs ys : List A) → AllByRecursion P (xs ++ ys) → AllByRecursion P ys
-all_second P [] ys all = all
-all_second P (x ∷ xs) ys all = all_second P xs ys all.1
-
-all_both : {A : Type 0} (P : A → Type 0) (xs ys : List A) → AllByRecursion P xs → AllByRecursion P ys
-    → AllByRecursion P (xs ++ ys)
-all_both P [] ys all more = more
-all_both P (x ∷ xs) ys all more = (all.0, all_both P xs ys all.1 more)
 
 part_or-all : (P : TopPart → Type 0) (b : Bool) (use_of : PartUse) (part : NodeTree) (below : List TopPart)
     → P (use_of, part)
@@ -95,18 +83,18 @@ module _ (here : Level → Bool) (held : SchemaLists) (grid : Grid) (source : Li
       (part_or-all Ready (here (level_of input)) (up.ToCut most column) input _
       (record { asked = asked_part input can has; can = λ few. tt }) (all_ready input can has))
   all_ready (node.Join info left right) can has =
-      let first = all_first (HasFetchColumns held) (fetches left) (fetches right) has in
-      let second = all_second (HasFetchColumns held) (fetches left) (fetches right) has in
+      let first = all_front (HasFetchColumns held) (fetches left) (fetches right) has in
+      let second = all_back (HasFetchColumns held) (fetches left) (fetches right) has in
       part_or-all Ready (here info.level) up.AsRows (node.Join info left right) _ (as_rows (node.Join info left right)
       can has)
-      (all_both Ready (top_parts here left) (top_parts here right) (all_ready left can.1.1.0 first)
+      (all_append Ready (top_parts here left) (top_parts here right) (all_ready left can.1.1.0 first)
       (all_ready right can.1.1.1 second))
   all_ready (node.Union info left right) can has =
-      let first = all_first (HasFetchColumns held) (fetches left) (fetches right) has in
-      let second = all_second (HasFetchColumns held) (fetches left) (fetches right) has in
+      let first = all_front (HasFetchColumns held) (fetches left) (fetches right) has in
+      let second = all_back (HasFetchColumns held) (fetches left) (fetches right) has in
       part_or-all Ready (here info.level) up.AsRows (node.Union info left right)
       _ (as_rows (node.Union info left right) can has)
-      (all_both Ready (top_parts here left) (top_parts here right) (all_ready left can.0 first)
+      (all_append Ready (top_parts here left) (top_parts here right) (all_ready left can.0 first)
       (all_ready right can.1 second))
 
 -- a query that is asked over a leaf's series is ready in each of its parts

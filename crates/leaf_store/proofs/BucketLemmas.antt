@@ -6,7 +6,6 @@ use Rattle.std.proofs.lemmas.Bool.{and_parts}
 use Rattle.std.proofs.lemmas.Bool.Decides.{nat_tests}
 use Rattle.std.proofs.lemmas.List.Concat.{flat_map-append}
 use Rattle.std.proofs.lemmas.Nat.{mod_below}
-use Rattle.mon_hints.proofs.TruthLemmas.{or_false}
 use Rattle.mon_hints.specs.BucketSets.{HasNone, IsNext}
 use Rattle.mon_hints.specs.Hints.{value_excerpts, bucket_of, fingerprint_of, field_buckets, series_buckets}
 use Rattle.mon_hints.specs.Hints.{value_buckets, history_buckets, rows_buckets}
@@ -21,6 +20,7 @@ use Rattle.mon_value.specs.declared.schemas.TargetSchema.{TargetSchema}
 use Rattle.mon_value.specs.declared.values.FieldValue.{FieldValue}
 use Rattle.mon_value.specs.LeafHistories.{brought_rows, leaf_rows}
 use Rattle.leaf_store.specs.LeafStates.{buckets_by, is_unraised, key_buckets}
+use Rattle.mon_value.proofs.PlainLemmas.{or_false}
 
 -- ---- below their number
 
@@ -177,3 +177,10 @@ history_more buckets held history last =
     ap (rows_buckets (key_buckets buckets held)) (flat_map-append brought_rows history (last ∷ [])
     ∙ ap (λ more. leaf_rows history ++ more) (append-nil (brought_rows last)))
     ∙ flat_map-append (λ (row : Row). key_buckets buckets held row.key) (leaf_rows history) (brought_rows last)
+
+-- a series whose schemas are held has the buckets by them
+pub own_buckets : (count : ℕ) (held : SchemaLists) (target : TargetSchema) (metric : MetricSchema) (key : SeriesKey)
+    → target_named key.target.schema held.targets ≡ Some target → metric_named key.metric held.metrics ≡ Some metric
+    → key_buckets count held key ≡ series_buckets count target metric key
+own_buckets count held target metric key target_is metric_is =
+    λ i. buckets_by count (target_is i) (metric_is i) key

@@ -5,11 +5,11 @@ use Rattle.std.specs.Prelude.{is_some}
 use Rattle.std.proofs.lemmas.Bool.{or_left, or_right, or_cases}
 use Rattle.std.proofs.lemmas.List.Concat.{flat_map-append}
 use Rattle.std.proofs.lemmas.List.Folds.{list_any-append}
-use Rattle.mon_hints.proofs.TruthLemmas.{or_false}
 use Rattle.mon_hints.specs.Hints.{history_buckets, rows_buckets}
 use Rattle.mon_hints.specs.Formulas.{is_among}
 use Rattle.mon_series.specs.declared.kept_rows.KeptSeries.{KeptSeries}
 use Rattle.mon_value.proofs.SameLemmas.{same_series-Decides}
+use Rattle.mon_value.proofs.PlainLemmas.{or_false}
 use Rattle.mon_value.specs.LeafHistories.{brought_rows, entry_rows, is_opened, leaf_rows, replica_rows, same_replica}
 use Rattle.mon_value.specs.LeafHistories.{last_end, points_of, rows_of}
 use Rattle.mon_value.specs.Same.{same_series}

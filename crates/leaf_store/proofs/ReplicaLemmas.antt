@@ -3,7 +3,6 @@ use Rattle.std.proofs.Common.{◌≡◌, ◌∙◌, ℕ, zero, suc, Bool, true, 
 use Rattle.std.proofs.Common.{List, [], ◌∷◌, ◌++◌, map, length, position, slice_get, refl, sym, ap, append-nil}
 use Rattle.std.specs.Map.{keys_of}
 use Rattle.indexmap.specs.Layout.{set_value_at}
-use Rattle.mon_hints.proofs.TruthLemmas.{or_false}
 use Rattle.mon_value.specs.LeafHistories.{IsWellFormed, entry_rows, is_opened, replica_rows, same_replica}
 use Rattle.mon_value.specs.declared.histories.Entry.{Entry}
 use Rattle.mon_value.specs.declared.histories.Entry.TheVariants as entry
@@ -17,6 +16,7 @@ use Rattle.leaf_store.specs.within.Replicas.{HoldsHistory, IsPut, Replicas, rows
 use Rattle.mon_series.proofs.FirstLemmas.{IsFirst, first_found, first_position, get_there}
 use Rattle.mon_value.proofs.LeafHistoryLemmas.{no_rows, opened_more, opened_same, parts_same, replica_rows-push}
 use Rattle.mon_value.proofs.LeafHistoryLemmas.{same_tests}
+use Rattle.mon_value.proofs.PlainLemmas.{or_false}
 
 -- ---- the test of a replica
 

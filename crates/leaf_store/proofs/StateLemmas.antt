@@ -5,7 +5,6 @@ use Rattle.std.specs.List.{count_by}
 use Rattle.std.proofs.lemmas.List.{drop-append-le, length-append, length-drop}
 use Rattle.std.proofs.lemmas.List.Folds.{list_any-append}
 use Rattle.std.proofs.lemmas.List.Sums.{sum_by-append}
-use Rattle.mon_hints.proofs.TruthLemmas.{or_false}
 use Rattle.mon_hints.specs.Formulas.{is_among}
 use Rattle.mon_schema.specs.Names.{SchemaLists}
 use Rattle.mon_value.specs.LeafHistories.{IsWellFormed, MayFollow, is_down, is_down_after, is_switch}
@@ -22,6 +21,7 @@ use Rattle.leaf_store.specs.within.States.{AllSwitches}
 use Rattle.leaf_store.proofs.BucketLemmas.{history_more}
 use Rattle.leaf_store.proofs.EntryLemmas.{shown_count}
 use Rattle.mon_value.proofs.LeafHistoryLemmas.{down_push, follows}
+use Rattle.mon_value.proofs.PlainLemmas.{or_false}
 
 -- the history with an entry more
 pub history_push : (first fresh : List Entry) (moved : ℕ) (last : Entry) → moved ≤ length fresh

@@ -4,7 +4,7 @@ use Rattle.std.specs.List.{AllByRecursion}
 use Rattle.std.proofs.lemmas.List.{take-append-drop}
 use Rattle.know.specs.Knowledge.{Knowledge}
 use Rattle.leaf_store.proofs.FollowLemmas.{rows_source}
-use Rattle.line_runs.proofs.Sources.{all_flat, ranges_source, replica_at_home}
+use Rattle.line_runs.proofs.Sources.{ranges_source, replica_at_home}
 use Rattle.line_runs.specs.Questions.{CanBeChecked, IsAnswerTo}
 use Rattle.mon_config.specs.declared.config.Config.{Config}
 use Rattle.mon_schema.specs.Fits.{fits}
@@ -19,6 +19,7 @@ use Rattle.mon_value.specs.declared.histories.Entry.{Entry}
 use Rattle.mon_value.specs.declared.histories.Histories.{Histories}
 use Rattle.mon_value.specs.declared.rows.Row.{Row}
 use Rattle.mql_types.proofs.KeptRows.{all-take}
+use Rattle.mon_value.proofs.PlainLemmas.{all_flat}
 use Rattle.query_core.specs.Traces.{IsOfRanges, cut_of, looked_at, resolved_rows, source_of}
 use Rattle.query_core.specs.declared.answers.Answer.{Answer}
 use Rattle.query_core.specs.declared.answers.Resolved.{Resolved}

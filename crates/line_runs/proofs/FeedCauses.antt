@@ -15,6 +15,7 @@ use Rattle.mon_config.specs.declared.config.Config.{Config}
 use Rattle.mon_store.proofs.OwnLemmas.{within_front}
 use Rattle.mon_store.specs.Writes.{AreAllDown, IsRefused, IsRefusedAs, WasFoundSo}
 use Rattle.mon_topo.proofs.FrontLemmas.{begins_length, begins_through, take_on}
+use Rattle.mon_value.proofs.PlainLemmas.{equal_itself}
 use Rattle.mon_topo.specs.RangeHistories.{serving, is_avoided}
 use Rattle.mon_value.specs.Histories.{leaf_history, range_history, same_leaf}
 use Rattle.mon_value.specs.LeafHistories.{IsDownAt, is_down}
@@ -33,7 +34,6 @@ use Rattle.run_traces.specs.LineClaims.{marked}
 use Rattle.write_core.specs.RangeAnswers.{refusal}
 use Rattle.write_core.specs.declared.refusals.Refused.{Refused}
 use Rattle.write_core.specs.declared.refusals.Refused.TheVariants as ranged
-use Rattle.line_runs.proofs.FeedRows.{same_number}
 
 -- how much of each history someone has seen
 abbrev pub lengths : Knowledge → History → ℕ
@@ -66,7 +66,7 @@ all_avoided replicas = avoided_by (map (λ (r : SlotLeaf). r.leaf) replicas) rep
     avoided_by leaves [] f = tt
     avoided_by leaves (r ∷ some) f = (
       f r.leaf (ap (λ b. b || list_any (same_leaf r.leaf) (map (λ (o : SlotLeaf). o.leaf) some))
-          (same_number r.leaf.0)),
+          (equal_itself r.leaf.0)),
       avoided_by leaves some (λ leaf is. f leaf (or_right (same_leaf leaf r.leaf)
           (list_any (same_leaf leaf) (map (λ (o : SlotLeaf). o.leaf) some)) is)),
     )

@@ -1,10 +1,9 @@
 -- What some records of a feed did: the entries that were made, and whose they are.
-use Rattle.std.proofs.Common.{◌≡◌, ℕ, ◌+◌, ◌<◌, ◌≤◌, nat_eq, Bool, true, false, cond, List, []}
+use Rattle.std.proofs.Common.{◌≡◌, ℕ, ◌+◌, ◌<◌, ◌≤◌, Bool, true, false, cond, List, []}
 use Rattle.std.proofs.Common.{◌∷◌, ◌++◌, length, map, filter, drop, slice_get, Some, refl, sym, ap, ◌∙◌, subst}
 use Rattle.std.proofs.Common.{arith, append_assoc, append-nil, inl, inr}
 use Rattle.std.specs.List.{AllByRecursion, flat_map, list_any}
 use Rattle.std.proofs.lemmas.Bool.{false≢true}
-use Rattle.std.proofs.lemmas.Bool.Decides.{nat_tests}
 use Rattle.std.proofs.lemmas.List.{drop-append-le, drop_all, drop_at, length-append, map-append}
 use Rattle.std.proofs.lemmas.List.Concat.{flat_map-append}
 use Rattle.std.proofs.lemmas.List.Elements.{filter-append}
@@ -45,6 +44,7 @@ use Rattle.line_runs.proofs.FeedRows.{IsNone, any_first, any_last, behind_stands
 use Rattle.line_runs.proofs.FeedRows.{kept_all, rows_dropped, source_behind}
 use Rattle.run_traces.proofs.Causes.{fed_more}
 use Rattle.running_query.proofs.GoingLemmas.{fronts_through, same_fronts}
+use Rattle.run_traces.proofs.Acks.{same_back}
 
 -- ---- callers that keep their place
 
@@ -84,18 +84,6 @@ came_both a b c p q =
 lies_by : (config : Config) (range : Range) (row : Row) (other : Range) → range_of_key config row.key ≡ Some other
     → lies_in config range row ≡ same_range range other
 lies_by config range row other is = rw is refl
-
-not_one_way : (n m : ℕ) → nat_eq n m ≡ true → nat_eq m n ≡ false → ⊥
-not_one_way n m is other = grind (arith, nat_tests)
-
-back_by : (n m : ℕ) (b c : Bool) → nat_eq n m ≡ b → nat_eq m n ≡ c → b ≡ c
-back_by n m true true is back = refl
-back_by n m true false is back = absurd (not_one_way n m is back)
-back_by n m false true is back = absurd (not_one_way m n back is)
-back_by n m false false is back = refl
-
-same_back : (n m : ℕ) → nat_eq n m ≡ nat_eq m n
-same_back n m = back_by n m (nat_eq n m) (nat_eq m n) refl refl
 
 module _ (config : Config) (pass : ℕ) (range : Range) (row : Row) (ack : Ack) where
   abbrev Mine : BookEntry → Type 0

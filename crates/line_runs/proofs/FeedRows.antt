@@ -4,8 +4,7 @@ use Rattle.std.proofs.Common.{◌∷◌, ◌++◌, length, map, filter, take, dr
 use Rattle.std.proofs.Common.{arith}
 use Rattle.std.specs.List.{AllByRecursion, flat_map, list_any}
 use Rattle.std.specs.Ordering.{int_eq}
-use Rattle.std.proofs.lemmas.Bool.{and_from, and_parts, false≢true, false_from_ne_true}
-use Rattle.std.proofs.lemmas.Bool.Decides.{nat_tests}
+use Rattle.std.proofs.lemmas.Bool.{and_from, false≢true, false_from_ne_true}
 use Rattle.std.proofs.lemmas.Int.{ints}
 use Rattle.std.proofs.lemmas.List.{take-append-drop}
 use Rattle.std.proofs.lemmas.List.Concat.{flat_map-append}
@@ -24,7 +23,8 @@ use Rattle.run_theory.proofs.Callers.{both_all}
 use Rattle.run_traces.specs.LineClaims.{book_row}
 use Rattle.run_traces.specs.LineSwitches.{is_row}
 use Rattle.run_traces.proofs.ListFacts.{all_as, last_all}
-use Rattle.run_traces.proofs.RowFacts.{row_key}
+use Rattle.run_traces.proofs.RowFacts.{row_key, row_end}
+use Rattle.mon_value.proofs.PlainLemmas.{equal_itself}
 
 -- ---- lists
 
@@ -92,11 +92,6 @@ module _ {X : Type 0} where
 abbrev pub IsNone : Row → List Row → Type 0
 IsNone row olds = AllByRecursion (λ old. is_row row old ≡ false) olds
 
-row_end : (row other : Row) → is_row row other ≡ true → row.point.end ≡ other.point.end
-row_end row other is =
-    let e = (and_parts (same_series row.key other.key) (int_eq row.point.end other.point.end) is).1 in
-    grind (arith, ints)
-
 ends_apart : (old row : Row) → EndsBefore old row → is_row row old ≡ false
 ends_apart old row before = false_from_ne_true (is_row row old) (λ is.
     let less = before ((same_series-Decides old.key row.key).1 (sym (row_key row old is))) in
@@ -126,13 +121,10 @@ rows_dropped P n es all =
 
 -- ---- whose an entry is
 
-pub same_number : (n : ℕ) → nat_eq n n ≡ true
-same_number n = grind (arith, nat_tests)
-
 pub row_itself : (row : Row) → is_row row row ≡ true
 row_itself row = and_from (same_series row.key row.key) (int_eq row.point.end row.point.end)
     ((same_series-Decides row.key row.key).1 refl) (grind (arith, ints))
 
 pub fed_itself : (pass : ℕ) (row : Row) → (nat_eq pass pass && list_any (is_row row) (row ∷ [])) ≡ true
-fed_itself pass row = and_from (nat_eq pass pass) (list_any (is_row row) (row ∷ [])) (same_number pass)
+fed_itself pass row = and_from (nat_eq pass pass) (list_any (is_row row) (row ∷ [])) (equal_itself pass)
     (ap (λ b. b || false) (row_itself row))

@@ -10,6 +10,7 @@ use Rattle.mon_topo.specs.Locations.{range_for}
 use Rattle.mon_topo.specs.declared.zones.ZoneSpec.{ZoneSpec}
 use Rattle.mon_value.proofs.LeafHistoryLemmas.{parts_same}
 use Rattle.mon_value.proofs.SameLemmas.{same_series-Decides}
+use Rattle.mon_value.proofs.PlainLemmas.{all_flat}
 use Rattle.mon_value.specs.LeafHistories.{entry_rows, replica_rows, same_replica, EndsBefore, IsSource}
 use Rattle.mon_value.specs.Histories.{range_numbered}
 use Rattle.mon_value.specs.declared.histories.Entry.{Entry}
@@ -25,11 +26,6 @@ source_behind : (xs ys : List Row) → IsSource xs → IsSource ys
 source_behind [] ys first last before = last
 source_behind (x ∷ xs) ys first last before =
     (all_append (EndsBefore x) xs ys first.0 before.0, source_behind xs ys first.1 last before.1)
-
-pub all_flat : {A B : Type 0} (P : B → Type 0) (f : A → List B) (xs : List A)
-    → AllByRecursion (λ x. AllByRecursion P (f x)) xs → AllByRecursion P (flat_map f xs)
-all_flat P f [] all = tt
-all_flat P f (x ∷ xs) all = all_append P (f x) (flat_map f xs) all.0 (all_flat P f xs all.1)
 
 module _ (held : SchemaLists) (zones : List ZoneSpec) where
   -- ---- rows of a replica lie in its range

@@ -42,12 +42,13 @@ use Rattle.run_traces.specs.LineTexts.{line_text, switch_text}
 use Rattle.run_traces.specs.declared.traces.LineFault.TheVariants as why
 use Rattle.run_traces.specs.declared.traces.LineTrace.TheVariants as came
 use Rattle.run_traces.proofs.RunFacts.{book_length}
-use Rattle.run_traces.proofs.Switched.{same_number}
 use Rattle.line_runs.proofs.Causes.{HasItsCause, LiesBetween}
 use Rattle.line_runs.proofs.FeedWrote.{Holds}
 use Rattle.line_runs.proofs.Growing.{forth, grown, seen_of}
 use Rattle.line_runs.proofs.Wrote.{OwnsAsMuch, refused_wrote}
 use Rattle.query_core.proofs.LeafLemmas.{same_leaves}
+use Rattle.mon_value.proofs.PlainLemmas.{get_next}
+use Rattle.mon_value.proofs.PlainLemmas.{equal_means}
 
 -- ---- forms
 
@@ -86,10 +87,6 @@ refusal_suits form.Together switch is fault = absurd cc
 refusal_suits form.End switch is fault = absurd cc
 
 -- ---- lists
-
-pub last_stands : {X : Type 0} (xs : List X) (x : X) → slice_get (xs ++ x ∷ []) (length xs) ≡ Some x
-last_stands [] x = refl
-last_stands (y ∷ xs) x = last_stands xs x
 
 -- ---- entries
 
@@ -159,7 +156,7 @@ module _ (config : Config) (what : LineForm) (switch : Switch) (asked : switch_o
       since = low;
       until = let a = high in omega arith;
       there = ap (λ w. slice_get w (length switched.history)) switched.switched
-          ∙ last_stands switched.history entry ∙ ap Some (same_entry switch.down (pass_of before));
+          ∙ get_next switched.history entry ∙ ap Some (same_entry switch.down (pass_of before));
     }
 
     cut_by : (other : Leaf) (b : Bool) → same_leaf other leaf ≡ b
@@ -282,7 +279,7 @@ module _ (config : Config) (what : LineForm) (switch : Switch) (asked : switch_o
           → cond b (Some (unswitched.SwitchesSpent MOST_SWITCHES)) None ≡ Some fault → Caused
       spent_cause true same other told =
           let is_this : unswitched.SwitchesSpent MOST_SWITCHES ≡ fault = cc in
-          let number = same_number (count_by is_switch history) MOST_SWITCHES same in
+          let number = equal_means (count_by is_switch history) MOST_SWITCHES same in
           subst (λ (f : ControlFault). HasItsCause config what before after (control_told f)) is_this (record {
             cause = enough MOST_SWITCHES other refl number;
             cuts = λ other there. tt;

@@ -9,15 +9,15 @@ use Rattle.mon_value.specs.declared.columns.Anchor.TheVariants as anchor
 use Rattle.mon_value.specs.declared.columns.Column.{Column}
 use Rattle.mon_value.specs.declared.schemas.TargetSchema.{TargetSchema}
 use Rattle.mon_value.specs.declared.values.Value.{Value}
-use Rattle.mon_value.proofs.SameLemmas.{both, same_text-Decides}
+use Rattle.mon_value.proofs.SameLemmas.{same_text-Decides}
 use Rattle.mon_schema.specs.Names.{target_named}
 use Rattle.mql_types.specs.Levels.{same_anchor}
-use Rattle.mql_types.proofs.MadeCells.{nothing_is, same_item}
 use Rattle.mixer.proofs.HeldCells.{Holds, SaysIf}
+use Rattle.mon_value.proofs.PlainLemmas.{nothing_is, and_both, same_item}
 
 pub same_anchor-is : (a b : Anchor) → same_anchor a b ≡ true → a ≡ b
 same_anchor-is (anchor.Field s f) (anchor.Field o p) e =
-    let parts = both (same_text s o) (f == p) e in
+    let parts = and_both (same_text s o) (f == p) e in
     let schema : s ≡ o = (same_text-Decides s o).0 parts.0 in
     let field : f ≡ p = eqb-true f p parts.1 in
     λ i. anchor.Field (schema i) (field i)

@@ -22,12 +22,12 @@ use Rattle.mql_types.specs.Nodes as node
 use Rattle.mql_types.specs.Nodes.{NodeTree, level_of}
 use Rattle.mql_types.specs.declared.levels.Level.{Level}
 use Rattle.mql_types.proofs.FetchedTrees.{AllFit}
-use Rattle.mql_types.proofs.KeptRows.{all-append}
 use Rattle.mql_types.proofs.TypedTrees.{AreRows}
 use Rattle.mixer.specs.Mixing.{SamePieces, joined_pieces, no_pieces}
 use Rattle.mixer.proofs.ApartTrees as apart_trees
 use Rattle.mixer.proofs.LocalTrees.{IsLocal, MakesWhole}
 use Rattle.mixer.proofs.StemmingTrees.{HasHome}
+use Rattle.mon_value.proofs.PlainLemmas.{all_append}
 
 -- ---- pieces that are the same
 
@@ -179,13 +179,13 @@ module _ {H : Type 0} (Says : H → Anchor → Value → Type 0) (held : SchemaL
       let tree = node.Join info left right in
       all_or (Splits grid xs ys) (here info.level) _ tree (top_parts here left ++ top_parts here right)
       (λ e. splits tree own local e whole more)
-      (all-append (λ (part : TopPart). Splits grid xs ys part.1) (top_parts here left) (top_parts here right)
+      (all_append (λ (part : TopPart). Splits grid xs ys part.1) (top_parts here left) (top_parts here right)
       (parts_split left own.1.0 local.1.0 whole.0 more.0) (parts_split right own.1.1 local.1.1 whole.1 more.1))
   parts_split (node.Union info left right) own local whole more =
       let tree = node.Union info left right in
       all_or (Splits grid xs ys) (here info.level) _ tree (top_parts here left ++ top_parts here right)
       (λ e. splits tree own local e whole more)
-      (all-append (λ (part : TopPart). Splits grid xs ys part.1) (top_parts here left) (top_parts here right)
+      (all_append (λ (part : TopPart). Splits grid xs ys part.1) (top_parts here left) (top_parts here right)
       (parts_split left own.1.0 local.1.0 whole.0 more.0) (parts_split right own.1.1 local.1.1 whole.1 more.1))
 
   pub pieces-apart : (tree : NodeTree) → AreRows held tree → IsLocal Says held here tree

@@ -22,6 +22,7 @@ use Rattle.mixer.proofs.LevelledTrees.{AreLevelled}
 use Rattle.mixer.proofs.LocalTrees.{IsLocal}
 use Rattle.mixer.proofs.MixedTrees.{any_use, drop_parts, rows_mixed-meant, tables_of, take_parts}
 use Rattle.mixer.proofs.SameTables.{SameTables, rows_mixed-same, same_drop, same_take}
+use Rattle.mixer.proofs.PartLoads.{uncounted}
 
 -- ---- tables whose rows stand in another order
 
@@ -56,10 +57,6 @@ joins_mixed-same below counts (node.Union info left right) ps qs same =
     λ i. cond (below info.level) 0 (one i + other i)
 
 -- ---- the load of a level
-
-uncounted : (b : Bool) (n : ℕ) → b ≡ false → counted_if b n ≡ 0
-uncounted true n e = absurd cc
-uncounted false n e = refl
 
 -- what is done at some levels takes only what is done there too
 abbrev pub IsClosed : (Level → Bool) → NodeTree → Type 0

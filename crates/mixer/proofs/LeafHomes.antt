@@ -14,14 +14,13 @@ use Rattle.mon_value.specs.declared.schemas.TargetSchema.{TargetSchema}
 use Rattle.mon_value.specs.declared.values.FieldValue.{FieldValue}
 use Rattle.mon_value.specs.declared.values.FieldValue.TheVariants as field
 use Rattle.mon_value.specs.declared.values.Value.{Value}
-use Rattle.mon_value.proofs.SameLemmas.{both}
 use Rattle.mon_schema.specs.Fits.{field_fits, fields_fit}
 use Rattle.mon_schema.specs.Names.{SchemaLists, target_named}
 use Rattle.mql_types.specs.Levels.{have_fields, is_anchored, is_location_anchor, names_target, same_anchor, tell_target}
-use Rattle.mql_types.proofs.MadeCells.{same_item}
 use Rattle.mixer.proofs.AnchorLemmas.{found_in, name_is, same_anchor-is}
 use Rattle.mixer.proofs.HeldCells.{Holds, SaysIf, Tell}
 use Rattle.mon_value.proofs.OrderLemmas.{same_fields}
+use Rattle.mon_value.proofs.PlainLemmas.{and_both, same_item}
 
 -- a cell that holds a field of a target, of a schema that the target fits
 pub record HoldsField (held : SchemaLists) (target : Target) (name : List ℕ) (place : ℕ) (cell : Value) : Type 0 where
@@ -78,7 +77,7 @@ anchored_says : (held : SchemaLists) (home : Target) (wanted : Anchor) (o : Opti
 anchored_says held home wanted None x e says = absurd cc
 anchored_says held home wanted (Some a) x e says = target_alike held home wanted a x e says
 
--- one field that both targets have
+-- one field that and_both targets have
 one_field : (held : SchemaLists) (home other : Target) (name : List ℕ) (place : ℕ) (x : Value) (y z : FieldValue)
     → HoldsField held home name place x → HoldsField held other name place x
     → slice_get home.fields place ≡ Some y → slice_get other.fields place ≡ Some z → y ≡ z
@@ -100,7 +99,7 @@ fields_same held home other name columns cells left right next (f ∷ fs) [] ys 
 fields_same held home other name columns cells left right next (f ∷ fs) (x ∷ xs) [] fx fy have hx hy = absurd cc
 fields_same held home other name columns cells left right next (f ∷ fs) (x ∷ xs) (y ∷ ys) fx fy have hx hy =
     let wanted = anchor.Field name next in
-    let parts = both (list_any (is_anchored wanted) columns) (have_fields name (next + 1) fs columns) have in
+    let parts = and_both (list_any (is_anchored wanted) columns) (have_fields name (next + 1) fs columns) have in
     let found = found_in (TargetSays held) home other (is_anchored wanted) columns cells left right parts.0 in
     let here : next + 0 ≡ next = omega arith in
     let at : slice_get home.fields next ≡ Some x = ap (λ n. slice_get home.fields n) (sym here) ∙ hx 0 in
@@ -112,7 +111,7 @@ fields_same held home other name columns cells left right next (f ∷ fs) (x ∷
     let step : (k : ℕ) → next + 1 + k ≡ next + suc k = λ k. omega arith in
     let rest : xs ≡ ys =
     fields_same held home other name columns cells left right (next + 1) fs xs ys
-    (both (field_fits f.of x) (fields_fit fs xs) fx).1 (both (field_fits f.of y) (fields_fit fs ys) fy).1 parts.1
+    (and_both (field_fits f.of x) (fields_fit fs xs) fx).1 (and_both (field_fits f.of y) (fields_fit fs ys) fy).1 parts.1
     (λ k. ap (λ n. slice_get home.fields n) (step k) ∙ hx (suc k))
     (λ k. ap (λ n. slice_get other.fields n) (step k) ∙ hy (suc k)) in
     λ i. first i ∷ rest i

@@ -16,7 +16,7 @@ use Rattle.mql_types.specs.Levels.{AsRows, PartUse, TopPart, part_or, top_parts}
 use Rattle.mql_types.specs.declared.levels.Level.{Level}
 use Rattle.mixer.specs.Mixing.{first_table, part_count, parts_mixed, rows_mixed}
 
-take_none : {A : Type 0} (xs : List A) → take 0 xs ≡ []
+pub take_none : {A : Type 0} (xs : List A) → take 0 xs ≡ []
 take_none [] = refl
 take_none (x ∷ xs) = refl
 

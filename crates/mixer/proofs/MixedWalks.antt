@@ -22,17 +22,8 @@ use Rattle.mixer.specs.within.Mixtures.{joins_from}
 use Rattle.mixer.specs.within.Mixtures.{other_count, other_joins, other_piece_rows, own_joins, rows_from}
 use Rattle.mixer.proofs.NodePieces.{can_above, joins_above, joins_of_piece, left_behind, one_piece, other_can_more}
 use Rattle.mixer.proofs.NodePieces.{rows_above, rows_of_piece}
-
--- a number above the limit stays between where there is more to count
-pub tells_more : (limit a b : ℕ) (r : Refusal OverLimit) → a ≤ b → TellsOver limit a r → TellsOver limit b r
-tells_more limit a b (refusal.Fault over) more tells =
-    record { above = tells.above; within = omega (arith, more, tells.within) }
-tells_more limit a b refusal.OutOfMemory more tells = tt
-
-all_push : {A : Type 0} (P : A → Type 0) (xs : List A) (x : A) → AllByRecursion P xs → P x
-    → AllByRecursion P (xs ++ x ∷ [])
-all_push P [] x all own = (own, tt)
-all_push P (y ∷ xs) x all own = (all.0, all_push P xs x all.1 own)
+use Rattle.mon_value.proofs.PlainLemmas.{all_push}
+use Rattle.mon_meaning.proofs.WalkLemmas.{tells_more}
 
 all_pop : {A : Type 0} (P : A → Type 0) (xs : List A) (x : A) → AllByRecursion P (xs ++ x ∷ [])
     → AllByRecursion P xs × P x

@@ -12,7 +12,7 @@ use Rattle.mon_value.specs.declared.columns.Anchor.TheVariants as anchor
 use Rattle.mon_value.specs.declared.columns.Column.{Column}
 use Rattle.mon_value.specs.declared.tables.TimedRow.{TimedRow}
 use Rattle.mon_value.specs.declared.values.Value.{Value}
-use Rattle.mon_value.proofs.SameLemmas.{both, same_value-Decides}
+use Rattle.mon_value.proofs.SameLemmas.{same_value-Decides}
 use Rattle.mon_schema.specs.Names.{SchemaLists}
 use Rattle.mql_ast.specs.Rows.{column_named}
 use Rattle.mql_types.specs.Branches.{anchored_with, as_joined, common_columns, join_columns, left_column, same_columns}
@@ -88,7 +88,7 @@ module _ {H : Type 0} (Says : H → Anchor → Value → Type 0) (held : SchemaL
       (λ e. agree_by (same_text left.0.name c.name) left.1 x e parts.0) holds.0
       (found_says other left cs xs holds.1 parts.1)
 
-  -- cells of common columns, of which both homes say what they hold
+  -- cells of common columns, of which and_both homes say what they hold
   pub record AgreeIn (home other : H) (columns : List Column) : Type 0 where
     pub cells : List Value
     pub left : Holds Says home columns cells

@@ -26,7 +26,7 @@ counted : (b : Bool) (n : ℕ) → b ≡ true → counted_if b n ≡ n
 counted true n e = refl
 counted false n e = absurd cc
 
-uncounted : (b : Bool) (n : ℕ) → b ≡ false → counted_if b n ≡ 0
+pub uncounted : (b : Bool) (n : ℕ) → b ≡ false → counted_if b n ≡ 0
 uncounted true n e = absurd cc
 uncounted false n e = refl
 

@@ -13,8 +13,9 @@ use Rattle.mql_types.specs.Groupings.{aggregate_column, aggregate_columns, aggre
 use Rattle.mql_types.specs.Groupings.{folded_column}
 use Rattle.mql_types.specs.Items.{column_alone, item_column, item_name, plain_column, renamed_column, sum_column}
 use Rattle.mql_types.specs.Items.{sum_width}
-use Rattle.mql_types.proofs.MadeCells.{all-filter_map, nothing_is, same_item}
+use Rattle.mql_types.proofs.MadeCells.{all-filter_map}
 use Rattle.mixer.proofs.HeldCells.{HasNoAnchor}
+use Rattle.mon_value.proofs.PlainLemmas.{nothing_is, same_item}
 
 units : {A : Type 0} (xs : List A) → AllByRecursion (λ x. Unit {0}) xs
 units [] = tt

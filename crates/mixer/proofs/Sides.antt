@@ -1,6 +1,6 @@
 -- Two sides that share no target, or no location: each row has its home there, and none on both.
 use Rattle.std.proofs.lemmas.Bool.{or_right, or_left, or_from}
-use Rattle.std.proofs.Common.{◌≡◌, ◌∙◌, ℕ, Bool, true, false, Option, Some, None, List, [], ◌∷◌, ◌++◌, refl, sym}
+use Rattle.std.proofs.Common.{◌≡◌, ◌∙◌, ℕ, true, false, Option, Some, None, List, [], ◌∷◌, ◌++◌, refl, sym}
 use Rattle.std.proofs.Common.{ap}
 use Rattle.std.specs.List.{AllByRecursion}
 use Rattle.std.specs.Option.{option_map_or}
@@ -10,27 +10,25 @@ use Rattle.mon_value.specs.declared.rows.Row.{Row}
 use Rattle.mon_value.specs.declared.rows.Target.{Target}
 use Rattle.mon_value.specs.declared.schemas.MetricSchema.{MetricSchema}
 use Rattle.mon_value.specs.declared.schemas.TargetSchema.{TargetSchema}
-use Rattle.mon_value.proofs.SameLemmas.{both, same_series-Decides, same_text-Decides}
+use Rattle.mon_value.proofs.SameLemmas.{same_series-Decides, same_text-Decides}
 use Rattle.mon_schema.specs.Fits.{fields_fit, fits, fits_both, TellsLocation}
 use Rattle.mon_schema.specs.Names.{SchemaLists, metric_named, target_named}
 use Rattle.mon_topo.specs.Locations.{location_of}
 use Rattle.mql_types.proofs.FetchedPoints.{row_of_schemas}
 use Rattle.mql_types.proofs.FetchedTrees.{AllFit}
-use Rattle.mql_types.proofs.JoinedRows.{all-both, all-map}
+use Rattle.mql_types.proofs.JoinedRows.{all-map}
 use Rattle.mixer.specs.Divisions.{ShareNoLocation, has_location, lies_at, together}
 use Rattle.mon_meaning.specs.ReadableSlots.{ShareNoTarget, has_target}
 use Rattle.mixer.proofs.LeafHomes.{IsItself, TargetSays, target_field}
 use Rattle.mixer.proofs.StemmingTrees.{HasHome}
 use Rattle.mixer.proofs.ZoneHomes.{IsLocated, Location, LocationSays, has_location as target_location, location_field}
-
-never : (b : Bool) → b ≡ false → b ≡ true → ⊥
-never b e f = cc
+use Rattle.mon_value.proofs.PlainLemmas.{all_both, not_both, and_both}
 
 -- ---- targets
 
 same_itself : (row : Row) → same_target row.key.target row.key.target ≡ true
 same_itself row =
-    (both (same_target row.key.target row.key.target) _ ((same_series-Decides row.key row.key).1 refl)).0
+    (and_both (same_target row.key.target row.key.target) _ ((same_series-Decides row.key row.key).1 refl)).0
 
 -- each row's target has a row
 targets_there : (rows : List Row) → AllByRecursion (λ row. has_target rows row.key.target ≡ true) rows
@@ -51,7 +49,7 @@ abbrev pub Without : List Row → Target → Type 0
 Without rows target = has_target rows target ≡ false
 
 pub targets_apart : (ys : List Row) (target : Target) → Without ys target → Within ys target → ⊥
-targets_apart ys target out within = never (has_target ys target) out within
+targets_apart ys target out within = not_both (has_target ys target) out within
 
 module _ (held : SchemaLists) where
   abbrev pub TargetHome : (Target → Type 0) → Row → Type 0
@@ -80,7 +78,7 @@ targets_together rows (child ∷ children) apart =
     (λ row. has_target (child ++ together children) row.key.target ≡ false) rows
     (λ row e. list_any-append (λ (other : Row). same_target other.key.target row.key.target) child (together children)
     ∙ or_from (has_target child row.key.target) (has_target (together children) row.key.target) e.0 e.1)
-    (all-both (λ row. has_target child row.key.target ≡ false)
+    (all_both (λ row. has_target child row.key.target ≡ false)
     (λ row. has_target (together children) row.key.target ≡ false) rows apart.0
     (targets_together rows children apart.1))
 
@@ -112,7 +110,7 @@ WithoutLocations held rows location = has_location held rows location ≡ false
 
 pub locations_apart : (held : SchemaLists) (ys : List Row) (location : List ℕ) → WithoutLocations held ys location
     → WithinLocations held ys location → ⊥
-locations_apart held ys location out within = never (has_location held ys location) out within
+locations_apart held ys location out within = not_both (has_location held ys location) out within
 
 module _ (held : SchemaLists) (tell : AllByRecursion TellsLocation held.targets) where
   row_location : (row : Row) → fits held row ≡ true → Location (location_of held row.key.target)
@@ -136,7 +134,7 @@ module _ (held : SchemaLists) (tell : AllByRecursion TellsLocation held.targets)
         from = sym (ap (λ o. option_map_or (has_location held ys) o false) own.is) ∙ p.1;
         is = own.is;
       })
-      (all-both (λ (row : Row). fits held row ≡ true) _ xs fit share)
+      (all_both (λ (row : Row). fits held row ≡ true) _ xs fit share)
 
   lies_there : (row : Row) (location : List ℕ) → location_of held row.key.target ≡ Some location
       → lies_at held location row ≡ true
@@ -168,7 +166,7 @@ module _ (held : SchemaLists) (tell : AllByRecursion TellsLocation held.targets)
       (λ row p.
       let own = row_location row p.0 in
       record { home = own.text; from = p.1 own.text own.is; is = own.is })
-      (all-both (λ (row : Row). fits held row ≡ true) _ ys fit (locations_there ys))
+      (all_both (λ (row : Row). fits held row ≡ true) _ ys fit (locations_there ys))
 
 none_located_by : (o : Option (List ℕ)) → option_map_or (λ (location : List ℕ). false) o false ≡ false
 none_located_by None = refl
@@ -196,5 +194,5 @@ locations_together held rows (child ∷ children) apart =
     (λ (row : Row). option_map_or (has_location held (child ++ together children)) (location_of held row.key.target)
     false ≡ false) rows
     (λ row e. apart_by held child (together children) (location_of held row.key.target) e.0 e.1)
-    (all-both (λ (row : Row). option_map_or (has_location held child) (location_of held row.key.target) false ≡ false)
+    (all_both (λ (row : Row). option_map_or (has_location held child) (location_of held row.key.target) false ≡ false)
     _ rows apart.0 (locations_together held rows children apart.1))

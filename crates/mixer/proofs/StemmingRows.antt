@@ -12,7 +12,7 @@ use Rattle.mon_value.specs.declared.columns.Anchor.TheVariants as anchor
 use Rattle.mon_value.specs.declared.columns.Column.{Column}
 use Rattle.mon_value.specs.declared.tables.TimedRow.{TimedRow}
 use Rattle.mon_value.specs.declared.values.Value.{Value}
-use Rattle.mon_value.proofs.SameLemmas.{both, same_row-Decides}
+use Rattle.mon_value.proofs.SameLemmas.{same_row-Decides}
 use Rattle.mon_schema.specs.Names.{SchemaLists}
 use Rattle.mql_ast.specs.Rows.{meets_no_values, sum_value}
 use Rattle.mql_ast.specs.Trees.{ItemTree}
@@ -22,12 +22,12 @@ use Rattle.mql_types.specs.Items.{key_columns}
 use Rattle.mql_types.specs.Levels.{is_location_anchor, same_anchor}
 use Rattle.mql_types.specs.Meaning.{key_cells, value_row}
 use Rattle.mql_types.proofs.JoinedRows.{all-flat_map, all-made, all-map}
-use Rattle.mql_types.proofs.KeptRows.{all-append}
-use Rattle.mql_types.proofs.MadeCells.{all-filter_map, same_item}
+use Rattle.mql_types.proofs.MadeCells.{all-filter_map}
 use Rattle.mon_meaning.proofs.ApartKeys.{all_keys}
 use Rattle.mixer.proofs.HeldCells as held_cells
 use Rattle.mixer.proofs.HeldCells.{HasNoAnchor, Holds, Stems, Tell}
 use Rattle.mixer.proofs.PairHomes as pair_homes
+use Rattle.mon_value.proofs.PlainLemmas.{and_both, all_append, same_item}
 
 -- each row has a cell for each column
 abbrev pub AreWhole : List Column → List TimedRow → Type 0
@@ -55,7 +55,7 @@ all_given P Q (x ∷ xs) lead all = (lead.0 all.0, all_given P Q xs lead.1 all.1
 pub pair_agrees : (lefts rights : List Column) (left right : TimedRow) → is_pair lefts rights left right ≡ true
     → list_all (λ cell. list_all (λ (o : Named). cells_agree cell o) (zip rights right.cells)) (zip lefts left.cells)
     ≡ true
-pair_agrees lefts rights left right e = (both (int_eq left.time right.time) _ e).1
+pair_agrees lefts rights left right e = (and_both (int_eq left.time right.time) _ e).1
 
 module _ {H : Type 0} (Says : H → Anchor → Value → Type 0) (P : H → Type 0) where
   abbrev pub AllStem : List Column → List TimedRow → Type 0
@@ -192,7 +192,7 @@ module _ {H : Type 0} (Says : H → Anchor → Value → Type 0) (held : SchemaL
       → AllStem Says P (union_columns held lefts rights) (rows ++ others)
   union_stems lefts rights same rows others own more =
       let to = union_columns held lefts rights in
-      all-append (λ row. Stems Says P to row.cells) rows others
+      all_append (λ row. Stems Says P to row.cells) rows others
       (all-map (λ row. Stems Says P lefts row.cells) (λ row. Stems Says P to row.cells) rows
       (λ row s. record {
         home = s.home;

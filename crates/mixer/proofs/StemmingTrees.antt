@@ -25,7 +25,7 @@ use Rattle.mon_value.specs.declared.schemas.TargetSchema.{TargetSchema}
 use Rattle.mon_value.specs.declared.tables.TimedRow.{TimedRow}
 use Rattle.mon_value.specs.declared.values.FieldValue.{FieldValue}
 use Rattle.mon_value.specs.declared.values.Value.{Value}
-use Rattle.mon_value.proofs.SameLemmas.{both, same_series-Decides, same_text-Decides}
+use Rattle.mon_value.proofs.SameLemmas.{same_series-Decides, same_text-Decides}
 use Rattle.mon_schema.specs.Fits.{field_fits, fields_fit}
 use Rattle.mon_schema.specs.Names.{SchemaLists, target_named}
 use Rattle.mql_ast.specs.Trees.{ItemTree}
@@ -43,7 +43,7 @@ use Rattle.mql_types.specs.declared.levels.Level.{Level}
 use Rattle.mql_types.specs.declared.nodes.NodeInfo.{NodeInfo}
 use Rattle.mql_types.proofs.FetchedPoints.{IsRowOf, columns_split, series_columns}
 use Rattle.mql_types.proofs.FetchedTrees.{AllFit, ArePoints, columns_fetched_are, points_of_schemas}
-use Rattle.mql_types.proofs.JoinedRows.{all-both, all-flat_map, all-made, all-map}
+use Rattle.mql_types.proofs.JoinedRows.{all-flat_map, all-made, all-map}
 use Rattle.mql_types.proofs.KeptRows.{all-filter}
 use Rattle.mql_types.proofs.TypedTrees.{AlignOf, AreRows, GroupOf, ValueOf}
 use Rattle.mon_meaning.proofs.ApartKeys.{all_keys}
@@ -52,6 +52,7 @@ use Rattle.mixer.proofs.HeldCells.{Holds, SaysIf, Stems}
 use Rattle.mixer.proofs.LocalTrees.{IsLocal, MakesWhole}
 use Rattle.mixer.proofs.PlainColumns.{aggregates_plain, items_plain}
 use Rattle.mixer.proofs.StemmingRows.{AllStem, AreWhole, all_passing, group_stems, join_stems, union_stems, value_stems}
+use Rattle.mon_value.proofs.PlainLemmas.{all_both, and_both}
 
 -- ---- points that reach a part
 
@@ -76,7 +77,7 @@ points_named held target found (node.Fetch info schema metric) own rows fit =
     all_passing (λ row. Unit {0}) (λ row. target_named row.key.target.schema held.targets ≡ Some target)
     (λ row. is_fetched schema metric row.key) rows
     (λ row t fetched.
-    let parts = both (same_text schema row.key.target.schema) (same_text metric row.key.metric) fetched in
+    let parts = and_both (same_text schema row.key.target.schema) (same_text metric row.key.metric) fetched in
     ap (λ name. target_named name held.targets) (sym ((same_text-Decides schema row.key.target.schema).0 parts.0))
     ∙ own.1.0) (units rows)
   where
@@ -120,7 +121,7 @@ module _ {H : Type 0} (Says : H → Anchor → Value → Type 0) (held : SchemaL
   target_holds home name next [] (v ∷ vs) fit says = absurd cc
   target_holds home name next (f ∷ fs) [] fit says = absurd cc
   target_holds home name next (f ∷ fs) (v ∷ vs) fit says =
-      let parts = both (field_fits f.of v) (fields_fit fs vs) fit in
+      let parts = and_both (field_fits f.of v) (fields_fit fs vs) fit in
       let S : ℕ → FieldValue → Type 0 = λ n w. Says home (anchor.Field name n) (field_as_value w) in (
         subst (λ n. S n v) (omega arith) (says 0 v refl),
         target_holds home name (next + 1) fs vs parts.1
@@ -133,7 +134,7 @@ module _ {H : Type 0} (Says : H → Anchor → Value → Type 0) (held : SchemaL
   metric_holds home [] (v ∷ vs) fit = absurd cc
   metric_holds home (f ∷ fs) [] fit = absurd cc
   metric_holds home (f ∷ fs) (v ∷ vs) fit =
-      (tt, metric_holds home fs vs (both (field_fits f.of v) (fields_fit fs vs) fit).1)
+      (tt, metric_holds home fs vs (and_both (field_fits f.of v) (fields_fit fs vs) fit).1)
 
   kept_anchor : (home : H) (b : Bool) (c d : Column) (x : Value) → SaysIf Says home c.anchor x
       → SaysIf Says home d.anchor x → SaysIf Says home (cond b c d).anchor x
@@ -192,9 +193,9 @@ module _ {H : Type 0} (Says : H → Anchor → Value → Type 0) (held : SchemaL
         target_fields = p.1.1.series.target_fields;
         fields = p.1.1.series.fields;
       })
-      (all-both (λ (row : Row). HasHome P row.key.target) _ points
+      (all_both (λ (row : Row). HasHome P row.key.target) _ points
       (all_points (λ (row : Row). HasHome P row.key.target) input rows homes)
-      (all-both (λ (row : Row). target_named row.key.target.schema held.targets ≡ Some own.target)
+      (all_both (λ (row : Row). target_named row.key.target.schema held.targets ≡ Some own.target)
       (IsRowOf own.target own.found) points
       (points_named held own.target own.found input own.points rows fit)
       (points_of_schemas held own.target own.found input own.points rows fit))) in

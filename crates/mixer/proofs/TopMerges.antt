@@ -21,6 +21,8 @@ use Rattle.mon_meaning.proofs.OperationOrders.{rank_exact, rank_total, top_rows-
 use Rattle.mon_meaning.proofs.ApartKeys.{all_keys}
 use Rattle.mixer.proofs.TopParts.{block_keys, firsts_append, no_block, one_block}
 use Rattle.mql_types.proofs.GroupedRows.{each_has_rows}
+use Rattle.mon_value.proofs.PlainLemmas.{take_nothing}
+use Rattle.mixer.proofs.MixedTrees.{take_none}
 
 passed_by : {A : Type 0} (p : A → Bool) (b : Bool) (x : A) (xs : List A) → p x ≡ b
     → AllByRecursion (λ y. p y ≡ true) xs → AllByRecursion (λ y. p y ≡ true) (cond b (x ∷ xs) xs)
@@ -31,15 +33,6 @@ passed_by p false x xs e all = all
 all_pass : {A : Type 0} (p : A → Bool) (xs : List A) → AllByRecursion (λ x. p x ≡ true) (filter p xs)
 all_pass p [] = tt
 all_pass p (x ∷ xs) = passed_by p (p x) x (filter p xs) refl (all_pass p xs)
-
-take_none : {A : Type 0} (xs : List A) → take 0 xs ≡ []
-take_none [] = refl
-take_none (x ∷ xs) = refl
-
-take_nothing : {A : Type 0} (n : ℕ) (xs : List A) → xs ≡ [] → take n xs ≡ []
-take_nothing zero [] e = refl
-take_nothing (suc n) [] e = refl
-take_nothing n (x ∷ xs) e = absurd cc
 
 some_taken : {A : Type 0} (m : ℕ) (xs : List A) → 0 < length xs → take (suc m) xs ≡ [] → ⊥
 some_taken m [] some e = absurd (omega (arith, some))

@@ -22,7 +22,9 @@ use Rattle.mql_types.specs.Items.{operand_faults, plain_column, renamed_column, 
 use Rattle.mql_types.proofs.FoldedValues.{Folded, greatest_folded, least_folded, mean_folded, merge_folded, sum_folded}
 use Rattle.mql_types.proofs.JoinedRows.{all-map}
 use Rattle.mql_types.proofs.KnownSums.{KnownNumber, cell_of, number_known, width_known}
-use Rattle.mql_types.proofs.MadeCells.{IsThere, all-filter_map, is_there, same_item}
+use Rattle.mql_types.proofs.MadeCells.{all-filter_map, is_there}
+use Rattle.mon_value.proofs.PlainLemmas.{same_item}
+use Rattle.mql_types.proofs.FoldedColumns.{cons_some}
 
 -- a column and a cell of its type, both of which are there
 abbrev pub TypedCell : Option Column → Option Value → Type 0
@@ -94,10 +96,6 @@ values_typed columns place c e rows fit =
     let cell = cell_of columns row.cells own place c e in
     let same : cell.value ≡ v = same_item cell.value v (sym cell.is ∙ is) in
     subst (HasType c.of) same cell.of) fit
-
-cons_some : (o : Option Value) (values : List Value) → IsThere o → 0 < length (cons_option o values)
-cons_some None values there = absurd there
-cons_some (Some v) values there = omega arith
 
 values_some : (columns : List Column) (place : ℕ) (c : Column) → slice_get columns place ≡ Some c
     → (rows : List TimedRow) → AreTyped columns rows → 0 < length rows → 0 < length (column_of place rows)

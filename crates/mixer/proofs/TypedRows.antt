@@ -1,6 +1,6 @@
 -- The rows of a typed tree have the types of its columns, however many there are.
 use Rattle.std.proofs.lemmas.Bool.{or_parts}
-use Rattle.std.proofs.Common.{◌≡◌, ◌∙◌, ◌<◌, ℕ, Bool, true, false, cond, Option, Some, None, List, [], ◌∷◌}
+use Rattle.std.proofs.Common.{◌≡◌, ◌∙◌, ◌<◌, ℕ, Bool, false, Option, Some, None, List, [], ◌∷◌}
 use Rattle.std.proofs.Common.{◌++◌, map, length, refl, sym, ap, subst}
 use Rattle.std.specs.Prelude.{option_and_then, option_map, slice_get}
 use Rattle.std.specs.List.{AllByRecursion, cons_option, filter_map, flat_map, list_any}
@@ -32,15 +32,19 @@ use Rattle.mql_types.specs.Items.{item_column, item_name, item_sum_faults, key_c
 use Rattle.mql_types.specs.Meaning.{key_cells, value_row}
 use Rattle.mql_types.specs.Soundness.{CountsRows}
 use Rattle.mql_types.specs.Branches.{count_width}
-use Rattle.mql_types.proofs.FoldedColumns.{fold_made, over_is}
+use Rattle.mql_types.proofs.FoldedColumns.{fold_made, over_is, no_count}
 use Rattle.mql_types.proofs.JoinedRows.{FitColumns-append, all-map}
 use Rattle.mql_types.proofs.KeptRows.{all-filter}
-use Rattle.mql_types.proofs.MadeCells.{kept_shaped, nothing_is, same_item}
-use Rattle.mql_types.proofs.SumBounds.{AreLawful, no_faults, none_where}
+use Rattle.mql_types.proofs.MadeCells.{kept_shaped}
+use Rattle.mql_types.proofs.SumBounds.{AreLawful}
 use Rattle.mql_types.proofs.GroupedRows.{each_has_rows}
 use Rattle.mon_meaning.proofs.ApartKeys.{all_keys}
 use Rattle.mixer.proofs.TypedCells.{AreTyped, TypedCell, alone_typed, aggregate_typed, cells_typed, cons_typed}
 use Rattle.mixer.proofs.TypedCells.{count_typed, keys_typed, sum_typed}
+use Rattle.mon_value.proofs.PlainLemmas.{nothing_is, same_item}
+use Rattle.mql_types.proofs.FetchColumnLemmas.{both_none}
+use Rattle.mql_types.proofs.ValueRows.{row_by}
+use Rattle.mql_types.proofs.TypedGridLemmas.{no_test}
 
 -- ---- aggregates
 
@@ -72,9 +76,6 @@ record AggregateCell (columns : List Column) (rows : List TimedRow) (o : Option 
   is : o ≡ Some column
   is_made : m ≡ Some made
   typed : TypedCell (Some column) (aggregate_made made.what made.column rows)
-
-no_count : (how : FoldWord) (name : Name) → CountsRows how (Some name) → how ≡ fold.Count → ⊥
-no_count how name counts e = subst (λ h. CountsRows h (Some name)) e counts
 
 named_cell : (columns : List Column) → AreLawful columns → (n : List ℕ) (how : FoldWord) (name : Name)
     → CountsRows how (Some name) → folded_faults columns how (Some name) ≡ []
@@ -141,7 +142,7 @@ aggregates_typed : (columns : List Column) → AreLawful columns → (aggregates
     → FitColumns (aggregate_columns columns aggregates) (filter_map (of_rows rows) (aggregates_over columns aggregates))
 aggregates_typed columns lawful [] counts none rows some fit = tt
 aggregates_typed columns lawful (a ∷ aggregates) counts none rows some fit =
-    let parts = no_faults (aggregate_faults columns a) (flat_map (aggregate_faults columns) aggregates) none in
+    let parts = both_none (aggregate_faults columns a) (flat_map (aggregate_faults columns) aggregates) none in
     cell_more columns rows (aggregated_column columns a) (aggregate_of columns a)
     (aggregate_cell columns lawful (aggregate_name a).text a.fold a.column counts.0 parts.0 rows some fit)
     (aggregate_columns columns aggregates) (aggregates_over columns aggregates)
@@ -191,7 +192,7 @@ item_typed : (columns : List Column) (label : Option Name) (e : SumTree)
     → TypedCell (item_column columns (record { name = label; sum = e })) (sum_value e columns cells)
 item_typed columns label (tree.Column name) none cells fit some =
     alone_typed columns (item_name (record { name = label; sum = tree.Column name })).text (place_of name.text columns)
-    (column_named name.text columns) refl (none_where _ _ _ none) cells fit
+    (column_named name.text columns) refl (no_test _ _ _ none) cells fit
 item_typed columns label (tree.Number at z) none cells fit some =
     sum_typed columns (item_name (record { name = label; sum = tree.Number at z })).text (tree.Number at z) none cells
     fit some
@@ -212,16 +213,12 @@ items_typed : (columns : List Column) (items : List ItemTree) → flat_map (item
     items
 items_typed columns [] none cells fit some = tt
 items_typed columns (item ∷ items) none cells fit some =
-    let parts = no_faults (item_sum_faults columns item) (flat_map (item_sum_faults columns) items) none in
+    let parts = both_none (item_sum_faults columns item) (flat_map (item_sum_faults columns) items) none in
     let both = or_parts (meets_no_values item.sum columns cells)
     (list_any (λ (i : ItemTree). meets_no_values i.sum columns cells) items) some in (
       item_typed columns item.name item.sum parts.0 cells fit both.0,
       items_typed columns items parts.1 cells fit both.1,
     )
-
-row_by : (b : Bool) (x y : TimedRow) → cond b None (Some x) ≡ Some y → (b ≡ false) × (x ≡ y)
-row_by true x y e = absurd cc
-row_by false x y e = (refl, same_item x y e)
 
 pub value_made : (columns : List Column) (items : List ItemTree) → flat_map (item_sum_faults columns) items ≡ []
     → (row made : TimedRow) → FitColumns columns row.cells → value_row columns items row ≡ Some made

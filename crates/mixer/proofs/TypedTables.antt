@@ -37,7 +37,7 @@ use Rattle.mql_types.proofs.AlignedValues.{aligned_fit}
 use Rattle.mql_types.proofs.FetchedPoints.{series_columns, series_typed}
 use Rattle.mql_types.proofs.FetchedTrees.{AllFit, columns_fetched_are, points_of_schemas}
 use Rattle.mql_types.proofs.JoinedRows.{FitColumns-append, all-flat_map, all-made, all-map}
-use Rattle.mql_types.proofs.KeptRows.{all-append, all-filter, all-sorted, all-take}
+use Rattle.mql_types.proofs.KeptRows.{all-filter, all-sorted, all-take}
 use Rattle.mql_types.proofs.MadeCells.{all-filter_map, length_fit}
 use Rattle.mql_types.proofs.SumBounds.{AreLawful}
 use Rattle.mql_types.proofs.TypedTrees.{AlignOf, AreRows, GroupOf, ValueOf, lawful_columns}
@@ -47,6 +47,7 @@ use Rattle.mixer.proofs.LocalTrees.{MakesWhole}
 use Rattle.mixer.proofs.StemmingRows.{AreWhole}
 use Rattle.mixer.proofs.TypedCells.{AreTyped}
 use Rattle.mixer.proofs.TypedRows.{group_typed, value_made}
+use Rattle.mon_value.proofs.PlainLemmas.{all_append}
 
 -- ---- alignments
 
@@ -98,7 +99,7 @@ firsts_typed : (columns : List Column) (most column : ℕ) (rows : List TimedRow
 firsts_typed columns most column rows fit [] = tt
 firsts_typed columns most column rows fit (key ∷ keys) =
     let P : TimedRow → Type 0 = λ row. FitColumns columns row.cells in
-    all-append P (take most (sorted_list (rank_cmp column) (rows_in [] key rows))) _
+    all_append P (take most (sorted_list (rank_cmp column) (rows_in [] key rows))) _
     (all-take P most (sorted_list (rank_cmp column) (rows_in [] key rows))
     (all-sorted P (rank_cmp column) (rows_in [] key rows)
     (all-filter P (λ row. same_row key (group_key [] row)) rows fit)))
@@ -151,7 +152,7 @@ module _ (held : SchemaLists) (grid : Grid) (lawful : IsLawfulGrid grid) (rows :
   tree_typed (node.Union info left right) own =
       let to = union_columns held (columns_of left) (columns_of right) in
       subst (λ cs. AreTyped cs (rows_meant grid (node.Union info left right) rows)) own.0.is
-      (all-append (λ (row : TimedRow). FitColumns to row.cells) (rows_meant grid left rows)
+      (all_append (λ (row : TimedRow). FitColumns to row.cells) (rows_meant grid left rows)
       (rows_meant grid right rows)
       (all-map (λ (row : TimedRow). FitColumns (columns_of left) row.cells)
       (λ (row : TimedRow). FitColumns to row.cells) (rows_meant grid left rows)

@@ -19,16 +19,15 @@ use Rattle.mon_value.specs.declared.values.FieldValue.{FieldValue}
 use Rattle.mon_value.specs.declared.values.FieldValue.TheVariants as field
 use Rattle.mon_value.specs.declared.values.Value.{Value}
 use Rattle.mon_value.specs.declared.values.Value.TheVariants as value
-use Rattle.mon_value.proofs.SameLemmas.{both}
 use Rattle.mon_schema.specs.Faults.{is_location, is_text_field}
 use Rattle.mon_schema.specs.Fits.{field_fits, fields_fit, TellsLocation}
 use Rattle.mon_schema.specs.Names.{SchemaLists, target_named}
 use Rattle.mon_topo.specs.Locations.{location_in, location_of, text_in_field}
 use Rattle.mql_types.specs.Levels.{have_fields, is_anchored, is_located, is_location_anchor, marks_location}
 use Rattle.mql_types.specs.Levels.{names_target, same_anchor, tell_target}
-use Rattle.mql_types.proofs.MadeCells.{nothing_is, same_item}
 use Rattle.mixer.proofs.AnchorLemmas.{found_in, name_is, same_anchor-is}
 use Rattle.mixer.proofs.HeldCells.{SaysIf, Tell}
+use Rattle.mon_value.proofs.PlainLemmas.{nothing_is, and_both, same_item}
 
 -- what an anchor says of a location: it is what the cell holds, where the anchor is a location
 abbrev pub LocationSays : SchemaLists → List ℕ → Anchor → Value → Type 0
@@ -187,7 +186,7 @@ located_in : (fields : List Field) (values : List FieldValue) → fields_fit fie
 located_in [] values fit some = absurd cc
 located_in (f ∷ fs) [] fit some = absurd cc
 located_in (f ∷ fs) (x ∷ xs) fit some =
-    let parts = both (field_fits f.of x) (fields_fit fs xs) fit in
+    let parts = and_both (field_fits f.of x) (fields_fit fs xs) fit in
     located_by f.location (is_text_field f.of) x (location_in fs xs) (list_any is_location fs) some
     (λ t. text_there f.of x t parts.0) (λ rest. located_in fs xs parts.1 rest)
 
@@ -245,11 +244,11 @@ has_field : (name : List ℕ) (next : ℕ) (fields : List Field) (columns : List
     → list_any (is_anchored (anchor.Field name (next + k))) columns ≡ true
 has_field name next [] columns k have marks = absurd cc
 has_field name next (f ∷ fs) columns zero have marks =
-    let parts = both (list_any (is_anchored (anchor.Field name next)) columns) (have_fields name (next + 1) fs columns)
+    let parts = and_both (list_any (is_anchored (anchor.Field name next)) columns) (have_fields name (next + 1) fs columns)
     have in
     subst (λ n. list_any (is_anchored (anchor.Field name n)) columns ≡ true) (omega arith) parts.0
 has_field name next (f ∷ fs) columns (suc k) have marks =
-    let parts = both (list_any (is_anchored (anchor.Field name next)) columns) (have_fields name (next + 1) fs columns)
+    let parts = and_both (list_any (is_anchored (anchor.Field name next)) columns) (have_fields name (next + 1) fs columns)
     have in
     subst (λ n. list_any (is_anchored (anchor.Field name n)) columns ≡ true) (omega arith)
     (has_field name (next + 1) fs columns k parts.1 marks)

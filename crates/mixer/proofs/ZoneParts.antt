@@ -12,7 +12,6 @@ use Rattle.mql_types.specs.Nodes as node
 use Rattle.mql_types.specs.Nodes.{NodeTree, columns_of, level_of}
 use Rattle.mql_types.specs.Soundness.{IsEvaluable, IsWithinRows}
 use Rattle.mql_types.specs.declared.levels.Level.{Level}
-use Rattle.mql_types.proofs.KeptRows.{all-append}
 use Rattle.mon_fold.specs.declared.answers.Piece.{Piece}
 use Rattle.mon_meaning.specs.GoingUp.{CanGoUp}
 use Rattle.mon_meaning.specs.Standing.{AllStandFor, StandsFor}
@@ -24,6 +23,7 @@ use Rattle.mixer.proofs.JoinedPieces.{AllCome, cut_stands}
 use Rattle.mixer.proofs.NodePieces.{joins_of_piece, piece_here, same_count}
 use Rattle.mixer.proofs.TreePieces.{come-drop, meant, rows_come}
 use Rattle.mixer.proofs.TreeWork.{can_mix, load_over, loads_come, one_load, over}
+use Rattle.mon_value.proofs.PlainLemmas.{all_append}
 
 -- ---- parts of lower levels
 
@@ -146,11 +146,11 @@ module _ (grid : Grid) (source : List Row) (here : Level → Bool) where
       (parts_made input can))
   parts_made (node.Join info left right) can =
       part_all Made (here info.level) AsRows (node.Join info left right) _ (as_rows (node.Join info left right) can)
-      (all-append Made (top_parts here left) (top_parts here right) (parts_made left can.1.1.0)
+      (all_append Made (top_parts here left) (top_parts here right) (parts_made left can.1.1.0)
       (parts_made right can.1.1.1))
   parts_made (node.Union info left right) can =
       part_all Made (here info.level) AsRows (node.Union info left right) _ (as_rows (node.Union info left right) can)
-      (all-append Made (top_parts here left) (top_parts here right) (parts_made left can.0) (parts_made right can.1))
+      (all_append Made (top_parts here left) (top_parts here right) (parts_made left can.0) (parts_made right can.1))
 
 -- ---- what a zone hands up
 

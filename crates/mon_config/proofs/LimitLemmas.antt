@@ -6,13 +6,11 @@ use Rattle.std.proofs.lemmas.Bool.Decides.{nat_tests}
 use Rattle.mon_config.specs.Numbers.{AreLawful, is_limit}
 use Rattle.mon_config.specs.declared.config.Config.{Config}
 use Rattle.mon_config.specs.Configs.{IsLimited}
+use Rattle.mon_value.proofs.PlainLemmas.{equal_numbers}
 
 -- a number that may be of buckets
 abbrev Fits : ℕ → Type 0
 Fits n = (0 < n) × (n ≤ 4096)
-
-equal : (n m : ℕ) → (n == m) ≡ true → n ≡ m
-equal n m e = grind (arith, nat_tests)
 
 one_fits : (n : ℕ) (powers : List ℕ) → AllByRecursion Fits powers → list_any (λ power. n == power) powers ≡ true
     → Fits n
@@ -21,7 +19,7 @@ one_fits n (power ∷ powers) all some = by (n == power) refl some (λ rest. one
   where
     by : (b : Bool) → (n == power) ≡ b → (b || list_any (λ p. n == p) powers) ≡ true
         → (list_any (λ p. n == p) powers ≡ true → Fits n) → Fits n
-    by true same some rest = subst Fits (sym (equal n power same)) all.0
+    by true same some rest = subst Fits (sym (equal_numbers n power same)) all.0
     by false apart some rest = rest some
 
 fits : (n : ℕ) → (0 < n) → (n ≤ 4096) → Fits n

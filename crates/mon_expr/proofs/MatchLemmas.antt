@@ -5,11 +5,8 @@ use Rattle.std.specs.Prelude.{nat_eq}
 use Rattle.std.specs.List.{starts_with}
 use Rattle.std.proofs.lemmas.Bool.{or_cases, or_left, or_right, and_parts, and_from, false≢true}
 use Rattle.std.proofs.lemmas.List.{take_at, drop_at, take-append-drop, append_assoc}
-use Rattle.mon_value.proofs.SameLemmas.{same_text-Decides}
+use Rattle.mon_value.proofs.SameLemmas.{same_text-Decides, same_text-itself}
 use Rattle.mon_value.specs.Same.{IsMatch, last_piece, next_piece, holds_behind, is_match, same_text}
-
-same_self : (text : List ℕ) → same_text text text ≡ true
-same_self text = (same_text-Decides text text).1 refl
 
 -- what holds behind a front
 behind_front : (test : List ℕ → Bool) (front rest : List ℕ) → test rest ≡ true →
@@ -22,7 +19,7 @@ behind_front test (byte ∷ front) rest e = or_right (test (byte ∷ front ++ re
 -- ---- from the relation
 
 at_front : (piece rest : List ℕ) → starts_with nat_eq (piece ++ rest) piece ≡ true
-at_front piece rest = ap (same_text piece) (take_at piece rest (length piece) refl) ∙ same_self piece
+at_front piece rest = ap (same_text piece) (take_at piece rest (length piece) refl) ∙ same_text-itself piece
 
 computed_next : (piece between rest : List ℕ) (pieces : List (List ℕ)) → is_match pieces rest ≡ true →
     is_match (piece ∷ pieces) (piece ++ between ++ rest) ≡ true
@@ -36,7 +33,7 @@ computed_next piece between rest (next ∷ pieces) e =
     ∙ behind_front (is_match (next ∷ pieces)) between rest e)
 
 pub match_computed : (pieces : List (List ℕ)) (text : List ℕ) → IsMatch pieces text → is_match pieces text ≡ true
-match_computed _ _ (last_piece {piece}) = same_self piece
+match_computed _ _ (last_piece {piece}) = same_text-itself piece
 match_computed _ _ (next_piece {piece} {rest} {pieces} between m) = computed_next piece between rest pieces
     (match_computed pieces rest m)
 

@@ -20,6 +20,7 @@ use Rattle.mon_value.specs.declared.values.Value.TheVariants as value
 use Rattle.mon_value.proofs.AggregateLemmas.{sum_of-append, sum_of-magnitude}
 use Rattle.mon_value.proofs.CountsLemmas.{counts_added-nil, counts_added-assoc, counts_of-append, sum-counts_added}
 use Rattle.mon_value.proofs.CountsLemmas.{sum-counts_of}
+use Rattle.mon_value.proofs.GroupLemmas.{numbers-magnitude, distributions-magnitude}
 
 -- ---- the newest point
 
@@ -66,22 +67,6 @@ sum_more points i p is h =
     (numbers_in ((get_or points i p).value ∷ [])) in
     subst (λ (q : Point). sum_of (numbers_in (values_of (take (i + 1) points)))
     ≡ sum_of (numbers_in (values_of (take i points))) +ℤ sum_of (numbers_in (q.value ∷ []))) (sym is) whole
-
-pub numbers-magnitude : (values : List Value) → sum_by unsigned_abs (numbers_in values) ≤ sum_by magnitude values
-numbers-magnitude [] = omega arith
-numbers-magnitude (value.Int z ∷ values) =
-    omega (
-      arith,
-      numbers-magnitude values,
-      sum_by-cons unsigned_abs z (numbers_in values),
-      sum_by-cons magnitude (value.Int z) values,
-    )
-numbers-magnitude (value.Bool p ∷ values) =
-    omega (arith, numbers-magnitude values, sum_by-cons magnitude (value.Bool p) values)
-numbers-magnitude (value.Text s ∷ values) =
-    omega (arith, numbers-magnitude values, sum_by-cons magnitude (value.Text s) values)
-numbers-magnitude (value.Dist counts ∷ values) =
-    omega (arith, numbers-magnitude values, sum_by-cons magnitude (value.Dist counts) values)
 
 sum_by-values : (f : Value → ℕ) (points : List Point) → sum_by f (values_of points) ≡ sum_by (λ (p : Point). f p.value)
     points
@@ -139,22 +124,6 @@ counts_more counts points i p more is kind h =
     ∙ ap (counts_added counts) (counts_of-append some (more ∷ []))
     ∙ sym (counts_added-assoc counts (counts_of some) (counts_added more []))
     ∙ ap (counts_added (counts_added counts (counts_of some))) (counts_added-nil more)
-
-pub distributions-magnitude : (values : List Value) → sum_by sum (distributions_in values) ≤ sum_by magnitude values
-distributions-magnitude [] = omega arith
-distributions-magnitude (value.Int z ∷ values) =
-    omega (arith, distributions-magnitude values, sum_by-cons magnitude (value.Int z) values)
-distributions-magnitude (value.Bool p ∷ values) =
-    omega (arith, distributions-magnitude values, sum_by-cons magnitude (value.Bool p) values)
-distributions-magnitude (value.Text s ∷ values) =
-    omega (arith, distributions-magnitude values, sum_by-cons magnitude (value.Text s) values)
-distributions-magnitude (value.Dist counts ∷ values) =
-    omega (
-      arith,
-      distributions-magnitude values,
-      sum_by-cons sum counts (distributions_in values),
-      sum_by-cons magnitude (value.Dist counts) values,
-    )
 
 -- the total of the first points' counts, and that of all magnitudes
 pub total_bounded : (counts : List ℕ) (points : List Point) (i : ℕ)
@@ -305,12 +274,6 @@ pub holds_later : (P : ℤ → Type 0) (n k : ℕ) (t next e : ℤ) → k < n �
     (times_back (n - k) t e)
     → AllByRecursion P (times_back (n - (k + 1)) next e)
 holds_later P n k t next e h step all = rw step (subst (AllByRecursion P) (times_more n k t e h) all).1
-
--- two facts of each time
-pub both_hold : {A : Type 0} (P Q : A → Type 0) (xs : List A) → AllByRecursion P xs → AllByRecursion Q xs
-    → AllByRecursion (λ x. P x × Q x) xs
-both_hold P Q [] p q = tt
-both_hold P Q (x ∷ xs) p q = ((p.0, q.0), both_hold P Q xs p.1 q.1)
 
 -- the times of a grid as a loop begins
 begins : (grid : Grid) (n : ℕ) (t : ℤ) → n ≡ time_count grid → t ≡ grid.moment → times_back (n - 0) t grid.every

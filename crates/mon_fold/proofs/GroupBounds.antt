@@ -31,8 +31,10 @@ use Rattle.mon_fold.specs.declared.aggregate_parts.AggregatePart.{AggregatePart}
 use Rattle.mon_value.proofs.NumberPartLemmas.{number_within, sums_within, total_within}
 use Rattle.mon_fold.specs.PartialGroups.{CanMergeCounts, CanMergePart, CanMergeParts, CanTakeGroup, part_over}
 use Rattle.mon_fold.specs.PartialGroups.{partial_groups, PartialGroup, parts_over}
-use Rattle.mon_fold.proofs.AlignmentLemmas.{counts_within, distributions-magnitude, numbers-magnitude}
+use Rattle.mon_fold.proofs.AlignmentLemmas.{counts_within}
 use Rattle.mon_fold.proofs.PartialGroupLemmas.{column_of-append, distributions-append, in_parts, numbers-append}
+use Rattle.mon_value.proofs.GroupLemmas.{numbers-magnitude, distributions-magnitude}
+use Rattle.mon_value.proofs.PlainLemmas.{all_front, all_back}
 
 -- ---- the cells of a column
 
@@ -140,14 +142,6 @@ can_merge_counts n (first ∷ some) (next ∷ more) there long others fits =
             sum_by-append sum (first ∷ some) (next ∷ more),
           )),
     )
-
-pub all_front : {A : Type 0} (P : A → Type 0) (xs ys : List A) → AllByRecursion P (xs ++ ys) → AllByRecursion P xs
-all_front P [] ys all = tt
-all_front P (x ∷ xs) ys all = (all.0, all_front P xs ys all.1)
-
-pub all_back : {A : Type 0} (P : A → Type 0) (xs ys : List A) → AllByRecursion P (xs ++ ys) → AllByRecursion P ys
-all_back P [] ys all = all
-all_back P (x ∷ xs) ys all = all_back P xs ys all.1
 
 -- ---- parts of rows
 

@@ -15,9 +15,10 @@ use Rattle.mon_value.specs.declared.tables.TimedRow.{TimedRow}
 use Rattle.mon_value.proofs.GroupLemmas.{has, look_up, rows_some}
 use Rattle.mon_value.proofs.KeyedLemmas as keyed
 use Rattle.mon_value.proofs.SameLemmas.{same_row-Decides}
-use Rattle.mon_fold.proofs.GroupBounds.{all_back, all_front, all_in_group, group_fewer, group_total, groups_are}
+use Rattle.mon_fold.proofs.GroupBounds.{all_in_group, group_fewer, group_total, groups_are}
 use Rattle.mon_fold.proofs.GroupBounds.{if_there, parts_at, parts_can, sums_at, total-append, total_in, unless_count}
 use Rattle.mon_fold.proofs.KeptGroups.{can_merge_apart}
+use Rattle.mon_value.proofs.PlainLemmas.{all_front, all_back}
 use Rattle.mon_fold.specs.PartialGroups.{CanMergeGroups, CanMergeParts, CanTakeGroup, partial_groups, PartialGroup}
 use Rattle.mon_fold.specs.PartialGroups.{parts_over}
 

@@ -19,8 +19,9 @@ use Rattle.mon_value.proofs.AggregateLemmas.{sum_of-append, sum_of-magnitude}
 use Rattle.mon_value.proofs.CountsLemmas.{sum-counts_of, counts_added-comm, counts_of-append, get_or-counts_added}
 use Rattle.mon_value.proofs.CountsLemmas.{length-counts_added}
 use Rattle.mon_fold.specs.SlidingWindows.{points_between}
-use Rattle.mon_fold.proofs.AlignmentLemmas.{all_alike, all_between, counts_more, distributions-magnitude}
-use Rattle.mon_fold.proofs.AlignmentLemmas.{numbers-magnitude, total-distributions}
+use Rattle.mon_fold.proofs.AlignmentLemmas.{all_alike, all_between, counts_more}
+use Rattle.mon_fold.proofs.AlignmentLemmas.{total-distributions}
+use Rattle.mon_value.proofs.GroupLemmas.{numbers-magnitude, distributions-magnitude}
 
 -- ---- the points between two places
 

@@ -11,7 +11,8 @@ use Rattle.std.proofs.lemmas.List.{get_or_append_left, get_or-append_right, leng
 use Rattle.std.proofs.lemmas.List.Folds.{list_any-append}
 use Rattle.std.proofs.lemmas.List.Sorted.{list_any-IsPermutation}
 use Rattle.std.proofs.lemmas.Map.Keys.{IsStrictlyIncreasing-dedup}
-use Rattle.mon_hints.proofs.TruthLemmas.{and_false, or_false, or_once}
+use Rattle.mon_hints.proofs.TruthLemmas.{or_once}
+use Rattle.mon_value.proofs.PlainLemmas.{or_false, and_false}
 use Rattle.mon_hints.specs.BucketSets.{HasNone, IsNext}
 use Rattle.mon_hints.specs.Formulas.{IsListing, is_among}
 

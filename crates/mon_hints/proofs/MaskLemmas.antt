@@ -4,7 +4,7 @@ use Rattle.std.proofs.Common.{sym, ap, ◌∙◌, arith}
 use Rattle.std.specs.Prelude.{bit_and, bit_or}
 use Rattle.std.specs.Int.{bit_at}
 use Rattle.std.proofs.lemmas.Nat.Bits.{bit_at-lt, bit_at-zero, bit_at_and, bit_at_ones, bit_at_or}
-use Rattle.mon_hints.proofs.TruthLemmas.{and_turned, or_false, or_turned}
+use Rattle.mon_value.proofs.PlainLemmas.{and_assoc, or_false, or_assoc}
 use Rattle.mon_hints.specs.Hints.{IsMask, has_bit}
 
 both_bits : (m n : ℕ) → m < 2 → n < 2 → (min m n == 1) ≡ ((m == 1) && (n == 1))
@@ -58,7 +58,7 @@ pub all_step : (mask more : ℕ) (first rest all : ℕ → Bool) → AllLeft mas
     IsMask more first → AllLeft (bit_and mask more) rest all
 all_step mask more first rest all left held child h =
     ap (λ b. b && rest child) (mask_of_both mask more (has_bit mask) first (λ c k. refl) held child h)
-    ∙ and_turned (has_bit mask child) (first child) (rest child) ∙ left child h
+    ∙ and_assoc (has_bit mask child) (first child) (rest child) ∙ left child h
 
 -- the children that were found, and those of which the rest holds, are those of which any holds
 abbrev pub AnyLeft : ℕ → (ℕ → Bool) → (ℕ → Bool) → Type 0
@@ -68,7 +68,7 @@ pub any_step : (mask more : ℕ) (first rest any : ℕ → Bool) → AnyLeft mas
     IsMask more first → AnyLeft (bit_or mask more) rest any
 any_step mask more first rest any left held child h =
     ap (λ b. b || rest child) (mask_of_either mask more (has_bit mask) first (λ c k. refl) held child h)
-    ∙ or_turned (has_bit mask child) (first child) (rest child) ∙ left child h
+    ∙ or_assoc (has_bit mask child) (first child) (rest child) ∙ left child h
 
 pub any_end : (mask : ℕ) (any : ℕ → Bool) → AnyLeft mask (λ child. false) any → IsMask mask any
 any_end mask any left child h = sym (or_false (has_bit mask child)) ∙ left child h

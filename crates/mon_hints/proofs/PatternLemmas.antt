@@ -6,7 +6,7 @@ use Rattle.std.specs.List.{flat_map, list_all, list_any, starts_with}
 use Rattle.std.proofs.lemmas.Bool.{and_parts, and_from, or_cases, or_left, or_right, false≢true}
 use Rattle.std.proofs.lemmas.List.{take-append-drop, append_assoc}
 use Rattle.std.proofs.lemmas.List.Folds.{list_all-append}
-use Rattle.mon_value.proofs.SameLemmas.{same_text-Decides}
+use Rattle.mon_value.proofs.SameLemmas.{same_text-Decides, same_text-itself}
 use Rattle.mon_value.specs.Same.{IsMatch, last_piece, next_piece, holds_behind, is_match, same_text}
 use Rattle.mon_hints.specs.Hints.{are_among, back, with_front_marks, with_back_marks, front, pattern_excerpts}
 use Rattle.mon_hints.specs.Hints.{text_excerpts, windows}
@@ -102,9 +102,6 @@ test_passes test marks (piece ∷ next ∷ pieces) text e h =
 
 -- ---- all are among themselves
 
-same_self : (text : List ℕ) → same_text text text ≡ true
-same_self text = (same_text-Decides text text).1 refl
-
 -- a list of which every item passes where more are given
 among_more : (some more : List (List ℕ)) (first : List ℕ) → are_among some more ≡ true → are_among some (first ∷ more)
     ≡ true
@@ -120,7 +117,7 @@ among_all [] = refl
 among_all (excerpt ∷ excerpts) =
     and_from (same_text excerpt excerpt || list_any (same_text excerpt) excerpts)
     (are_among excerpts (excerpt ∷ excerpts))
-    (or_left (same_text excerpt excerpt) (list_any (same_text excerpt) excerpts) (same_self excerpt))
+    (or_left (same_text excerpt excerpt) (list_any (same_text excerpt) excerpts) (same_text-itself excerpt))
     (among_more excerpts excerpts excerpt (among_all excerpts))
 
 pub are_in_text : (pieces : List (List ℕ)) (text : List ℕ) → IsMatch pieces text →

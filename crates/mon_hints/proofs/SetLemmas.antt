@@ -7,7 +7,8 @@ use Rattle.std.proofs.lemmas.Bool.{cases_eq, cases_lt, eq-eqb, ne_eqb, or_left}
 use Rattle.std.proofs.lemmas.List.{get_or-set_same, get_or-set_other, get_or-replicate, get_or_past}
 use Rattle.std.proofs.lemmas.Nat.{div-add-mod', div_below, mod_below}
 use Rattle.std.proofs.lemmas.Nat.Bits.{bit_at_set_same, bit_at_set_other, bit_at-zero}
-use Rattle.mon_hints.proofs.TruthLemmas.{or_exchanged, or_false}
+use Rattle.mon_hints.proofs.TruthLemmas.{or_exchanged}
+use Rattle.mon_value.proofs.PlainLemmas.{or_false}
 use Rattle.mon_hints.specs.BucketSets.{is_set, no_bucket, with_bucket, with_buckets}
 use Rattle.mon_hints.specs.Formulas.{is_among}
 use Rattle.mon_hints.specs.Hints.{has_bit}

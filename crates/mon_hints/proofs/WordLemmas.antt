@@ -4,10 +4,10 @@ use Rattle.std.proofs.Common.{length, get_or, refl, sym, ap, ◌∙◌, ◌⊎�
 use Rattle.std.specs.Prelude.{bit_or}
 use Rattle.std.proofs.lemmas.Bool.{cases_lt, eq-eqb, ne_eqb}
 use Rattle.std.proofs.lemmas.Nat.Bits.{bit_at-zero}
-use Rattle.mon_hints.proofs.TruthLemmas.{and_false, and_true, or_false}
 use Rattle.mon_hints.specs.Formulas.{is_among}
 use Rattle.mon_hints.specs.Hints.{IsMask, buckets_of_child, has_bit}
 use Rattle.mon_hints.proofs.MaskLemmas.{AnyLeft, any_end, any_step}
+use Rattle.mon_value.proofs.PlainLemmas.{and_true, or_false, and_false}
 
 -- a bucket is that of a first word with the bit, or among those of the others
 pub first_or_rest : (b : Bool) (bucket first : ℕ) (rest : List ℕ) →

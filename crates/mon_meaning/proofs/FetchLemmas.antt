@@ -12,7 +12,6 @@ use Rattle.mon_value.specs.declared.grids.Grid.{Grid}
 use Rattle.mon_value.specs.declared.rows.Point.{Point}
 use Rattle.mon_value.specs.declared.rows.SeriesKey.{SeriesKey}
 use Rattle.mon_value.specs.declared.values.Value.{Value}
-use Rattle.mon_value.proofs.SameLemmas.{both}
 use Rattle.mql_ast.specs.Rows.{predicate_truth}
 use Rattle.mql_types.specs.Meaning.{lets_in, meets, names_keys, series_cells, is_fetched}
 use Rattle.mql_types.specs.Nodes as node
@@ -28,6 +27,7 @@ use Rattle.mon_meaning.specs.within.SeriesMeaning.{series_rows}
 use Rattle.mon_meaning.proofs.FilterLemmas.{filter_none}
 use Rattle.mon_meaning.proofs.ReachLemmas.{aligned-in_reach}
 use Rattle.mon_meaning.proofs.SeriesOrders.{no_values}
+use Rattle.mon_value.proofs.PlainLemmas.{and_both}
 
 -- ---- what isn't met doesn't flow
 
@@ -92,7 +92,7 @@ unmet input key decided e value = unmet_by input key value (fetches_series input
 met_fetched : (input : NodeTree) (key : SeriesKey) → meets input key ≡ true → fetches_series input key ≡ true
 met_fetched (node.Fetch info schema metric) key e = e
 met_fetched (node.Filter info by input) key e =
-    met_fetched input key (both (lets_in by info.columns key) (meets input key) e).1
+    met_fetched input key (and_both (lets_in by info.columns key) (meets input key) e).1
 met_fetched (node.Align info by input) key e = absurd cc
 met_fetched (node.GroupBy info by with input) key e = absurd cc
 met_fetched (node.Value info items input) key e = absurd cc

@@ -90,9 +90,6 @@ pub flat_map-agree : {A B : Type 0} (f g : A → List B) → ((x : A) → f x �
     ≡ flat_map g xs
 flat_map-agree f g same xs = λ i. flat_map (λ x. same x i) xs
 
-pub map-agree : {A B : Type 0} (f g : A → B) → ((x : A) → f x ≡ g x) → (xs : List A) → map f xs ≡ map g xs
-map-agree f g same xs = λ i. map (λ x. same x i) xs
-
 pub map-map : {A B C : Type 0} (f : B → C) (g : A → B) (xs : List A) → map f (map g xs) ≡ map (λ x. f (g x)) xs
 map-map f g [] = refl
 map-map f g (x ∷ xs) = ap (λ rest. f (g x) ∷ rest) (map-map f g xs)

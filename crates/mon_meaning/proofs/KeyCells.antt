@@ -4,7 +4,8 @@ use Rattle.std.proofs.Common.{◌∷◌, ◌++◌, map, length, length-append, a
 use Rattle.std.specs.Prelude.{slice_get}
 use Rattle.std.specs.Option.{option_map_or}
 use Rattle.std.proofs.lemmas.List.{length-map}
-use Rattle.mon_value.proofs.SameLemmas.{both, same_text-Decides}
+use Rattle.mon_value.proofs.SameLemmas.{same_text-Decides}
+use Rattle.mon_value.proofs.PlainLemmas.{and_both}
 use Rattle.mon_value.specs.Order.{field_as_value, cells_of}
 use Rattle.mon_value.specs.Same.{same_text}
 use Rattle.mon_value.specs.declared.columns.Column.{Column}
@@ -62,12 +63,12 @@ module _ (keys : List Column) (value : Column) (cells : List Value) (cell : Valu
   truth_of_keys (tree.Like name pattern) e = ap (is_passed (is_like pattern.pieces)) (same_cell name.text e)
   truth_of_keys (tree.Not p) e = ap not (truth_of_keys p e)
   truth_of_keys (tree.And p q) e =
-      let parts = both (names_keys columns p) (names_keys columns q) e in
+      let parts = and_both (names_keys columns p) (names_keys columns q) e in
       let left = truth_of_keys p parts.0 in
       let right = truth_of_keys q parts.1 in
       λ i. left i && right i
   truth_of_keys (tree.Or p q) e =
-      let parts = both (names_keys columns p) (names_keys columns q) e in
+      let parts = and_both (names_keys columns p) (names_keys columns q) e in
       let left = truth_of_keys p parts.0 in
       let right = truth_of_keys q parts.1 in
       λ i. left i || right i
@@ -85,7 +86,7 @@ as_many [] [] e = refl
 as_many [] (value ∷ values) e = absurd cc
 as_many (field ∷ fields) [] e = absurd cc
 as_many (field ∷ fields) (value ∷ values) e =
-    omega (arith, as_many fields values (both (field_fits field.of value) (fields_fit fields values) e).1)
+    omega (arith, as_many fields values (and_both (field_fits field.of value) (fields_fit fields values) e).1)
 
 -- a target schema and a metric that a series is of
 record IsOf (held : SchemaLists) (key : SeriesKey) : Type 0 where
@@ -103,9 +104,9 @@ of_by held row None None e f fit = absurd cc
 of_by held row None (Some metric) e f fit = absurd cc
 of_by held row (Some target) None e f fit = absurd cc
 of_by held row (Some target) (Some metric) e f fit =
-    let halves = both (fields_fit target.fields row.key.target.fields && fields_fit metric.fields row.key.fields)
+    let halves = and_both (fields_fit target.fields row.key.target.fields && fields_fit metric.fields row.key.fields)
     (times_fit metric.kind row.point.start row.point.end && value_fits metric.value row.point.value) fit in
-    let fields = both (fields_fit target.fields row.key.target.fields) (fields_fit metric.fields row.key.fields)
+    let fields = and_both (fields_fit target.fields row.key.target.fields) (fields_fit metric.fields row.key.fields)
     halves.0 in
     record {
       target = target;
@@ -137,7 +138,7 @@ columns_below : (held : SchemaLists) (key : SeriesKey) (input : NodeTree) → Ha
     → columns_of input ≡ fetch_columns (target_named key.target.schema held.targets)
     (metric_named key.metric held.metrics)
 columns_below held key (node.Fetch info schema metric) has e =
-    let names = both (same_text schema key.target.schema) (same_text metric key.metric) e in
+    let names = and_both (same_text schema key.target.schema) (same_text metric key.metric) e in
     let one : schema ≡ key.target.schema = (same_text-Decides schema key.target.schema).0 names.0 in
     let two : metric ≡ key.metric = (same_text-Decides metric key.metric).0 names.1 in
     has ∙ (λ i. fetch_columns (target_named (one i) held.targets) (metric_named (two i) held.metrics))

@@ -18,6 +18,7 @@ use Rattle.mon_meaning.specs.within.MetSeries.{is_counted, met_count}
 use Rattle.mon_meaning.specs.within.Reach.{points_within_reach}
 use Rattle.mon_meaning.specs.within.SeriesMeaning.{SeriesGroup}
 use Rattle.mon_meaning.proofs.FilterLemmas.{filter_twice}
+use Rattle.mon_value.proofs.PlainLemmas.{and_true}
 
 -- ---- the series of numbers
 
@@ -70,10 +71,6 @@ numbers_below metric n (key ∷ keys) =
     by false all = all
 
 -- ---- what is counted
-
-and_true : (b : Bool) → (b && true) ≡ b
-and_true true = refl
-and_true false = refl
 
 of_metric_by : (schema metric hold reaches : Bool)
     → ((((schema && metric) && hold) && reaches) && metric) ≡ (((schema && metric) && hold) && reaches)

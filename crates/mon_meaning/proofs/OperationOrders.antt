@@ -30,9 +30,10 @@ use Rattle.mon_value.specs.declared.columns.Column.{Column}
 use Rattle.mon_value.specs.declared.tables.TimedRow.{TimedRow}
 use Rattle.mon_value.specs.declared.values.Value.{Value}
 use Rattle.mon_value.specs.declared.values.Value.TheVariants as value
-use Rattle.mon_meaning.proofs.FilterLemmas.{all-permutation, filter_map-permutation, flat_map-agree, map-agree, map-map}
+use Rattle.mon_meaning.proofs.FilterLemmas.{all-permutation, filter_map-permutation, flat_map-agree, map-map}
 use Rattle.mon_meaning.proofs.KeyOrders as orders
 use Rattle.mon_fold.proofs.GroupBounds.{unless_count}
+use Rattle.mon_value.proofs.PlainLemmas.{map_same}
 
 -- ---- groups
 
@@ -81,7 +82,7 @@ group_rows-permutation by with xs ys same =
     map-map (group_row with) (λ key. (key, rows_in by key xs)) (group_keys by xs) in
     let right : group_rows by with ys ≡ map (G xs) (group_keys by ys) =
     map-map (group_row with) (λ key. (key, rows_in by key ys)) (group_keys by ys)
-    ∙ sym (map-agree (G xs) (G ys) (λ key. group_alike with key (rows_in by key xs) (rows_in by key ys)
+    ∙ sym (map_same (G xs) (G ys) (λ key. group_alike with key (rows_in by key xs) (rows_in by key ys)
     (filter-permutation (λ row. same_row key (group_key by row)) xs ys same)) (group_keys by ys)) in
     rw (left, right) (IsPermutation-map (G xs) (group_keys by xs) (group_keys by ys) keys)
 

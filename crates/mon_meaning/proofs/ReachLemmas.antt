@@ -16,13 +16,11 @@ use Rattle.mon_value.specs.declared.rows.Point.{Point}
 use Rattle.mql_types.specs.Meaning.{is_in_reach}
 use Rattle.mon_meaning.specs.within.Reach.{points_within_reach}
 use Rattle.mon_meaning.proofs.FilterLemmas.{filter_swap, filter_twice}
+use Rattle.mon_value.proofs.GridLemmas.{more_times}
 
 -- a time between the least of a grid and its moment
 abbrev pub IsWithin : Grid → ℤ → Type 0
 IsWithin grid time = (least_time grid ≤ℤ time) × (time ≤ℤ grid.moment)
-
-more_times : (n p : ℕ) → suc n * p ≡ n * p + p
-more_times n p = omega arith
 
 within_from : (n : ℕ) (time every least moment : ℤ) (p : ℕ) → every ≡ pos p → least ≤ℤ (time -ℤ pos (n * p))
     → time ≤ℤ moment → AllByRecursion (λ t. (least ≤ℤ t) × (t ≤ℤ moment)) (times_back (suc n) time every)

@@ -31,6 +31,7 @@ use Rattle.mon_meaning.proofs.KeyCells.{IsKeyOf, key_fits, keys_decide}
 use Rattle.mon_meaning.proofs.OperationOrders.{CanGroup-permutation}
 use Rattle.mon_meaning.proofs.SeriesOrders.{loads, points_meant-filter, points_of-flowing, reach_counts, row_flows}
 use Rattle.mon_meaning.proofs.SeriesOrders.{rows-permutation}
+use Rattle.mql_types.proofs.JoinedRows.{all-front}
 
 -- ---- what holds of each row's key holds of each series
 
@@ -144,11 +145,6 @@ whole_alike : (grid : Grid) (tree : NodeTree) (rows : List Row)
 whole_alike grid tree rows =
     all-permutation (λ (row : TimedRow). length row.cells ≡ length (columns_of tree)) _ _ (rows-permutation grid tree
     rows)
-
-all-front : {A : Type 0} (P : A → Type 0) (xs ys : List A) → AllByRecursion P (xs ++ ys) → AllByRecursion P xs
-    × AllByRecursion P ys
-all-front P [] ys all = (tt, all)
-all-front P (x ∷ xs) ys all = let rest = all-front P xs ys all.1 in ((all.0, rest.0), rest.1)
 
 module _ (held : SchemaLists) (grid : Grid) (rows : List Row) (fit : AllByRecursion (λ (row : Row). fits held row
     ≡ true) rows)

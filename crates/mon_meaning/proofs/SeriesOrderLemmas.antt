@@ -10,12 +10,12 @@ use Rattle.mon_value.proofs.KeyedLemmas as keyed
 use Rattle.mon_value.proofs.PermutationLemmas.{front_exchanged}
 use Rattle.mon_value.proofs.SameLemmas.{same_series-Decides}
 use Rattle.mon_value.proofs.SourceLemmas.{has_series}
+use Rattle.mon_value.proofs.PlainLemmas.{map_same}
 use Rattle.mon_value.specs.Same.{same_series}
 use Rattle.mon_value.specs.LeafHistories.{key_of_row, points_by_series, points_of, rows_of, series_of}
 use Rattle.mon_value.specs.declared.rows.Point.{Point}
 use Rattle.mon_value.specs.declared.rows.Row.{Row}
 use Rattle.mon_value.specs.declared.rows.SeriesKey.{SeriesKey}
-use Rattle.mon_meaning.proofs.FilterLemmas.{map-agree}
 
 -- ---- keys that are apart
 
@@ -162,6 +162,6 @@ series_in_order some others alike =
     (keyed.keys_distinct same_series same_series-Decides key_of_row others)
     (λ key. has_points key some ∙ ap is_some (alike key) ∙ sym (has_points key others)) in
     subst (IsPermutation (points_by_series some))
-    (map-agree (λ key. (key, points_of key some)) (λ key. (key, points_of key others))
+    (map_same (λ key. (key, points_of key some)) (λ key. (key, points_of key others))
     (λ key. ap (λ points. (key, points)) (alike key)) (series_of others))
     (IsPermutation-map (λ key. (key, points_of key some)) (series_of some) (series_of others) keys)

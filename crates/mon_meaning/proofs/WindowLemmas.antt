@@ -13,6 +13,7 @@ use Rattle.mon_value.specs.Grids.{IsLawfulGrid, least_time, EndsRise}
 use Rattle.mon_value.specs.declared.limits.TheConstants.{LONGEST_DURATION}
 use Rattle.mon_value.specs.declared.grids.Grid.{Grid}
 use Rattle.mon_value.specs.declared.rows.Point.{Point}
+use Rattle.mon_series.proofs.EndsRiseLemmas.{after_at}
 
 abbrev EndsAfter : ℤ → List Point → Type 0
 EndsAfter end points = AllByRecursion (λ (later : Point). end <ℤ later.end) points
@@ -32,19 +33,13 @@ EndsRise-filter test (p ∷ ps) h =
     cond_both (test p) _ _ EndsRise (λ e. (after_filter p.end test ps h.0, EndsRise-filter test ps h.1))
     (λ e. EndsRise-filter test ps h.1)
 
-before_at : (end : ℤ) (ps : List Point) (i : ℕ) (d : Point) → EndsAfter end ps → i < length ps
-    → end <ℤ (get_or ps i d).end
-before_at end [] i d h below = absurd (omega arith)
-before_at end (p ∷ ps) zero d h below = h.0
-before_at end (p ∷ ps) (suc i) d h below = before_at end ps i d h.1 (omega arith)
-
 ends_before : (test : Point → Bool) (ps : List Point) (i : ℕ) (d : Point) → EndsRise ps → i < length ps
     → AllByRecursion (λ (p : Point). p.end <ℤ (get_or ps i d).end) (filter test (take i ps))
 ends_before test [] i d h below = absurd (omega arith)
 ends_before test (p ∷ ps) zero d h below = tt
 ends_before test (p ∷ ps) (suc i) d h below =
     cond_both (test p) _ _ (AllByRecursion (λ (q : Point). q.end <ℤ (get_or ps i d).end))
-    (λ e. (before_at p.end ps i d h.0 (omega arith), ends_before test ps i d h.1 (omega arith)))
+    (λ e. (after_at p.end ps i d h.0 (omega arith), ends_before test ps i d h.1 (omega arith)))
     (λ e. ends_before test ps i d h.1 (omega arith))
 
 last_before : (end : ℤ) (points : List Point) → AllByRecursion (λ (p : Point). p.end <ℤ end) points

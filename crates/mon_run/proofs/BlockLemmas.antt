@@ -10,6 +10,7 @@ use Rattle.mon_script.specs.declared.places.TheConstants.{MOST_LINES_OF_BLOCK}
 use Rattle.mon_script.specs.declared.script.ScriptLine.{ScriptLine}
 use Rattle.run_traces.specs.RanLines.{acts_by}
 use Rattle.mon_run.specs.within.Blocks.{Cut, block_behind, cut_by, left_behind, left_by}
+use Rattle.mon_value.proofs.PlainLemmas.{all_front, all_back}
 
 abbrev pub Acts : ScriptLine → Type 0
 Acts line = mark_of line.what ≡ mark.Acts
@@ -133,19 +134,11 @@ is_line line behind stands none = line_by line behind (mark_of line.what) refl s
 
 -- ---- the lines behind a part
 
-first_all : {X : Type 0} (P : X → Type 0) (xs ys : List X) → AllByRecursion P (xs ++ ys) → AllByRecursion P xs
-first_all P [] ys all = tt
-first_all P (x ∷ xs) ys all = (all.0, first_all P xs ys all.1)
-
-last_all : {X : Type 0} (P : X → Type 0) (xs ys : List X) → AllByRecursion P (xs ++ ys) → AllByRecursion P ys
-last_all P [] ys all = all
-last_all P (x ∷ xs) ys all = last_all P xs ys all.1
-
 -- what holds of all lines holds of those of a block
 pub block_all : (P : ScriptLine → Type 0) (line : ScriptLine) (behind lines left : List ScriptLine)
     → IsBlock line behind lines left → AllByRecursion P (line ∷ behind) → AllByRecursion P lines
 block_all P line behind lines left is all =
-    first_all P lines (is.ends.end ∷ left) (subst (AllByRecursion P) is.ends.split all.1)
+    all_front P lines (is.ends.end ∷ left) (subst (AllByRecursion P) is.ends.split all.1)
 
 record GoesOn (P : ScriptLine → Type 0) (left : List ScriptLine) : Type 0 where
   all : AllByRecursion P left
@@ -160,7 +153,7 @@ goes_on P line behind None is stands all =
 goes_on P line behind (Some cut) is stands all =
     let block = is_block line behind cut.0 cut.1 stands is in
     subst (GoesOn P) (sym block.left_is) (record {
-      all = (last_all P cut.0 (block.ends.end ∷ cut.1) (subst (AllByRecursion P) block.ends.split all.1)).1;
+      all = (all_back P cut.0 (block.ends.end ∷ cut.1) (subst (AllByRecursion P) block.ends.split all.1)).1;
       blocks = block.ends.blocks;
     })
 

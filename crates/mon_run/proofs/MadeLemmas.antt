@@ -1,9 +1,8 @@
 -- The input of a number, piece by piece; and the number that a word spells.
 use Rattle.std.proofs.lemmas.Bool.{ltb-true}
 use Rattle.std.proofs.Common.{◌≡◌, ◌∙◌, ◌<◌, ◌^◌, ◌&&◌, ℕ, Bool, true, false, List, [], ◌∷◌, ◌++◌, length, map, nat_lt}
-use Rattle.std.proofs.Common.{cond, Some, None, Result, Ok, Err, refl, sym, ap, subst, append_assoc, append-nil, arith}
-use Rattle.std.proofs.lemmas.Bool.Decides.{nat_tests}
-use Rattle.std.proofs.lemmas.Str.Parse.{IsNumeralModel, numerals_by_value, parse_digits, tells_all_ascii_digits}
+use Rattle.std.proofs.Common.{cond, Some, None, Result, Ok, Err, refl, sym, ap, subst, append_assoc, append-nil}
+use Rattle.std.proofs.lemmas.Str.Parse.{parse_digits}
 use Rattle.std.specs.Result.{result_ok}
 use Rattle.std.specs.Str.{all_ascii_digits}
 use Rattle.std.specs.Str.Parse.{ParsesUnsigned, digits_value}
@@ -16,6 +15,8 @@ use Rattle.mon_run.specs.declared.stop.Stop.TheVariants as stop
 use Rattle.mon_run.specs.within.Stops.{Counts, Done, Halts, WriteStops, WroteFront}
 use Rattle.mon_run.proofs.EndLemmas.{causes_earlier}
 use Rattle.mon_run.proofs.StepLemmas.{did_by, did_then}
+use Rattle.mon_value.proofs.NumberLemmas.{numerals}
+use Rattle.mon_value.proofs.PlainLemmas.{less}
 
 -- ---- pieces
 
@@ -82,19 +83,13 @@ written_cut {number} {left} piece text rest stopped {before} {now} after written
 
 -- ---- numbers
 
-own : IsNumeralModel (λ ds. all_ascii_digits ds ≡ true) (digits_value 10)
-own = numerals_by_value (λ ds. all_ascii_digits ds ≡ true) tells_all_ascii_digits
-
-less_is : (a b : ℕ) → a < b → nat_lt a b ≡ true
-less_is a b e = grind (arith, nat_tests)
-
 abbrev tests : List ℕ → Bool
 tests text = nat_lt 0 (length text) && (all_ascii_digits text && nat_lt (digits_value 10 text) (2 ^ 64))
 
 passed : (text : List ℕ) → all_ascii_digits text ≡ true → 0 < length text → digits_value 10 text < 2 ^ 64
     → tests text ≡ true
-passed text digits some small = λ i. less_is 0 (length text) some i
-    && (digits i && less_is (digits_value 10 text) (2 ^ 64) small i)
+passed text digits some small = λ i. less 0 (length text) some i
+    && (digits i && less (digits_value 10 text) (2 ^ 64) small i)
 
 failed : (text : List ℕ) → all_ascii_digits text ≡ true
     → ¬ ((0 < length text) × (digits_value 10 text < 2 ^ 64)) → tests text ≡ false
@@ -112,10 +107,10 @@ failed text digits not =
 pub number_read : {E : Type 0} (text : List ℕ) (r : Result ℕ E) → all_ascii_digits text ≡ true
     → ParsesUnsigned 64 10 text r → result_ok r ≡ number_in text
 number_read {E} text (Ok x) digits parsed =
-    let h = parse_digits own {E = E} 64 text (Ok x) parsed digits in
+    let h = parse_digits numerals {E = E} 64 text (Ok x) parsed digits in
     ap Some h.1 ∙ sym (ap (λ b. cond b (Some (digits_value 10 text)) None) (passed text digits h.0.0 h.0.1))
 number_read {E} text (Err e) digits parsed =
-    let h = parse_digits own {E = E} 64 text (Err e) parsed digits in
+    let h = parse_digits numerals {E = E} 64 text (Err e) parsed digits in
     sym (ap (λ b. cond b (Some (digits_value 10 text)) None) (failed text digits h))
 
 -- a word with another byte is none

@@ -1,5 +1,5 @@
 -- What holds of a schema without a fault.
-use Rattle.std.proofs.Common.{◌≡◌, ◌||◌, Bool, true, false, not, cond, Option, Some, None}
+use Rattle.std.proofs.Common.{◌≡◌, ◌||◌, Bool, true, false, not, cond, Option, None}
 use Rattle.std.proofs.Common.{List, [], ◌∷◌, ◌++◌, refl}
 use Rattle.std.specs.Prelude.{is_some}
 use Rattle.mon_value.specs.declared.schemas.TargetSchema.{TargetSchema}
@@ -8,6 +8,7 @@ use Rattle.mon_schema.specs.Names.{SchemaLists, target_named, metric_named}
 use Rattle.mon_schema.specs.Faults.{target_fault, metric_fault, is_target_over}
 use Rattle.mon_schema.specs.Faults.{is_target_named, is_target_taken, is_metric_over, is_metric_named, is_metric_taken}
 use Rattle.mon_schema.specs.Fits.{AreMetricsHeld, IsHeld, AllTellLocations, TellsLocation}
+use Rattle.mon_value.proofs.PlainLemmas.{absent}
 
 -- a chain of tests that ends without a fault has passed the third
 past_third : {F : Type 0} (a b c : Bool) (f g h rest : Option F) → (f ≡ None → ⊥) → (g ≡ None → ⊥) → (h ≡ None → ⊥)
@@ -20,10 +21,6 @@ past_third false false false f g h rest nf ng nh e = refl
 neither : (a b : Bool) → (a || b) ≡ false → a ≡ false
 neither true b h = absurd cc
 neither false b h = refl
-
-absent : {X : Type 0} (o : Option X) → is_some o ≡ false → o ≡ None
-absent None h = refl
-absent (Some x) h = absurd cc
 
 -- its name is free
 pub target_named-free : (held : SchemaLists) (schema : TargetSchema)

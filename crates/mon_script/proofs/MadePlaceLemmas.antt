@@ -2,16 +2,13 @@
 use Rattle.std.proofs.lemmas.Bool.{ltb-true}
 use Rattle.std.proofs.Common.{◌≡◌, ◌∙◌, ℕ, suc, ◌+◌, ◌-◌, ◌*◌, ◌<◌, ◌≤◌, nat_lt, Bool, true, false, cond, List, [], ◌∷◌}
 use Rattle.std.proofs.Common.{◌++◌, map, codes, refl, ap, arith, append_assoc}
-use Rattle.std.proofs.lemmas.Bool.Decides.{nat_tests}
 use Rattle.std.specs.List.{flat_map, range_with_len}
 use Rattle.mon_script.specs.Made.{made_round, made_script, number_before, number_behind, pieces_behind, points_name}
 use Rattle.mon_script.specs.Made.{points_pieces, rounds, section_line, tasks}
 use Rattle.mon_script.specs.MadePlaces.{IsPlace, pieces_left, place_behind}
 use Rattle.mon_script.specs.declared.made_input.Place.TheVariants as place
 use Rattle.mon_script.proofs.MadeLemmas.{round_more, rounds_are}
-
-lt_false : (a b : ℕ) → nat_lt a b ≡ false → b ≤ a
-lt_false a b e = grind (arith, nat_tests)
+use Rattle.mon_value.proofs.PlainLemmas.{at_least}
 
 -- ---- files
 
@@ -40,7 +37,7 @@ round_behind : (n file round : ℕ) → round < 100 → (b : Bool) → nat_lt (r
 round_behind n file round below true test = refl
 round_behind n file round below false test =
     let many : rounds ≡ 100 = rounds_are in
-    let past : 100 ≤ round + 1 = lt_false (round + 1) 100 test in
+    let past : 100 ≤ round + 1 = at_least (round + 1) 100 test in
     let none : rounds - (round + 1) ≡ 0 = omega arith in
     ap (λ k. map (made_round n file) (range_with_len (round + 1) k) ++ pieces_behind n (file + 1)) none
 
@@ -58,7 +55,7 @@ behind_is : (n x file round : ℕ) → file < 4 → round < 100 → x ≡ number
     → nat_lt (round + 1) 100 ≡ b → IsPlace n x (cond b (place.Round file (round + 1)) (place.File (file + 1)))
 behind_is n x file round among below is true test = (among, ltb-true (round + 1) 100 test, is)
 behind_is n x file round among below is false test =
-    let past : 100 ≤ round + 1 = lt_false (round + 1) 100 test in
+    let past : 100 ≤ round + 1 = at_least (round + 1) 100 test in
     let next : 50000 * file + 500 * (round + 1) ≡ 50000 * (file + 1) + 500 * 0 = omega arith in
     let within : file + 1 ≤ 4 = omega arith in
     (within, is ∙ ap (λ k. number_behind k n) next)

@@ -7,13 +7,13 @@ use Rattle.std.proofs.lemmas.List.{map-append}
 use Rattle.indexmap.specs.IndexMap.{IndexMap, get, insert_entry}
 use Rattle.indexmap.proofs.CallerLemmas.{insert_entry-new}
 use Rattle.mon_series.specs.SeriesPoints.{SeriesPoints}
-use Rattle.mon_value.proofs.SameLemmas.{same_series-Decides}
+use Rattle.mon_value.proofs.SameLemmas.{same_series-Decides, same_series-test}
 use Rattle.mon_value.specs.Same.{same_series}
 use Rattle.mon_value.specs.contracts.rows.SeriesKeyPartialEq.TheImpl as derived
 use Rattle.mon_value.specs.declared.rows.SeriesKey.{SeriesKey}
 use Rattle.mon_series.specs.within.Places.{Group}
 use Rattle.mon_series.specs.SeriesMaps.{series_held}
-use Rattle.mon_series.proofs.HeldLemmas.{Entries, held_none, same_test}
+use Rattle.mon_series.proofs.HeldLemmas.{Entries, held_none}
 
 keys_held : (entries : Entries) → keys_of (series_held entries) ≡ keys_of entries
 keys_held [] = refl
@@ -48,7 +48,7 @@ pub copy_put : {H : Type 0} (made : IndexMap SeriesKey SeriesPoints H) (own key 
     → IsDistinct derived.eq-value.it (keys_of all) → series_held new ++ series_held rest ≡ series_held all
 copy_put made own key copy series rest all new owns points is whole distinct =
     let done : List Group = series_held made.entries in
-    let same : derived.eq-value.it ≡ same_series = λ i k. same_test k i in
+    let same : derived.eq-value.it ≡ same_series = λ i k. same_series-test k i in
     let by_series : IsDistinct same_series (keys_of (series_held all)) =
     subst (λ test. IsDistinct test (keys_of (series_held all))) same (subst (IsDistinct derived.eq-value.it)
     (sym (keys_held all)) distinct) in
@@ -57,7 +57,7 @@ copy_put made own key copy series rest all new owns points is whole distinct =
     let absent : lookup (same_series own) done ≡ None =
     ap (λ (k : SeriesKey). lookup (same_series k) done) owns ∙ absent_so_far done (key, series.points)
     (series_held rest) unlike in
-    let none : get derived.eq-value.it made own ≡ None = ap (λ test. lookup test made.entries) (same_test own)
+    let none : get derived.eq-value.it made own ≡ None = ap (λ test. lookup test made.entries) (same_series-test own)
     ∙ held_none own made.entries absent in
     let put : series_held new ≡ done ++ (key, series.points) ∷ [] =
     ap series_held (is ∙ insert_entry-new derived.eq-value.it made own copy none)

@@ -40,7 +40,7 @@ last_end_at (p ∷ q ∷ ps) =
     let e : length (p ∷ q ∷ ps) - 1 ≡ suc (length (q ∷ ps) - 1) = omega arith in
     rw e (last_end_at (q ∷ ps))
 
-after_at : (first : ℤ) (ps : List Point) (i : ℕ) (d : Point) → EndsAfter first ps → i < length ps
+pub after_at : (first : ℤ) (ps : List Point) (i : ℕ) (d : Point) → EndsAfter first ps → i < length ps
     → first <ℤ (get_or ps i d).end
 after_at first [] i d h l = absurd (omega arith)
 after_at first (p ∷ ps) zero d h l = h.0

@@ -9,7 +9,7 @@ use Rattle.std.proofs.lemmas.Bool.Decides.{nat_tests}
 use Rattle.std.proofs.lemmas.List.{length-map}
 use Rattle.indexmap.specs.Layout.{set_value_at}
 
-position_by : (n m at : ℕ) (b : Bool) → nat_lt n m ≡ b → cond b (Some n) None ≡ Some at → (n ≡ at) × (at < m)
+pub position_by : (n m at : ℕ) (b : Bool) → nat_lt n m ≡ b → cond b (Some n) None ≡ Some at → (n ≡ at) × (at < m)
 position_by n m at true less is = let same : n ≡ at = cc in (same, grind (arith, nat_tests))
 position_by n m at false less is = absurd cc
 

@@ -12,6 +12,7 @@ use Rattle.mon_value.specs.declared.rows.Row.{Row}
 use Rattle.mon_value.specs.declared.rows.SeriesKey.{SeriesKey}
 use Rattle.mon_series.specs.within.Places.{Group, with_point_at}
 use Rattle.mon_series.proofs.PlaceLemmas.{keys_in}
+use Rattle.mon_series.proofs.MetricLemmas.{series_keys}
 
 -- a group is the first of a key
 abbrev pub IsFirst : SeriesKey → List Group → ℕ → Type 0
@@ -87,14 +88,6 @@ first_at key (g ∷ groups) (suc at) distinct there =
 
 -- ---- the groups of rows
 
-keys_of_groups : (of : SeriesKey → List Point) (keys : List SeriesKey)
-    → keys_in (map (λ (key : SeriesKey). (key, of key)) keys) ≡ keys
-keys_of_groups of [] = refl
-keys_of_groups of (key ∷ keys) = ap (λ (rest : List SeriesKey). key ∷ rest) (keys_of_groups of keys)
-
-pub keys_by_series : (rows : List Row) → keys_in (points_by_series rows) ≡ series_of rows
-keys_by_series rows = keys_of_groups (λ key. points_of key rows) (series_of rows)
-
 group_of : (of : SeriesKey → List Point) (keys : List SeriesKey) (at : ℕ) (key : SeriesKey) → slice_get keys at
     ≡ Some key
     → slice_get {X = Group} (map (λ (key : SeriesKey). (key, of key)) keys) at ≡ Some (key, of key)
@@ -111,7 +104,7 @@ group_by_series rows at key there = group_of (λ key. points_of key rows) (serie
 pub first_by_series : (rows : List Row) (at : ℕ) (key : SeriesKey) → slice_get (series_of rows) at ≡ Some key
     → IsFirst key (points_by_series rows) at
 first_by_series rows at key there =
-    let keys = sym (keys_by_series rows) in
+    let keys = sym (series_keys rows) in
     first_at key (points_by_series rows) at
     (subst Distinct keys (keyed.keys_distinct same_series same_series-Decides key_of_row rows))
     (ap (λ (ks : List SeriesKey). slice_get ks at) (sym keys) ∙ there)
@@ -121,7 +114,7 @@ pub series_number : (groups : List Group) (rows : List Row) (at : ℕ) (key : Se
     ≡ points_by_series rows
     → slice_get groups at ≡ Some (key, points) → slice_get (series_of rows) at ≡ Some key
 series_number groups rows at key points same there =
-    ap (λ (ks : List SeriesKey). slice_get ks at) (sym (keys_by_series rows) ∙ ap keys_in (sym same))
+    ap (λ (ks : List SeriesKey). slice_get ks at) (sym (series_keys rows) ∙ ap keys_in (sym same))
     ∙ key_there groups at there
   where
     key_there : (groups : List Group) (at : ℕ) → slice_get groups at ≡ Some (key, points) → slice_get (keys_in groups)

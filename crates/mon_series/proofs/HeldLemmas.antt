@@ -1,29 +1,23 @@
 -- What a map keeps, as groups.
 use Rattle.std.proofs.Common.{◌≡◌, ◌∙◌, ◌<◌, ◌+◌, nat_lt, not, position, arith, ℕ, zero, suc, Bool, true, false, cond}
-use Rattle.std.proofs.Common.{Option, Some, None, option_map, List, [], ◌∷◌, ◌++◌, map, length, Result, Ok, Err, OnOk}
-use Rattle.std.proofs.Common.{is_ok, refl, sym, ap, slice_get}
+use Rattle.std.proofs.Common.{Option, Some, None, option_map, List, [], ◌∷◌, ◌++◌, map, length}
+use Rattle.std.proofs.Common.{refl, sym, ap, slice_get}
 use Rattle.std.specs.Map.{keys_of, lookup}
 use Rattle.std.specs.List.{position_or_len}
-use Rattle.std.proofs.lemmas.Bool.Decides.{nat_tests}
 use Rattle.std.proofs.lemmas.List.{map-append, length-map}
 use Rattle.indexmap.specs.Layout.{set_value_at}
 use Rattle.mon_series.specs.SeriesMaps.{series_held}
 use Rattle.mon_series.specs.SeriesPoints.{SeriesPoints}
-use Rattle.mon_value.proofs.SameLemmas.{eq-same_series}
 use Rattle.mon_value.specs.Same.{same_series}
 use Rattle.mon_value.specs.contracts.rows.SeriesKeyPartialEq.TheImpl as derived
 use Rattle.mon_value.specs.declared.rows.Point.{Point}
 use Rattle.mon_value.specs.declared.rows.SeriesKey.{SeriesKey}
 use Rattle.mon_series.specs.within.Places.{Group, count_at, with_point_at}
 use Rattle.mon_series.proofs.GroupLemmas.{IsFirst}
+use Rattle.mon_series.proofs.FirstLemmas.{position_by}
 
 abbrev pub Entries : Type 0
 Entries = List (SeriesKey × SeriesPoints)
-
--- what a call that succeeded says
-pub ok_claim : {V E : Type 0} (P : Type 0) (r : Result V E) → is_ok r ≡ true → OnOk r P → P
-ok_claim P (Ok value) ok claim = claim
-ok_claim P (Err error) ok claim = absurd cc
 
 -- ---- by number
 
@@ -113,10 +107,6 @@ first_held key [] at is within = absurd (omega arith)
 first_held key (entry ∷ entries) at is within = first_by key entry entries at (same_series key entry.0) refl is within
     (first_held key entries)
 
-position_by : (n m at : ℕ) (b : Bool) → nat_lt n m ≡ b → cond b (Some n) None ≡ Some at → (n ≡ at) × (at < m)
-position_by n m at true less is = let same : n ≡ at = cc in (same, grind (arith, nat_tests))
-position_by n m at false less is = absurd cc
-
 -- the group of the first key that passes a test
 pub held_first : (key : SeriesKey) (entries : Entries) (at : ℕ) → position (same_series key) (keys_of entries)
     ≡ Some at → IsFirst key (series_held entries) at
@@ -139,10 +129,6 @@ held_none key entries none = no_points (lookup (same_series key) entries) (sym (
 pub none_held : (key : SeriesKey) (entries : Entries) → lookup (same_series key) entries ≡ None
     → lookup (same_series key) (series_held entries) ≡ None
 none_held key entries none = held_lookup (same_series key) entries ∙ ap (option_map (λ s. s.points)) none
-
--- the test of a map is that of the definitions
-pub same_test : (key : SeriesKey) → derived.eq-value.it key ≡ same_series key
-same_test key = λ i other. eq-same_series key other i
 
 pub held_last : (entries : Entries) (key : SeriesKey) (series : SeriesPoints)
     → series_held (entries ++ (key, series) ∷ []) ≡ series_held entries ++ (key, series.points) ∷ []

@@ -10,10 +10,9 @@ use Rattle.mon_series.specs.declared.placing.Place.{Place}
 use Rattle.mon_series.specs.within.KeptRows.{AreRowsKept}
 use Rattle.mon_series.specs.within.Metrics.{HasSeriesNumbers, Index, NumbersKeys, SameNumbers, TakesNumber}
 use Rattle.mon_series.specs.within.Places.{Group, place_at, rows_at_places}
-use Rattle.mon_series.proofs.GroupLemmas.{keys_by_series}
 use Rattle.mon_series.proofs.HeldLemmas.{Entries}
 use Rattle.mon_series.proofs.KeptLemmas.{IsPushed, new_pushed, unchanged}
-use Rattle.mon_series.proofs.MetricLemmas.{numbers_known, numbers_new}
+use Rattle.mon_series.proofs.MetricLemmas.{numbers_known, numbers_new, series_keys}
 use Rattle.mon_series.proofs.PlaceLemmas.{keys_in}
 
 numbered_by : (index : Index) (rows rows' : List Row) → rows' ≡ rows → HasSeriesNumbers index rows
@@ -91,6 +90,6 @@ pub copy_kept : {groups' : List Group} {places places' : List Place} {index new 
 copy_kept {groups'} {places} {places'} {index} {new} entries kept same stayed numbers =
     let as_before = unchanged kept.placed same stayed in
     let keys : keys_of entries ≡ series_of (rows_at_places groups' places') =
-    keys_held entries ∙ ap keys_in kept.placed.grouped ∙ keys_by_series (rows_at_places (series_held entries) places)
+    keys_held entries ∙ ap keys_in kept.placed.grouped ∙ series_keys (rows_at_places (series_held entries) places)
     ∙ ap series_of (sym as_before.1) in
     record { placed = as_before.0; numbered = subst (NumbersKeys new) keys numbers }

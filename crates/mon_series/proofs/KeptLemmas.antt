@@ -18,9 +18,10 @@ use Rattle.mon_series.specs.within.Places.{HaveRows, Group, AreGroupsKept, Takes
 use Rattle.mon_series.specs.within.Places.{row_of_parts}
 use Rattle.mon_series.specs.within.Places.{rows_at_places, with_point_at}
 use Rattle.mon_series.proofs.GroupLemmas.{IsFirst, first_by_series, found_first, group_by_series, grown_first}
-use Rattle.mon_series.proofs.GroupLemmas.{grown_last, keys_by_series, series_number}
+use Rattle.mon_series.proofs.GroupLemmas.{grown_last, series_number}
 use Rattle.mon_series.proofs.PlaceLemmas.{Keeps, keeps_grown, keeps_new, keys_in, row_grown, row_listed, row_new}
 use Rattle.mon_series.proofs.PlaceLemmas.{row_parts, rows_added, rows_kept, there_added}
+use Rattle.mon_series.proofs.MetricLemmas.{series_keys}
 
 -- what is kept after a push, and which rows it has
 pub record IsPushed {E : Type 0} (row : Row) (groups groups' : List Group) (places places' : List Place)
@@ -132,7 +133,7 @@ module _ {groups : List Group} {places : List Place} {rows : List Row} (kept : A
       (first_by_series rows at row.key there) in
       let key : slice_get (keys_in groups) at ≡ Some row.key =
       ap (λ (gs : List Group). slice_get (keys_in gs) at) grouped ∙ ap (λ (ks : List SeriesKey). slice_get ks at)
-      (keys_by_series rows) ∙ there in
+      (series_keys rows) ∙ there in
       let few : length groups' < 2 ^ 32 = subst (λ (n : ℕ). n < 2 ^ 32)
       (sym (ap length grown ∙ count_same groups at row.point)) kept.few in
       let took = grown_by row at (count_at groups at) kept

@@ -148,7 +148,7 @@ with_keys (g ∷ groups) key point = by (same_series key g.0) (has_series key (k
     by false true rest = ap (λ (keys : List SeriesKey). g.0 ∷ keys) rest
     by false false rest = ap (λ (keys : List SeriesKey). g.0 ∷ keys) rest
 
-series_keys : (rows : List Row) → keys_in (points_by_series rows) ≡ series_of rows
+pub series_keys : (rows : List Row) → keys_in (points_by_series rows) ≡ series_of rows
 series_keys rows = keys_of_groups (λ key. points_of key rows) (series_of rows)
 
 series_push : (rows : List Row) (row : Row) → series_of (rows ++ row ∷ []) ≡ cond (has_series row.key (series_of rows))

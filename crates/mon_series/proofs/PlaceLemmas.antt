@@ -8,12 +8,9 @@ use Rattle.mon_value.specs.declared.rows.SeriesKey.{SeriesKey}
 use Rattle.mon_series.specs.declared.placing.Place.{Place}
 use Rattle.mon_series.specs.within.Places.{HaveRows, Group, count_at, place_at, row_at, row_of_parts, rows_at_places}
 use Rattle.mon_series.specs.within.Places.{with_point_at, with_found_row}
+use Rattle.mon_value.proofs.PlainLemmas.{get_next}
 
 -- ---- lists
-
-get_next : {A : Type 0} (xs : List A) (x : A) → slice_get (xs ++ x ∷ []) (length xs) ≡ Some x
-get_next [] x = refl
-get_next (y ∷ xs) x = get_next xs x
 
 -- the keys of groups
 abbrev pub keys_in : List Group → List SeriesKey

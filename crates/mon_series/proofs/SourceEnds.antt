@@ -3,18 +3,11 @@ use Rattle.std.proofs.Common.{◌≡◌, ◌∙◌, ℕ, ℤ, ◌<ℤ◌, Bool, 
 use Rattle.std.proofs.Common.{IfSome, refl, sym, ap, subst, append_assoc, take-append-drop}
 use Rattle.std.specs.List.{AllByRecursion}
 use Rattle.mon_value.proofs.SameLemmas.{same_series-Decides}
+use Rattle.mon_value.proofs.PlainLemmas.{all_front, all_last}
 use Rattle.mon_value.specs.Same.{same_series}
 use Rattle.mon_value.specs.LeafHistories.{EndsBefore, IsSource, last_end, points_of, rows_of}
 use Rattle.mon_value.specs.declared.rows.Point.{Point}
 use Rattle.mon_value.specs.declared.rows.Row.{Row}
-
-all_last : {A : Type 0} (P : A → Type 0) (xs : List A) (x : A) → AllByRecursion P (xs ++ x ∷ []) → P x
-all_last P [] x h = h.0
-all_last P (y ∷ ys) x h = all_last P ys x h.1
-
-all_front : {A : Type 0} (P : A → Type 0) (xs ys : List A) → AllByRecursion P (xs ++ ys) → AllByRecursion P xs
-all_front P [] ys h = tt
-all_front P (x ∷ xs) ys h = (h.0, all_front P xs ys h.1)
 
 pub source_front : (xs ys : List Row) → IsSource (xs ++ ys) → IsSource xs
 source_front [] ys h = tt

@@ -10,6 +10,7 @@ use Rattle.std.proofs.lemmas.Bool.{cases_Bool, cond-true, cond-false}
 use Rattle.std.proofs.lemmas.Int.{ints}
 use Rattle.mon_value.specs.declared.rows.Point.{Point}
 use Rattle.mon_series.specs.Splits.{points_until}
+use Rattle.mon_value.proofs.PlainLemmas.{and_implied}
 
 -- the first points of a list, which pass a test that the others fail
 pub filter_first : {X : Type 0} (test : X → Bool) (xs : List X) (i : ℕ) → AllWithin (λ x. test x ≡ true) xs 0 i
@@ -48,16 +49,12 @@ filter_both first second (x ∷ xs) =
       | inr e ↦ elim (cases_Bool (second x)) [ inl f ↦ rw (e, f) rest | inr f ↦ rw (e, f) rest ]
     ]
 
-until_both : (b c : Bool) → (b ≡ true → c ≡ true) → (b && c) ≡ b
-until_both true c h = h refl
-until_both false c h = refl
-
 -- among the points that end by a time, those that end before its window
 pub points_until-before : (ps : List Point) (t w before until : ℤ) → before ≡ t -ℤ w → until ≡ t → pos 1 ≤ℤ w
     → points_until before (points_until until ps) ≡ points_until (t -ℤ w) ps
 points_until-before ps t w before until e f h =
     filter_both (λ p. int_le p.end until) (λ p. int_le p.end before) ps
-    ∙ filter_agree _ _ (λ p. until_both (int_le p.end before) (int_le p.end until) (λ g. grind (arith, ints))) ps
+    ∙ filter_agree _ _ (λ p. and_implied (int_le p.end before) (int_le p.end until) (λ g. grind (arith, ints))) ps
     ∙ ap (λ time. points_until time ps) e
 
 -- a list's first items, and those behind them

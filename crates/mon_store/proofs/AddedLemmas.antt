@@ -6,7 +6,6 @@ use Rattle.std.specs.List.{AllByRecursion, flat_map}
 use Rattle.std.proofs.lemmas.List.{append-nil, append_assoc}
 use Rattle.std.proofs.lemmas.List.Concat.{flat_map-append}
 use Rattle.history_book.proofs.HistoryLemmas.{entries_added, entries_else, same_cases, same_history_refl}
-use Rattle.history_book.proofs.PurseLemmas.{contains_none}
 use Rattle.history_book.specs.Histories.{IsFor, entries, same_history, with_book_entry}
 use Rattle.history_book.specs.declared.views.BookEntry.{BookEntry}
 use Rattle.history_book.specs.declared.views.BookEntry.TheVariants as one
@@ -23,10 +22,12 @@ use Rattle.mon_value.specs.declared.histories.RangeEntry.TheVariants as range_en
 use Rattle.mon_value.specs.declared.positions.Range.{Range}
 use Rattle.mon_value.specs.declared.positions.SlotLeaf.{SlotLeaf}
 use Rattle.mon_value.specs.declared.rows.Row.{Row}
-use Rattle.mon_store.proofs.ListLemmas.{Differ, contains_mapped, differ-append}
+use Rattle.mon_store.proofs.ListLemmas.{Differ, differ-append}
 use Rattle.mon_store.specs.Writes.{only_in, put_in, written}
 use Rattle.range_cell.specs.Writing.{put_of, with_put_of, with_puts}
 use Rattle.write_core.proofs.AckLemmas.{contains_flat, contains_one}
+use Rattle.mon_value.proofs.PlainLemmas.{contains_none, in_map}
+use Rattle.mon_store.proofs.RefusedLemmas.{map_both}
 use Rattle.write_core.specs.Marks.{replica_of, taken_slot, with_fate}
 use Rattle.write_core.specs.declared.marks.Fate.{Fate}
 use Rattle.write_core.specs.declared.marks.Fate.TheVariants as fate
@@ -68,10 +69,6 @@ slot_at mark fate.Ready = refl
 slot_at mark fate.Took = refl
 slot_at mark (fate.Missed cut) = refl
 
-map_both : {X Y : Type 0} (f : X → Y) (xs ys : List X) → map f (xs ++ ys) ≡ map f xs ++ map f ys
-map_both f [] ys = refl
-map_both f (x ∷ xs) ys = ap (λ rest. f x ∷ rest) (map_both f xs ys)
-
 -- their slots are those that the acknowledgement names
 pub took_slots : (marks : List Mark) → map (λ (replica : SlotLeaf). replica.slot) (took_of marks)
     ≡ flat_map taken_slot marks
@@ -105,7 +102,7 @@ took_apart_at mark fate.Took marks h rest = (
       let found = took_in marks x there in
       subst (λ (other : SlotLeaf). topo.IsFrom (replica_of mark) other) found.3
       (all_at (topo.IsFrom (replica_of mark)) (map replica_of marks) (replica_of found.0) h
-      (contains_mapped replica_of marks found.0 found.1))),
+      (in_map replica_of marks found.0 found.1))),
   rest,
 )
 took_apart_at mark (fate.Missed cut) marks h rest = rest

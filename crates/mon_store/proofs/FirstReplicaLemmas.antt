@@ -8,7 +8,7 @@ use Rattle.std.proofs.lemmas.Bool.{cases_lt, eq-eqb, or_right}
 use Rattle.std.proofs.lemmas.List.{get_or_past, take_all}
 use Rattle.std.proofs.lemmas.List.Concat.{flat_map-append}
 use Rattle.std.proofs.lemmas.List.Elements.{Contains-append_right}
-use Rattle.mon_topo.proofs.FirstLemmas.{no_acks, here_contains, opening_at, no_acks_yet}
+use Rattle.mon_topo.proofs.FirstLemmas.{no_acks, here_contains, opening_at, no_acks_yet, opened_count}
 use Rattle.mon_topo.proofs.FirstOpenings.{open_up_to, replica_there}
 use Rattle.mon_topo.specs.HeldHistories.{first_range_history, opened_before, opened_here, opened_of, opened_up_to}
 use Rattle.mon_topo.specs.HeldHistories.{opening, openings_from, slot_numbered, BeginsWith, IsBorneOut, IsHeldBy}
@@ -28,7 +28,6 @@ use Rattle.mon_value.specs.declared.positions.Range.{Range}
 use Rattle.mon_value.specs.declared.positions.Slot.{Slot}
 use Rattle.mon_value.specs.declared.positions.SlotLeaf.{SlotLeaf}
 use Rattle.mon_value.specs.declared.rows.Row.{Row}
-use Rattle.range_cell.proofs.FirstReplicaLemmas.{opened_count}
 use Rattle.range_cell.specs.Rest.{AreUnopened, HasJust, HaveJust}
 use Rattle.mon_store.specs.Openings.{IsOpenedUpTo}
 

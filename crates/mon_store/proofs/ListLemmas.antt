@@ -1,48 +1,14 @@
 -- Lists whose items differ, and where an item stands that was mapped, kept or put together with others.
-use Rattle.std.proofs.Common.{◌≡◌, ◌≢◌, zero, suc, Bool, true, false, List, [], ◌∷◌, ◌++◌, map}
-use Rattle.std.proofs.Common.{filter, refl, sym, ap, subst, ◌∙◌, arith, cond, inl, inr, ◌⊎◌}
+use Rattle.std.proofs.Common.{◌≡◌, ◌≢◌, List, [], ◌∷◌, ◌++◌}
+use Rattle.std.proofs.Common.{refl, sym, ap, subst, ◌∙◌, arith, inl, inr, ◌⊎◌}
 use Rattle.std.specs.Prelude.{Contains}
-use Rattle.std.specs.List.{flat_map}
 use mathlib.Core.List.{IsPrefix}
 use Rattle.std.proofs.lemmas.List.{append_assoc, append_cancel_left}
-use Rattle.std.proofs.lemmas.List.Elements.{Contains-append_cases, Contains-append_left, Contains-append_right}
-use Rattle.history_book.proofs.PurseLemmas.{contains_none}
+use Rattle.std.proofs.lemmas.List.Elements.{Contains-append_cases}
 use Rattle.write_core.proofs.AckLemmas.{contains_later, contains_one}
+use Rattle.mon_value.proofs.PlainLemmas.{contains_none}
 
 -- ---- where an item stands
-
-pub contains_mapped : {X Y : Type 0} (f : X → Y) (xs : List X) (x : X) → Contains xs x → Contains (map f xs) (f x)
-contains_mapped f [] x there = absurd (contains_none x there)
-contains_mapped f (y ∷ xs) x (zero, l, e) = (0, omega arith, ap f e)
-contains_mapped f (y ∷ xs) x (suc k, l, e) =
-    contains_later (f y) (f x) (map f xs) (contains_mapped f xs x (k, omega arith, e))
-
-pub contains_made : {X Y : Type 0} (f : X → List Y) (xs : List X) (x : X) (y : Y) → Contains xs x → Contains (f x) y
-    → Contains (flat_map f xs) y
-contains_made f [] x y there made = absurd (contains_none x there)
-contains_made f (z ∷ xs) x y (zero, l, e) made =
-    Contains-append_left (f z) (flat_map f xs) y (subst (λ w. Contains (f w) y) (sym e) made)
-contains_made f (z ∷ xs) x y (suc k, l, e) made =
-    Contains-append_right (f z) (flat_map f xs) y (contains_made f xs x y (k, omega arith, e) made)
-
-kept_at : {X : Type 0} (b : Bool) (x y : X) (xs : List X) → (x ≡ y → b ≡ true) → Contains xs y ⊎ (x ≡ y)
-    → Contains (cond b (x ∷ xs) xs) y
-kept_at true x y xs h (inl later) = contains_later x y xs later
-kept_at true x y xs h (inr here) = (0, omega arith, here)
-kept_at false x y xs h (inl later) = later
-kept_at false x y xs h (inr here) = absurd (by (h here))
-  where
-    by : false ≡ true → ⊥
-    by e = cc
-
-pub contains_kept : {X : Type 0} (test : X → Bool) (xs : List X) (x : X) → Contains xs x → test x ≡ true
-    → Contains (filter test xs) x
-contains_kept test [] x there yes' = absurd (contains_none x there)
-contains_kept test (y ∷ xs) x (zero, l, e) yes' =
-    kept_at (test y) y x (filter test xs) (λ same. ap test same ∙ yes') (inr e)
-contains_kept test (y ∷ xs) x (suc k, l, e) yes' =
-    kept_at (test y) y x (filter test xs) (λ same. ap test same ∙ yes')
-    (inl (contains_kept test xs x (k, omega arith, e) yes'))
 
 -- ---- items that differ
 

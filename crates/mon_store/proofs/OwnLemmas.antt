@@ -3,7 +3,7 @@ use Rattle.std.proofs.Common.{◌≡◌, ℕ, ◌≤◌, Bool, List, ◌++◌, l
 use Rattle.std.proofs.Common.{subst, ◌∙◌, arith}
 use Rattle.std.specs.Prelude.{Contains}
 use mathlib.Core.List.{IsPrefix}
-use Rattle.std.proofs.lemmas.List.{append_cancel_left, drop-append-le, drop_all, map-append}
+use Rattle.std.proofs.lemmas.List.{append_cancel_left, drop-append-le, drop_all}
 use Rattle.std.proofs.lemmas.List.Elements.{filter-append}
 use Rattle.history_book.proofs.ListLemmas.{prefix_filter, prefix_length, prefix_whole}
 use Rattle.history_book.specs.Histories.{AreFronts, entries, is_under}
@@ -15,15 +15,13 @@ use Rattle.history_book.specs.declared.views.History.TheVariants as of
 use Rattle.history_book.specs.declared.views.Kept.{Kept}
 use Rattle.know.specs.Knowledge.{Knowledge}
 use Rattle.mon_topo.proofs.FrontLemmas.{begins_from, begins_to, behind}
+use Rattle.mon_value.proofs.PlainLemmas.{prefix_map}
 use Rattle.mon_topo.specs.HeldHistories.{BeginsWith, AreWithin}
 use Rattle.mon_value.specs.Histories.{leaf_history, range_history}
 use Rattle.mon_value.specs.declared.histories.Histories.{Histories}
 use Rattle.mon_store.specs.Passes.{HasSeenItsOwn}
 
 -- ---- beginnings
-
-prefix_map : {X Y : Type 0} (f : X → Y) (xs ys : List X) → IsPrefix xs ys → IsPrefix (map f xs) (map f ys)
-prefix_map f xs ys p = (map f p.0, sym (map-append f xs p.0) ∙ ap (map f) p.1)
 
 -- what begins with a list, mapped, has that list mapped as its front
 pub prefix_from : {X Y : Type 0} (f : X → Y) (xs ys : List X) → BeginsWith ys xs → IsPrefix (map f xs) (map f ys)

@@ -1,7 +1,6 @@
 -- Which owner stands at a place of the owners of new tables.
 use Rattle.std.proofs.Common.{◌≡◌, ℕ, zero, suc, ◌+◌, ◌-◌, ◌<◌, ◌≤◌, nat_lt, Bool, true, false, List, [], ◌∷◌, ◌++◌}
 use Rattle.std.proofs.Common.{length, map, take, drop, refl, sym, ap, ◌∙◌, arith, slice_get, get_or, Some}
-use Rattle.std.specs.List.{range_with_len}
 use Rattle.std.proofs.lemmas.Bool.Decides.{nat_tests}
 use Rattle.std.proofs.lemmas.List.{length-append, length-map}
 use Rattle.std.proofs.lemmas.Option.{get_or_from_slice_get, slice_get_within}
@@ -68,11 +67,6 @@ get_map : {X Y : Type 0} (f : X → Y) (xs : List X) (k : ℕ) (x : X) → slice
 get_map f [] k x is = let l = slice_get_within [] k x is in absurd (omega (arith, l))
 get_map f (y ∷ xs) zero x is = let same : y ≡ x = some_same y x is in ap (λ z. Some (f z)) same
 get_map f (y ∷ xs) (suc k) x is = get_map f xs k x is
-
--- one number more
-pub range_more : (a n j : ℕ) → a + n ≡ j → range_with_len a (suc n) ≡ range_with_len a n ++ j ∷ []
-range_more a zero j e = let same : a ≡ j = omega (arith, e) in ap (λ k. k ∷ []) same
-range_more a (suc n) j e = ap (λ (l : List ℕ). a ∷ l) (range_more (a + 1) n j (omega (arith, e)))
 
 -- ---- leaves of zones
 

@@ -1,22 +1,16 @@
 -- A text's plan is asked of the store by a caller between its calls, which is between calls again when it has ended.
 use Rattle.std.proofs.Common.{◌≡◌, ◌∙◌, ◌<◌, ◌≤ℤ◌, ◌^◌, ℕ, ℤ, List, pos, length, refl, sym, ap, subst, Ok, Err}
 use Rattle.std.specs.List.{AllByRecursion}
-use Rattle.std.specs.Prelude.{IfOk, Result, Some, Contains, option_map, option_to_list, ◌++◌}
+use Rattle.std.specs.Prelude.{IfOk, Result, Contains, option_map, option_to_list, ◌++◌}
 use Rattle.history_book.specs.Seats.{IsPurseBorneOut, hand_of, kept_in}
 use Rattle.history_book.specs.declared.views.Kept.{Kept}
 use Rattle.know.specs.Knowledge.{Knowledge}
 use Rattle.know.specs.Sound.{IsSound}
-use Rattle.leaf_store.specs.LeafStates.{buckets_by, key_buckets}
 use Rattle.mon_config.specs.declared.config.Config.{Config}
-use Rattle.mon_hints.specs.Hints.{series_buckets}
-use Rattle.mon_schema.specs.Names.{SchemaLists, metric_named, target_named}
 use Rattle.mon_topo.proofs.HeldLemmas.{seen_within_through}
 use Rattle.mon_topo.specs.HeldHistories.{first_histories}
 use Rattle.mon_topo.specs.Settings.{Setting}
 use Rattle.mon_topo.specs.Zones.{leaf_counts, ranges_in}
-use Rattle.mon_value.specs.declared.rows.SeriesKey.{SeriesKey}
-use Rattle.mon_value.specs.declared.schemas.MetricSchema.{MetricSchema}
-use Rattle.mon_value.specs.declared.schemas.TargetSchema.{TargetSchema}
 use Rattle.mql_types.specs.declared.plans.Plan.{Plan}
 use Rattle.owners.specs.Puts.{pass_of}
 use Rattle.query_core.specs.Askings.{IsAskedOf}
@@ -31,18 +25,12 @@ use Rattle.running_query.specs.Ends.{EndsRightly}
 use Rattle.running_query.specs.Looks.{GoesOn}
 use Rattle.mon_store.proofs.OwnLemmas.{still_exact, within_front}
 use Rattle.mon_store.proofs.PassLemmas.{number_still}
+use Rattle.leaf_store.proofs.BucketLemmas.{own_buckets}
 use Rattle.mon_store.specs.Passes.{IsPass}
 use Rattle.mon_store.specs.Queries.{EndsIf, IsQueried, IsServed, IsToldAs, areas_in}
 use Rattle.mon_store.specs.Stores.{IsSetUp, setting_of}
 use Rattle.mon_store.specs.declared.queries.QueryFault.{QueryFault}
 use Rattle.mon_store.specs.declared.queries.QueryFault.TheVariants as fault
-
--- a series whose schemas are held has the buckets by them
-own_buckets : (count : ℕ) (held : SchemaLists) (target : TargetSchema) (metric : MetricSchema) (key : SeriesKey)
-    → target_named key.target.schema held.targets ≡ Some target → metric_named key.metric held.metrics ≡ Some metric
-    → key_buckets count held key ≡ series_buckets count target metric key
-own_buckets count held target metric key target_is metric_is =
-    λ i. buckets_by count (target_is i) (metric_is i) key
 
 -- ---- what is asked
 

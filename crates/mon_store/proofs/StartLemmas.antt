@@ -1,7 +1,7 @@
 -- What there is before the first replica is opened, and which numbers leaves have.
 use Rattle.std.proofs.Common.{◌≡◌, ℕ, zero, suc, ◌+◌, ◌<◌, nat_lt, Bool, true, false, not, cond, List, [], ◌∷◌, length}
 use Rattle.std.proofs.Common.{map, refl, sym}
-use Rattle.std.proofs.Common.{ap, subst, ◌∙◌, arith, slice_get, Some, replicate}
+use Rattle.std.proofs.Common.{ap, subst, ◌∙◌, arith, slice_get, Some}
 use Rattle.std.specs.List.{range_with_len}
 use Rattle.std.proofs.lemmas.Bool.{eq-eqb}
 use Rattle.std.proofs.lemmas.Bool.Decides.{nat_tests}
@@ -28,6 +28,7 @@ use Rattle.range_cell.specs.Rest.{others}
 use Rattle.raise_table.specs.declared.views.Hints.{Hints}
 use Rattle.mon_store.specs.Openings.{IsNewLeafAt, IsOpening, first_leaf}
 use Rattle.running_query.proofs.GoingLemmas.{same_fronts}
+use Rattle.mon_value.proofs.PlainLemmas.{map-replicate}
 
 -- ---- leaves by number
 
@@ -117,15 +118,11 @@ module _ (leaves ranges : ℕ) where
 
 -- ---- who has seen nothing
 
-sights_none : {X Y : Type 0} (f : X → Y) (n : ℕ) (x : X) → map f (replicate n x) ≡ replicate n (f x)
-sights_none f zero x = refl
-sights_none f (suc n) x = ap (λ rest. f x ∷ rest) (sights_none f n x)
-
 pub none_sight : (leaves ranges : ℕ) → no_sight leaves ranges ≡ sight_of (empty_histories leaves ranges)
 none_sight leaves ranges =
     sym (λ i. record {
-      leaves = sights_none (λ (h : List Entry). length h) leaves [] i;
-      ranges = sights_none range_sight ranges [] i;
+      leaves = map-replicate (λ (h : List Entry). length h) leaves [] i;
+      ranges = map-replicate range_sight ranges [] i;
     })
 
 -- ---- a new range

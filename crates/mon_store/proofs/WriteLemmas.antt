@@ -20,11 +20,12 @@ use Rattle.mon_topo.specs.Settings.{Setting}
 use Rattle.mon_value.specs.Histories.{same_leaf}
 use Rattle.mon_value.specs.declared.positions.Leaf.{Leaf}
 use Rattle.owners.specs.Puts.{number_or, pass_of}
-use Rattle.mon_store.proofs.ListLemmas.{Differ, all_came, contains_kept}
+use Rattle.mon_store.proofs.ListLemmas.{Differ, all_came}
 use Rattle.mon_store.proofs.PassLemmas.{number_still, same_owner}
 use Rattle.mon_store.proofs.OwnLemmas.{came, entries_front, still_exact, within_front}
 use Rattle.mon_store.specs.Passes.{IsPass}
 use Rattle.mon_store.specs.Writes.{IsStill, IsUnwritten, new_entries, own_entries}
+use Rattle.mon_value.proofs.PlainLemmas.{contains_kept}
 use Rattle.write_core.proofs.AckLemmas.{contains_filter}
 
 -- what a call at a range leaves as it was, where the caller held nothing before

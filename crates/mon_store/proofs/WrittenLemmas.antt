@@ -26,13 +26,13 @@ use Rattle.mon_topo.proofs.FrontLemmas.{begins_push}
 use Rattle.mon_topo.proofs.RangeHistoryLemmas.{AreApart, all_at, numbered}
 use Rattle.mon_topo.specs.HeldHistories.{BeginsWith}
 use Rattle.mon_topo.specs.RangeHistories as range_spec
-use Rattle.mon_topo.specs.RangeHistories.{IsAckOf, IsLegal, acked_row, acknowledged_rows, serving}
+use Rattle.mon_topo.specs.RangeHistories.{IsLegal, acked_row, acknowledged_rows, serving}
 use Rattle.mon_topo.specs.Settings.{Setting}
 use Rattle.mon_topo.specs.Zones.{leaves_in, ranges_in}
 use Rattle.mon_topo.specs.declared.zones.ZoneSpec.{ZoneSpec}
 use Rattle.mon_value.proofs.SameLemmas.{same_series-Decides}
 use Rattle.mon_value.specs.Histories.{same_leaf, leaf_history, range_history}
-use Rattle.mon_value.specs.LeafHistories.{entry_rows, replica_rows, same_replica, EndsBefore, IsSource}
+use Rattle.mon_value.specs.LeafHistories.{entry_rows, replica_rows, EndsBefore, IsSource}
 use Rattle.mon_value.specs.Same.{same_series}
 use Rattle.mon_value.specs.declared.histories.Ack.{Ack}
 use Rattle.mon_value.specs.declared.histories.Entry.{Entry}
@@ -49,7 +49,6 @@ use Rattle.owners.specs.Puts.{pass_of}
 use Rattle.mon_store.proofs.AddedLemmas.{ack_added, only_is, put_is, puts_added, puts_number, took_apart, took_in}
 use Rattle.mon_store.proofs.AddedLemmas.{took_of, took_slots, written_differ}
 use Rattle.mon_store.proofs.CarriedLemmas.{HasGoneOver, HasReturned, over_carried, over_down, over_found}
-use Rattle.mon_store.proofs.ListLemmas.{contains_made, contains_mapped}
 use Rattle.mon_store.proofs.WriteLemmas.{HaveCome, IsCarried, added_new, added_own, added_still, all_come, has_own}
 use Rattle.mon_store.proofs.WriteLemmas.{own_is, written_pass}
 use Rattle.mon_store.specs.Passes.{IsPass}
@@ -60,6 +59,8 @@ use Rattle.range_cell.specs.Stages.{IsThrough}
 use Rattle.range_cell.specs.Writes.{HasAcknowledged}
 use Rattle.range_cell.specs.Writing.{IsFated, put_of, ready_count, with_puts}
 use Rattle.write_core.proofs.AckLemmas.{contains_map, missed_in}
+use Rattle.mon_value.proofs.LeafHistoryLemmas.{same_replica-itself}
+use Rattle.mon_value.proofs.PlainLemmas.{in_flat_map, in_map}
 use Rattle.write_core.specs.Invariant.{AreAll, is_decided}
 use Rattle.write_core.specs.Marks.{is_ready, replica_of}
 use Rattle.write_core.specs.RangeAnswers.{refusal}
@@ -83,23 +84,17 @@ not_old (first ∷ rows) row source (zero, l, e) =
     ((same_series-Decides row.key row.key).1 refl))))
 not_old (first ∷ rows) row source (suc k, l, e) = not_old rows row source.1 (k, omega arith, e)
 
-same_itself : (range : Range) (slot : Slot) → same_replica range slot range slot ≡ true
-same_itself range slot = by range.0 slot.0
-  where
-    by : (a b : ℕ) → (nat_eq a a && nat_eq b b) ≡ true
-    by a b = grind (arith, nat_tests)
-
 -- the row of a put is among its replica's
 row_of_put : (pass : ℕ) (range : Range) (slot : Slot) (row : Row) (history : List Entry)
     → Contains history (entry.Put pass range slot row) → Contains (replica_rows range slot history) row
 row_of_put pass range slot row history there =
-    contains_made (entry_rows range slot) history (entry.Put pass range slot row) row there
-    (subst (λ b. Contains (cond b (row ∷ []) []) row) (sym (same_itself range slot)) (0, omega arith, refl))
+    in_flat_map (entry_rows range slot) history (entry.Put pass range slot row) row there
+    (subst (λ b. Contains (cond b (row ∷ []) []) row) (sym (same_replica-itself range slot)) (0, omega arith, refl))
 
 row_of_ack : (pass : ℕ) (row : Row) (ack : Ack) (history : List RangeEntry)
     → Contains history (range_entry.Acked pass row ack) → Contains (acknowledged_rows history) row
 row_of_ack pass row ack history there =
-    contains_made acked_row history (range_entry.Acked pass row ack) row there (0, omega arith, refl)
+    in_flat_map acked_row history (range_entry.Acked pass row ack) row there (0, omega arith, refl)
 
 -- the last entry of a legal history may follow those before it
 module _ (held : SchemaLists) (zones : List ZoneSpec) (points : ℕ) (range : Range) where
@@ -174,7 +169,7 @@ module _ (range : Range) (row : Row) (pass : ℕ) (rows : List Row) (replicas : 
   pub serves : (mark : Mark) → Contains marks mark → Contains replicas (replica_of mark)
   serves mark there =
       subst (λ (xs : List SlotLeaf). Contains xs (replica_of mark)) through.so_far.serve
-      (contains_mapped replica_of marks mark there)
+      (in_map replica_of marks mark there)
 
 -- ---- a row that was written
 
@@ -303,9 +298,9 @@ module _ (setting : Setting) (config : Config) (leaves : ℕ) (range : Range) (r
         (numbered setting.held setting.zones setting.points range history
         (front_legal setting.held setting.zones setting.points range [] history (e ∷ []) legal)).apart));
     seen = came_by (λ whose x. Contains (entries after.seen whose) x)
-        (λ replica in_took. contains_mapped (λ x. one.Leaf x) (leaf_history after.seen replica.leaf)
+        (λ replica in_took. in_map (λ x. one.Leaf x) (leaf_history after.seen replica.leaf)
         (entry.Put pass range replica.slot row) (put_seen replica in_took))
-        (contains_mapped (λ x. one.Range x) (range_history after.seen range) e ack_seen);
+        (in_map (λ x. one.Range x) (range_history after.seen range) e ack_seen);
     under = came_by (λ whose x. is_under pass x ≡ true) (λ replica in_took. here_again pass) (here_again pass);
     unseen = came_by (λ whose x. Contains (entries before.seen whose) x → ⊥)
         (λ replica in_took old.

@@ -3,10 +3,9 @@ use Rattle.std.proofs.Common.{◌≡◌, ◌∙◌, ℕ, ◌+◌, Bool, true, fa
 use Rattle.std.proofs.Common.{Bor, refl, ap, sym, arith, append-nil}
 use Rattle.std.specs.declared.alloc.Global.{Global}
 use Rattle.indexmap.specs.IndexMap.{get, UpdatesBy}
-use Rattle.mon_value.proofs.SameLemmas.{same_text-Decides}
+use Rattle.mon_value.proofs.SameLemmas.{same_text-Decides, same_text-back}
 use Rattle.mon_value.specs.Same.{same_text}
 use Rattle.mon_value.specs.declared.columns.Column.{Column}
-use Rattle.mon_table.proofs.PlaceLemmas.{same_text-back}
 use Rattle.mon_table.specs.NamedPlaces.{PlaceMap, places_under, same_name}
 use Rattle.mon_table.specs.Places.{right_places_of}
 

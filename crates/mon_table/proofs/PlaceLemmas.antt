@@ -1,23 +1,17 @@
 -- The places of the columns of two tables, and what stands there.
-use Rattle.std.proofs.lemmas.Bool.{false_from_ne_true}
 use Rattle.std.proofs.Common.{◌≡◌, ◌∙◌, ℕ, zero, suc, ◌+◌, ◌||◌, Bool, true, false, not, cond, List, [], ◌∷◌, ◌++◌}
 use Rattle.std.proofs.Common.{length, map, drop, replicate, Some, refl, ap, sym, arith, add-one}
 use Rattle.std.proofs.Common.{append_assoc, length-append}
 use Rattle.std.proofs.lemmas.List.{set_at}
 use Rattle.std.specs.List.{cons_option, filter_map, slice_get}
-use Rattle.mon_value.proofs.SameLemmas.{same_text-Decides}
+use Rattle.mon_value.proofs.SameLemmas.{same_text-back}
+use Rattle.mon_value.proofs.PlainLemmas.{or_false}
 use Rattle.mon_value.specs.Tables.{has_name, right_columns}
 use Rattle.mon_value.specs.Same.{same_text}
 use Rattle.mon_value.specs.declared.columns.Column.{Column}
 use Rattle.mon_table.specs.Places.{left_places_of, marked, own_places, right_places, right_places_of, unmarked}
 
 -- ---- texts are compared from either side
-
-pub same_text-back : (s t : List ℕ) (b : Bool) → same_text s t ≡ b → same_text t s ≡ b
-same_text-back s t true e = (same_text-Decides t s).1 (sym ((same_text-Decides s t).0 e))
-same_text-back s t false e =
-    false_from_ne_true (same_text t s) (λ h. let back : same_text s t ≡ true = (same_text-Decides s t).1
-    (sym ((same_text-Decides t s).0 h)) in cc)
 
 -- ---- what stands at a place
 
@@ -92,10 +86,6 @@ or_next : (a b c : Bool) → (b || (a || c)) ≡ ((a || b) || c)
 or_next true true c = refl
 or_next true false c = refl
 or_next false b c = refl
-
-or_false : (b : Bool) → (b || false) ≡ b
-or_false true = refl
-or_false false = refl
 
 -- the columns whose names are of the left's get a mark
 marked-names : (lefts rights : List Column) (f : Column → Bool) → marked (right_places lefts rights) (map f rights)

@@ -13,14 +13,11 @@ use Rattle.mon_value.specs.declared.tables.Table.{Table}
 use Rattle.mon_value.specs.declared.tables.TimedRow.{TimedRow}
 use Rattle.mon_value.specs.declared.values.Value.{Value}
 use Rattle.mon_table.proofs.PlaceLemmas.{next_place, there}
+use Rattle.mon_value.proofs.PlainLemmas.{and_assoc}
 use Rattle.mon_table.specs.Places.{left_places, left_places_of, own_places, right_places, right_places_of}
 use Rattle.mon_table.specs.RightSides.{left_pairs, pair_row, right_side}
 
 -- ---- the cells that two rows share
-
-and_assoc : (a b c : Bool) → ((a && b) && c) ≡ (a && (b && c))
-and_assoc true b c = refl
-and_assoc false b c = refl
 
 -- one left cell with the right cells of its name, before any others
 module _ (column : Column) (cell : Value) (left : List Value) (place : ℕ) (at : slice_get left place ≡ Some cell)

@@ -11,9 +11,8 @@ use Rattle.std.proofs.lemmas.Bool.Decides.{nat_tests}
 use Rattle.std.specs.Ordering.{is_le, is_lt, ordering_reverse}
 use Rattle.std.specs.declared.cmp.Ordering.{Ordering}
 use Rattle.std.specs.declared.cmp.Ordering.TheVariants.{Less, Equal, Greater}
-use Rattle.std.proofs.lemmas.Cmp.{lists_total, on_total}
-use Rattle.mon_value.proofs.OrderLemmas.{value_total}
-use Rattle.mon_value.specs.Order.{field_as_value, field_cmp}
+use Rattle.std.proofs.lemmas.Cmp.{lists_total}
+use Rattle.mon_value.proofs.OrderLemmas.{field_total}
 use Rattle.mon_value.specs.declared.rows.Target.{Target}
 use Rattle.mon_value.specs.declared.values.FieldValue.{FieldValue}
 use Rattle.mon_topo.proofs.PlaceLemmas.{passed}
@@ -24,9 +23,6 @@ use Rattle.mon_topo.specs.declared.places.Place.TheVariants as place
 use Rattle.mon_topo.specs.declared.zones.RangeSpec.{RangeSpec}
 
 -- ---- the order of bounds
-
-field_total : IsTotalOrder field_cmp
-field_total = on_total field_as_value value_total
 
 bound_total : IsTotalOrder bound_cmp
 bound_total = lists_total field_total

@@ -21,6 +21,7 @@ use Rattle.mon_value.proofs.LeafHistoryLemmas.{IsWellFormed-push, down_push, ope
 use Rattle.mon_schema.specs.Names.{SchemaLists}
 use Rattle.mon_topo.proofs.PartLemmas.{length-zones_of}
 use Rattle.mon_topo.proofs.RangeHistoryLemmas.{all_at}
+use Rattle.mon_value.proofs.PlainLemmas.{and_false}
 use Rattle.mon_value.specs.Histories.{leaf_history, range_history, leaf_numbered, range_numbered, same_leaf}
 use Rattle.mon_value.specs.declared.histories.Histories.{Histories}
 use Rattle.mon_topo.specs.HeldHistories.{AreAtHome, AreHeld, BeginsWith, IsBorneOut, IsHeldBy, first_histories}
@@ -49,10 +50,6 @@ not_opened range slot r s history apart none =
     opened_more (range_numbered r) (slot_numbered s) history (opening (range_numbered range) slot ∷ [])
     ∙ ap (λ b. b || is_opened (range_numbered r) (slot_numbered s) (opening (range_numbered range) slot ∷ [])) none
     ∙ ap (λ b. b || false) apart
-
-and_false : (b : Bool) → (b && false) ≡ false
-and_false true = refl
-and_false false = refl
 
 other_slot : (range s slot : ℕ) → s ≢ slot
     → same_replica (range_numbered range) (slot_numbered s) (range_numbered range) (slot_numbered slot) ≡ false
@@ -381,3 +378,7 @@ module _ (zones : List ZoneSpec) where
           let there : range.0 < length (ranges_in zones) = omega (arith, h, range_count) in
           subst (IsHeldBy seen range) (sym (range_is range there)) (held_by range there (has range there));
     }
+
+pub opened_count : (slot : ℕ) (leaves : List Leaf) → length (opened_slots (openings_from slot leaves)) ≡ length leaves
+opened_count slot [] = refl
+opened_count slot (leaf ∷ leaves) = ap suc (opened_count (slot + 1) leaves)

@@ -20,6 +20,7 @@ use Rattle.mon_value.specs.declared.histories.RangeEntry.TheVariants as range_en
 use Rattle.mon_value.specs.declared.positions.Leaf.{Leaf}
 use Rattle.mon_value.specs.declared.positions.Range.{Range}
 use Rattle.mon_topo.proofs.FirstLemmas.{IsOpen, get_contains, next_range, one_next, range_opened}
+use Rattle.mon_value.proofs.PlainLemmas.{range_last}
 use Rattle.mon_topo.specs.HeldHistories.{first_range_history, opened_here, opened_of, opening, openings_from}
 use Rattle.mon_topo.specs.HeldHistories.{slot_numbered, opened_before, opened_up_to}
 
@@ -29,10 +30,6 @@ flat_map_last : {X Y : Type 0} (f : X → List Y) (xs : List X) (x : X) → flat
 flat_map_last f [] x = append-nil (f x)
 flat_map_last f (y ∷ xs) x =
     ap (λ (l : List _). f y ++ l) (flat_map_last f xs x) ∙ sym (append_assoc (f y) (flat_map f xs) (f x))
-
-range_last : (a n j : ℕ) → a + n ≡ j → range_with_len a (suc n) ≡ range_with_len a n ++ j ∷ []
-range_last a zero j e = let same : a ≡ j = omega (arith, e) in ap (λ k. k ∷ []) same
-range_last a (suc n) j e = ap (λ (l : List ℕ). a ∷ l) (range_last (a + 1) n j (omega (arith, e)))
 
 pub before_more : (zones : List ZoneSpec) (range n : ℕ)
     → opened_before zones (range + 1) n ≡ opened_before zones range n ++ opened_of zones (leaf_numbered n) range

@@ -1,5 +1,5 @@
 -- A map of names, as contracts see it.
-use Rattle.std.proofs.Common.{◌≡◌, ◌∙◌, ℕ, false, List, [], ◌∷◌, ◌++◌, Option, Some, None, Vec, cond, is_some, refl}
+use Rattle.std.proofs.Common.{◌≡◌, ◌∙◌, ℕ, false, List, [], ◌∷◌, ◌++◌, Some, None, Vec, cond, is_some, refl}
 use Rattle.std.proofs.Common.{ap, sym, nat_eq}
 use Rattle.std.specs.Cmp.Lexicographic.{pointwise}
 use Rattle.std.specs.List.{list_any}
@@ -8,6 +8,7 @@ use Rattle.std.specs.declared.alloc.Global.{Global}
 use Rattle.std.proofs.lemmas.Map.Made.{is_some-lookup}
 use Rattle.indexmap.specs.IndexMap.{IndexMap, get, insert_entry}
 use Rattle.indexmap.proofs.CallerLemmas.{insert_entry-new}
+use Rattle.mon_value.proofs.PlainLemmas.{absent}
 use Rattle.mon_schema.specs.Held.{named_entries}
 use Rattle.mon_value.specs.Same.{same_text}
 
@@ -28,10 +29,6 @@ pub list_any-keys : (name : List ℕ) (es : List (Vec ℕ Global × ℕ))
     ≡ is_some (lookup (λ (key : Vec ℕ Global). pointwise nat_eq name key.items) es)
 list_any-keys name es =
     sym (is_some-lookup (same_text name) (named_entries es)) ∙ sym (ap is_some (lookup-named_entries name es))
-
-absent : {X : Type 0} (o : Option X) → is_some o ≡ false → o ≡ None
-absent None h = refl
-absent (Some x) h = absurd (cc)
 
 -- a name that isn't there goes to the end
 pub insert_name : {H : Type 0} (m : IndexMap (Vec ℕ Global) ℕ H) (name : List ℕ) (key : Vec ℕ Global) (n : ℕ)

@@ -8,25 +8,15 @@ use Rattle.mon_value.specs.Histories.{zone_numbered}
 use Rattle.mon_topo.specs.Zones.{no_zone, zones_of}
 use Rattle.mon_topo.specs.declared.zones.ZoneSpec.{ZoneSpec}
 use Rattle.mon_value.specs.declared.positions.Zone.{Zone}
+use Rattle.mon_value.proofs.PlainLemmas.{get_back, get_or-front}
 
 -- ---- two lists, one behind the other
-
-get_or-front : {X : Type 0} (xs ys : List X) (i : ℕ) (d : X) → i < length xs → get_or (xs ++ ys) i d ≡ get_or xs i d
-get_or-front [] ys i d there = absurd (omega arith)
-get_or-front (x ∷ xs) ys zero d there = refl
-get_or-front (x ∷ xs) ys (suc i) d there = get_or-front xs ys i d (omega arith)
 
 get_or-back : {X : Type 0} (xs ys : List X) (i : ℕ) (d : X) → get_or (xs ++ ys) (length xs + i) d ≡ get_or ys i d
 get_or-back [] ys i d = ap (λ n. get_or ys n d) (omega arith)
 get_or-back (x ∷ xs) ys i d =
     let step : suc (length xs) + i ≡ suc (length xs + i) = omega arith in
     ap (λ n. get_or (x ∷ (xs ++ ys)) n d) step ∙ get_or-back xs ys i d
-
-slice_get-back : {X : Type 0} (xs ys : List X) (i : ℕ) → slice_get (xs ++ ys) (length xs + i) ≡ slice_get ys i
-slice_get-back [] ys i = ap (slice_get ys) (omega arith)
-slice_get-back (x ∷ xs) ys i =
-    let step : suc (length xs) + i ≡ suc (length xs + i) = omega arith in
-    ap (slice_get (x ∷ (xs ++ ys))) step ∙ slice_get-back xs ys i
 
 -- ---- where a part stands
 
@@ -113,6 +103,6 @@ zone_of_part parts n (zone ∷ zones) (suc i) j there within =
     let place : length (parts zone ++ before) + j ≡ length front + (length before + j) =
     omega (arith, length-append (parts zone) before, length-map (parts zone) (λ part. zone_numbered n)) in
     ap (slice_get (front ++ zones_of parts (n + 1) zones)) place
-    ∙ slice_get-back front (zones_of parts (n + 1) zones) (length before + j)
+    ∙ get_back front (zones_of parts (n + 1) zones) (length before + j)
     ∙ zone_of_part parts (n + 1) zones i j (omega arith) within
     ∙ ap (λ k. Some (zone_numbered k)) (omega arith)

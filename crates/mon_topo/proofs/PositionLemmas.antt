@@ -21,7 +21,7 @@ one_on test n x xs p found =
           found.passes;
     }
 
-some_is : (a b : ℕ) → Some a ≡ Some b → a ≡ b
+pub some_is : (a b : ℕ) → Some a ≡ Some b → a ≡ b
 some_is a b e = cc
 
 one_of : {X : Type 0} (test : X → Bool) (n : ℕ) (x : X) (xs : List X) (p : ℕ)

@@ -149,9 +149,6 @@ named zones r name part new known =
       );
     }
 
-some_is : (a b : ℕ) → Some a ≡ Some b → a ≡ b
-some_is a b e = cc
-
 -- one leaf has one name
 same_name : (zones : List ZoneSpec) (range : Range) (a b : List ℕ) (p : IsNamed zones range a)
     (q : IsNamed zones range b)

@@ -36,7 +36,7 @@ missed_slots missed = map (λ (miss : Miss). miss.slot) missed
 one_more : (slot x : Slot) (xs : List Slot) → times slot (x ∷ xs) ≡ one_if (same_slot slot x) + times slot xs
 one_more slot x xs = sum_by-cons (λ other. cond (same_slot slot other) 1 0) x xs
 
-times_both : (slot : Slot) (xs ys : List Slot) → times slot (xs ++ ys) ≡ times slot xs + times slot ys
+pub times_both : (slot : Slot) (xs ys : List Slot) → times slot (xs ++ ys) ≡ times slot xs + times slot ys
 times_both slot xs ys = sum_by-append (λ other. cond (same_slot slot other) 1 0) xs ys
 
 itself : (slot : Slot) → same_slot slot slot ≡ true
@@ -103,7 +103,7 @@ gone_by : (ack : Ack) (replica : SlotLeaf) (replicas : List SlotLeaf) (b : Bool)
 gone_by ack replica replicas true e none = (refl, none)
 gone_by ack replica replicas false e none = absurd (omega (arith, none))
 
-slot_is : (a b : Slot) → same_slot a b ≡ true → a ≡ b
+pub slot_is : (a b : Slot) → same_slot a b ≡ true → a ≡ b
 slot_is a b e =
     let number : a.0 ≡ b.0 = let test : nat_eq a.0 b.0 ≡ true = e in grind (arith, nat_tests) in
     ap (λ (n : ℕ). (let slot : Slot = record { 0 = n } in slot)) number

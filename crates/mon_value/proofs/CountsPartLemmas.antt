@@ -23,10 +23,6 @@ or-comm true false = refl
 or-comm false true = refl
 or-comm false false = refl
 
-pub or-assoc : (a b c : Bool) → ((a || b) || c) ≡ (a || (b || c))
-or-assoc true b c = refl
-or-assoc false b c = refl
-
 -- ---- counts of 0
 
 zeros_added : (n : ℕ) (counts : List ℕ) → n ≤ length counts → counts_added (replicate n 0) counts ≡ counts
@@ -43,10 +39,10 @@ sum-zeros (suc n) = omega (arith, sum-zeros n, sum_by-cons (λ n. n) 0 (replicat
 
 -- ---- distributions of one length
 
-All-front : {A : Type 0} (P : A → Type 0) (xs ys : List A) → All P (xs ++ ys) → All P xs
+pub All-front : {A : Type 0} (P : A → Type 0) (xs ys : List A) → All P (xs ++ ys) → All P xs
 All-front P xs ys all k d lt = subst P (get_or_append_left xs ys d k lt) (all k d (omega (arith, length-append xs ys)))
 
-All-back : {A : Type 0} (P : A → Type 0) (xs ys : List A) → All P (xs ++ ys) → All P ys
+pub All-back : {A : Type 0} (P : A → Type 0) (xs ys : List A) → All P (xs ++ ys) → All P ys
 All-back P xs ys all = All-front P ys xs (All-permutation P (xs ++ ys) (ys ++ xs) (IsPermutation-append_comm xs ys) all)
 
 pub lengths-chosen : (n : ℕ) (xs ys zs : List (List ℕ)) → IsPermutation (xs ++ ys) zs

@@ -12,7 +12,7 @@ pub length-times_back : (n : ℕ) (t e : ℤ) → length (times_back n t e) ≡ 
 length-times_back zero t e = refl
 length-times_back (suc n) t e = omega (arith, length-times_back n (t -ℤ e) e)
 
-more_times : (n p : ℕ) → suc n * p ≡ n * p + p
+pub more_times : (n p : ℕ) → suc n * p ≡ n * p + p
 more_times n p = omega arith
 
 -- times that are above a low one by so many steps stay above it

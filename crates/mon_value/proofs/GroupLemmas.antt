@@ -1,9 +1,14 @@
 -- The groups of a table's rows.
-use Rattle.std.proofs.Common.{◌≡◌, ◌<◌, length, Bool, true, cond, Some, None, List, [], ◌∷◌, ◌++◌, map, ℕ}
+use Rattle.mon_value.specs.declared.values.Value.TheVariants as value
+use Rattle.std.proofs.Common.{◌≡◌, ◌<◌, length, Bool, true, cond, Some, None, List, [], ◌∷◌, ◌++◌, map, ℕ, arith, sum}
 use Rattle.std.specs.Map.{lookup}
 use Rattle.mon_value.proofs.KeyedLemmas as keyed
 use Rattle.mon_value.proofs.SameLemmas.{same_row-Decides}
-use Rattle.mon_value.specs.Groups.{group_key, group_keys, rows_by_group, rows_in}
+use Rattle.std.proofs.lemmas.List.Sums.{sum_by-cons}
+use Rattle.std.proofs.Common.{sum_by, unsigned_abs}
+use Rattle.mon_value.specs.Values.{magnitude}
+use Rattle.mon_value.specs.declared.values.Value.{Value}
+use Rattle.mon_value.specs.Groups.{group_key, group_keys, rows_by_group, rows_in, numbers_in, distributions_in}
 use Rattle.mon_value.specs.Same.{same_row}
 use Rattle.mon_value.specs.declared.tables.TimedRow.{TimedRow}
 
@@ -51,3 +56,35 @@ module _ (places : List ℕ) where
   pub merged_rows_by_group : (xs ys : List TimedRow) → merged_rows (rows_by_group places xs) (rows_by_group places ys)
       ≡ rows_by_group places (xs ++ ys)
   merged_rows_by_group = keyed.merged_items_by_key same_row same_row-Decides (group_key places)
+
+pub numbers-magnitude : (values : List Value) → sum_by unsigned_abs (numbers_in values) ≤ sum_by magnitude values
+numbers-magnitude [] = omega arith
+numbers-magnitude (value.Int z ∷ values) =
+    omega (
+      arith,
+      numbers-magnitude values,
+      sum_by-cons unsigned_abs z (numbers_in values),
+      sum_by-cons magnitude (value.Int z) values,
+    )
+numbers-magnitude (value.Bool p ∷ values) =
+    omega (arith, numbers-magnitude values, sum_by-cons magnitude (value.Bool p) values)
+numbers-magnitude (value.Text s ∷ values) =
+    omega (arith, numbers-magnitude values, sum_by-cons magnitude (value.Text s) values)
+numbers-magnitude (value.Dist counts ∷ values) =
+    omega (arith, numbers-magnitude values, sum_by-cons magnitude (value.Dist counts) values)
+
+pub distributions-magnitude : (values : List Value) → sum_by sum (distributions_in values) ≤ sum_by magnitude values
+distributions-magnitude [] = omega arith
+distributions-magnitude (value.Int z ∷ values) =
+    omega (arith, distributions-magnitude values, sum_by-cons magnitude (value.Int z) values)
+distributions-magnitude (value.Bool p ∷ values) =
+    omega (arith, distributions-magnitude values, sum_by-cons magnitude (value.Bool p) values)
+distributions-magnitude (value.Text s ∷ values) =
+    omega (arith, distributions-magnitude values, sum_by-cons magnitude (value.Text s) values)
+distributions-magnitude (value.Dist counts ∷ values) =
+    omega (
+      arith,
+      distributions-magnitude values,
+      sum_by-cons sum counts (distributions_in values),
+      sum_by-cons magnitude (value.Dist counts) values,
+    )

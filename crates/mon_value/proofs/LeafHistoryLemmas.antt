@@ -1,8 +1,7 @@
 -- What a history says after one entry more, and what a well-formed one says of each entry.
 use Rattle.std.proofs.Common.{◌≡◌, ◌∙◌, ℕ, Bool, true, false, cond, ◌&&◌, ◌||◌, nat_eq, List, [], ◌∷◌, ◌++◌, refl, sym}
-use Rattle.std.proofs.Common.{ap, subst, append-nil, append_assoc, arith, inl, inr}
-use Rattle.std.proofs.lemmas.Bool.{and_left, or_left, or_right, or_cases}
-use Rattle.std.proofs.lemmas.Bool.Decides.{nat_tests}
+use Rattle.std.proofs.Common.{ap, subst, append-nil, append_assoc, inl, inr}
+use Rattle.std.proofs.lemmas.Bool.{and_left, or_left, or_right, or_cases, and_from, eq-eqb}
 use Rattle.std.proofs.lemmas.List.Concat.{flat_map-append}
 use Rattle.mon_value.specs.LeafHistories.{GoesOn, IsWellFormed, MayFollow, entry_rows, is_down_after, is_opened}
 use Rattle.mon_value.specs.LeafHistories.{replica_rows, same_replica}
@@ -11,14 +10,8 @@ use Rattle.mon_value.specs.declared.histories.Entry.TheVariants as entry
 use Rattle.mon_value.specs.declared.positions.Range.{Range}
 use Rattle.mon_value.specs.declared.positions.Slot.{Slot}
 use Rattle.mon_value.specs.declared.rows.Row.{Row}
-
-or_turned : (p q r : Bool) → ((p || q) || r) ≡ (p || (q || r))
-or_turned true q r = refl
-or_turned false q r = refl
-
-or_false : (p : Bool) → (p || false) ≡ p
-or_false true = refl
-or_false false = refl
+use Rattle.mon_value.specs.Histories.{range_numbered, same_range}
+use Rattle.mon_value.proofs.PlainLemmas.{or_false, and_both, or_assoc, equal_means}
 
 pub replica_rows-push : (range : Range) (slot : Slot) (history : List Entry) (last : Entry) →
     replica_rows range slot (history ++ last ∷ []) ≡ replica_rows range slot history ++ entry_rows range slot last
@@ -31,7 +24,7 @@ pub opened_more : (range : Range) (slot : Slot) (history more : List Entry) →
 opened_more range slot [] more = refl
 opened_more range slot (entry.Opened pass other place rows ∷ history) more =
     ap (λ b. same_replica range slot other place || b) (opened_more range slot history more)
-    ∙ sym (or_turned (same_replica range slot other place) (is_opened range slot history) (is_opened range slot more))
+    ∙ sym (or_assoc (same_replica range slot other place) (is_opened range slot history) (is_opened range slot more))
 opened_more range slot (entry.Put pass other place row ∷ history) more = opened_more range slot history more
 opened_more range slot (entry.Down pass ∷ history) more = opened_more range slot history more
 opened_more range slot (entry.Up pass ∷ history) more = opened_more range slot history more
@@ -66,29 +59,22 @@ front history more formed = front_at [] history more formed
 
 -- ---- a replica that was never opened has no rows
 
-numbers_same : (a b : ℕ) → nat_eq a b ≡ true → a ≡ b
-numbers_same a b same = grind (arith, nat_tests)
-
-parts : (a b : Bool) → (a && b) ≡ true → (a ≡ true) × (b ≡ true)
-parts true b e = (refl, e)
-parts false b e = absurd cc
-
 -- two that are the same replica have the same range and the same slot
 pub parts_same : (range other : Range) (slot place : Slot) → same_replica range slot other place ≡ true
     → (range ≡ other) × (slot ≡ place)
 parts_same range other slot place same =
-    let both = parts (nat_eq range.0 other.0) (nat_eq slot.0 place.0) same in
-    let ranges = numbers_same range.0 other.0 both.0 in
-    let slots = numbers_same slot.0 place.0 both.1 in
+    let both = and_both (nat_eq range.0 other.0) (nat_eq slot.0 place.0) same in
+    let ranges = equal_means range.0 other.0 both.0 in
+    let slots = equal_means slot.0 place.0 both.1 in
     ((λ i. record { 0 = ranges i }), (λ i. record { 0 = slots i }))
 
 pub same_tests : (range other : Range) (slot place : Slot) → same_replica range slot other place ≡ true
     → (a : Range) (b : Slot) →
     same_replica range slot a b ≡ same_replica other place a b
 same_tests range other slot place same a b =
-    let both = parts (nat_eq range.0 other.0) (nat_eq slot.0 place.0) same in
-    let ranges = numbers_same range.0 other.0 both.0 in
-    let slots = numbers_same slot.0 place.0 both.1 in
+    let both = and_both (nat_eq range.0 other.0) (nat_eq slot.0 place.0) same in
+    let ranges = equal_means range.0 other.0 both.0 in
+    let slots = equal_means slot.0 place.0 both.1 in
     λ i. nat_eq (ranges i) a.0 && nat_eq (slots i) b.0
 
 pub opened_same : (range other : Range) (slot place : Slot) (history : List Entry) → same_replica range slot other
@@ -179,3 +165,9 @@ pub put_elsewhere : (r : Range) (s : Slot) (pass : ℕ) (other : Range) (place :
     → nat_eq r.0 other.0 ≡ false → entry_rows r s (entry.Put pass other place row) ≡ []
 put_elsewhere r s pass other place row apart =
     ap (λ b. cond b (row ∷ []) []) (and_left (nat_eq r.0 other.0) (nat_eq s.0 place.0) apart)
+
+pub ranges_same : (a b : Range) → same_range a b ≡ true → a ≡ b
+ranges_same a b is = let number : a.0 ≡ b.0 = equal_means a.0 b.0 is in ap range_numbered number
+
+pub same_replica-itself : (r : Range) (slot : Slot) → same_replica r slot r slot ≡ true
+same_replica-itself r slot = and_from (nat_eq r.0 r.0) (nat_eq slot.0 slot.0) (eq-eqb r.0 r.0 refl) (eq-eqb slot.0 slot.0 refl)

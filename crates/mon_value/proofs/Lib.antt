@@ -12,6 +12,7 @@ pub mod NumberPartLemmas
 pub mod OrderLemmas
 pub mod PercentileLemmas
 pub mod PermutationLemmas
+pub mod PlainLemmas
 pub mod RowOrderLemmas
 pub mod SameLemmas
 pub mod SortingLemmas

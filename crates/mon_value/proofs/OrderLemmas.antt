@@ -106,7 +106,7 @@ exact_values (value.Dist counts) (value.Dist others) h = ap value.Dist (exact_by
 
 -- ---- fields and targets
 
-field_total : IsTotalOrder field_cmp
+pub field_total : IsTotalOrder field_cmp
 field_total = on_total field_as_value value_total
 
 pub target_total : IsTotalOrder target_cmp

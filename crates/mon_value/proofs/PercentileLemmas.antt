@@ -11,6 +11,7 @@ use Rattle.std.proofs.lemmas.Bool.Decides.{nat_tests}
 use Rattle.mon_value.specs.Groups.{bounds_rise, running_counts, percentile_bucket, upper_bound, percentile_of}
 use Rattle.mon_value.specs.Groups.{PercentilesRise}
 use Rattle.mon_value.proofs.CountsLemmas.{sum-cons}
+use Rattle.mon_value.proofs.PlainLemmas.{and_both}
 
 length-running_counts : (before : ℕ) (counts : List ℕ) → length (running_counts before counts) ≡ length counts
 length-running_counts before [] = refl
@@ -105,10 +106,6 @@ percentile_bucket-le counts p q h =
 
 -- ---- bounds that rise
 
-both_true : (s t : Bool) → (s && t) ≡ true → (s ≡ true) × (t ≡ true)
-both_true true t h = (refl, h)
-both_true false t h = absurd (false≢true h)
-
 below_le : (a b c : ℤ) → int_lt a b ≡ true → b ≤ℤ c → a ≤ℤ c
 below_le a b c h l = grind (arith, ints)
 
@@ -118,7 +115,7 @@ first-le : (bound : ℤ) (bounds : List ℤ) → bounds_rise (bound ∷ bounds) 
 first-le bound bounds h zero within = ≤ℤ_refl bound
 first-le bound [] h (suc j) within = absurd (omega arith)
 first-le bound (next ∷ bounds) h (suc j) within =
-    let both = both_true (int_lt bound next) (bounds_rise (next ∷ bounds)) h in
+    let both = and_both (int_lt bound next) (bounds_rise (next ∷ bounds)) h in
     below_le bound next (get_or (next ∷ bounds) j (pos 0)) both.0 (first-le next bounds both.1 j (omega arith))
 
 -- a later bound is at least an earlier one
@@ -129,7 +126,7 @@ bounds-le (bound ∷ bounds) h zero j l within = first-le bound bounds h j withi
 bounds-le (bound ∷ bounds) h (suc i) zero l within = absurd (omega arith)
 bounds-le (bound ∷ []) h (suc i) (suc j) l within = absurd (omega arith)
 bounds-le (bound ∷ next ∷ bounds) h (suc i) (suc j) l within =
-    bounds-le (next ∷ bounds) (both_true (int_lt bound next) (bounds_rise (next ∷ bounds)) h).1 i j (omega arith)
+    bounds-le (next ∷ bounds) (and_both (int_lt bound next) (bounds_rise (next ∷ bounds)) h).1 i j (omega arith)
     (omega arith)
 
 upper_bound-le : (bounds : List ℤ) → bounds_rise bounds ≡ true → (i j : ℕ) → i ≤ j → upper_bound bounds i ≤ℤ

@@ -1,5 +1,5 @@
 -- What is the same is equal, and the derived comparisons tell so.
-use Rattle.std.proofs.Common.{◌≡◌, ℕ, ◌&&◌, Bool, true, false, List, Decides, refl, ap}
+use Rattle.std.proofs.Common.{◌≡◌, ℕ, ◌&&◌, Bool, true, false, List, Decides, refl, ap, sym}
 use Rattle.std.specs.Cmp.Lexicographic.{pointwise}
 use Rattle.std.specs.Ordering.{int_eq}
 use Rattle.std.specs.Prelude.{nat_eq}
@@ -17,6 +17,8 @@ use Rattle.mon_value.specs.contracts.rows.SeriesKeyPartialEq.TheImpl as derived
 use Rattle.mon_value.specs.contracts.tables.TimedRowPartialEq.TheImpl as derived_row
 use Rattle.mon_value.specs.contracts.values.FieldValuePartialEq.TheImpl as derived_field
 use Rattle.mon_value.specs.contracts.values.ValuePartialEq.TheImpl as derived_value
+use Rattle.std.proofs.lemmas.Bool.{false_from_ne_true}
+use Rattle.mon_value.proofs.PlainLemmas.{and_both}
 
 -- ---- the derived comparison is that of the definitions
 
@@ -41,11 +43,6 @@ eq-same_series a b =
     (λ i x y. eq-same_field x y i)
 
 -- ---- what it tells
-
-pub both : (a b : Bool) → (a && b) ≡ true → (a ≡ true) × (b ≡ true)
-both true true e = (refl, refl)
-both true false e = absurd cc
-both false b e = absurd cc
 
 pub join : (a b : Bool) → a ≡ true → b ≡ true → (a && b) ≡ true
 join true true e f = refl
@@ -81,7 +78,7 @@ same_fields-Decides a b = slice_eq-Decides same_field-Decides a b (pointwise sam
 same_target-Decides : (a b : Target) → Decides (same_target a b) (a ≡ b)
 same_target-Decides a b = (
   λ e.
-      let parts = both (same_text a.schema b.schema) _ e in
+      let parts = and_both (same_text a.schema b.schema) _ e in
       let schema = (same_text-Decides a.schema b.schema).0 parts.0 in
       let fields = (same_fields-Decides a.fields b.fields).0 parts.1 in
       λ i. record { schema = schema i; fields = fields i },
@@ -93,8 +90,8 @@ same_target-Decides a b = (
 pub same_series-Decides : (a b : SeriesKey) → Decides (same_series a b) (a ≡ b)
 same_series-Decides a b = (
   λ e.
-      let parts = both (same_target a.target b.target) _ e in
-      let rest = both (same_text a.metric b.metric) _ parts.1 in
+      let parts = and_both (same_target a.target b.target) _ e in
+      let rest = and_both (same_text a.metric b.metric) _ parts.1 in
       let target = (same_target-Decides a.target b.target).0 parts.0 in
       let metric = (same_text-Decides a.metric b.metric).0 rest.0 in
       let fields = (same_fields-Decides a.fields b.fields).0 rest.1 in
@@ -160,7 +157,7 @@ eq-same_row a b =
 pub same_row-Decides : (a b : TimedRow) → Decides (same_row a b) (a ≡ b)
 same_row-Decides a b = (
   λ e.
-      let parts = both (int_eq a.time b.time) _ e in
+      let parts = and_both (int_eq a.time b.time) _ e in
       let time = (Decides-int_eq a.time b.time).0 parts.0 in
       let cells = (slice_eq-Decides same_value-Decides a.cells b.cells (pointwise same_value a.cells b.cells) refl).0
       parts.1 in
@@ -169,3 +166,16 @@ same_row-Decides a b = (
       ((slice_eq-Decides same_value-Decides a.cells b.cells (pointwise same_value a.cells b.cells) refl).1
       (ap (λ r. r.cells) e)),
 )
+
+pub same_text-back : (s t : List ℕ) (b : Bool) → same_text s t ≡ b → same_text t s ≡ b
+same_text-back s t true e = (same_text-Decides t s).1 (sym ((same_text-Decides s t).0 e))
+same_text-back s t false e =
+    false_from_ne_true (same_text t s) (λ h. let back : same_text s t ≡ true = (same_text-Decides s t).1
+    (sym ((same_text-Decides t s).0 h)) in cc)
+
+pub same_text-itself : (text : List ℕ) → same_text text text ≡ true
+same_text-itself text = (same_text-Decides text text).1 refl
+
+-- the test of a map is that of the definitions
+pub same_series-test : (key : SeriesKey) → derived.eq-value.it key ≡ same_series key
+same_series-test key = λ i other. eq-same_series key other i

@@ -42,12 +42,12 @@ in_with_items new [] = refl
 in_with_items new (group ∷ groups) = in_with_items_at new group groups (same_series new.0 group.0)
     (in_with_items new groups)
 
-by_items_at : (rows : List Row) (keys : List SeriesKey) → map (λ key. (key, points_of key rows)) keys ≡ map points_in
+pub by_items_at : (rows : List Row) (keys : List SeriesKey) → map (λ key. (key, points_of key rows)) keys ≡ map points_in
     (map (λ key. (key, rows_of key rows)) keys)
 by_items_at rows [] = refl
 by_items_at rows (key ∷ keys) = ap (λ more. (key, points_of key rows) ∷ more) (by_items_at rows keys)
 
-by_items : (rows : List Row) → points_by_series rows ≡ map points_in (items_by_key same_series key_of_row rows)
+pub by_items : (rows : List Row) → points_by_series rows ≡ map points_in (items_by_key same_series key_of_row rows)
 by_items rows = by_items_at rows (series_of rows)
 
 -- one more row goes to its series

@@ -10,8 +10,9 @@ use Rattle.mql_ast.specs.Tokens.{is_blank, is_digit, Rest, first_of, head, behin
 use Rattle.mql_ast.specs.Tokens.{number_at, minus, signed_at, unit_seconds, longest, with_unit, duration_at}
 use Rattle.std.proofs.Math.Nat.{mul-le-mul_left}
 use Rattle.mql_ast.specs.Printed.{duration_text}
-use Rattle.mql_ast.proofs.TokensPrinted.{if_true, if_false, given, followed, From, place_behind, place_push}
+use Rattle.mql_ast.proofs.TokensPrinted.{if_true, if_false, followed, From, place_behind, place_push}
 use Rattle.mql_ast.proofs.TokensPrinted.{rest_behind, regrouped, no_blank}
+use Rattle.mon_value.proofs.PlainLemmas.{same_item}
 
 digits_step : (most v w : ℕ) (t u : Bool) (o : Option (ℕ × Rest)) (end r : Rest) (n : ℕ) → v ≤ w → v ≤ most
     → nat_le w most ≡ u →
@@ -19,12 +20,12 @@ digits_step : (most v w : ℕ) (t u : Bool) (o : Option (ℕ × Rest)) (end r : 
     ≡ Some (n, r) → (v ≤ n) × (n ≤ most)
 digits_step most v w true true o end r n grows low e f h = let x = f (leb-true w most e) h in (omega (arith, x.0), x.1)
 digits_step most v w true false o end r n grows low e f h = absurd (cc)
-digits_step most v w false u o end r n grows low e f h = let same : v ≡ n = ap (λ p. p.0) (given (v, end) (n, r) h) in
+digits_step most v w false u o end r n grows low e f h = let same : v ≡ n = ap (λ p. p.0) (same_item (v, end) (n, r) h) in
     (omega arith, omega arith)
 
 digits_read : (most v at : ℕ) (bs : List ℕ) (r : Rest) (n : ℕ) → v ≤ most → digits_from most v at bs ≡ Some (n, r)
     → (v ≤ n) × (n ≤ most)
-digits_read most v at [] r n low h = let same : v ≡ n = ap (λ p. p.0) (given (v, record { at = at; bytes = [] }) (n, r)
+digits_read most v at [] r n low h = let same : v ≡ n = ap (λ p. p.0) (same_item (v, record { at = at; bytes = [] }) (n, r)
     h) in (omega arith, omega arith)
 digits_read most v at (b ∷ bs) r n low h =
     digits_step most v (v * 10 + (b - 48)) (is_digit b) (nat_le (v * 10 + (b - 48)) most)
@@ -51,7 +52,7 @@ positive_lawful most nine s r n h =
 
 number_step : (t : Bool) (most : ℕ) (s q r : Rest) (n : ℕ) → 9 ≤ most → (if t then Some (0, q) else positive_at most s)
     ≡ Some (n, r) → n ≤ most
-number_step true most s q r n nine h = let none : 0 ≡ n = ap (λ p. p.0) (given (0, q) (n, r) h) in omega arith
+number_step true most s q r n nine h = let none : 0 ≡ n = ap (λ p. p.0) (same_item (0, q) (n, r) h) in omega arith
 number_step false most s q r n nine h = (positive_lawful most nine s r n h).1
 
 pub number_lawful : (most : ℕ) → 9 ≤ most → (s r : Rest) (n : ℕ) → number_at most s ≡ Some (n, r) → n ≤ most
@@ -144,7 +145,7 @@ begins_with_digit n small = elim (◌==◌ n 0) as (λ t. (n == 0) ≡ t → Beg
 digit_passes : (b : ℕ) → 49 ≤ b → b ≤ 57 → (is_digit b && not (b == 48)) ≡ true
 digit_passes b low high = grind (arith, nat_tests)
 
-digit_is_no_blank : (b : ℕ) → is_digit b ≡ true → is_blank b ≡ false
+pub digit_is_no_blank : (b : ℕ) → is_digit b ≡ true → is_blank b ≡ false
 digit_is_no_blank b h = grind (arith, nat_tests)
 
 digit_is_no_minus : (b : ℕ) → is_digit b ≡ true → (b == 45) ≡ false
@@ -223,11 +224,11 @@ signed_step : (t : Bool) (o p : Option (ℕ × Rest)) (z : ℤ) (r : Rest) → (
     (option_and_then (λ n. Some (pos n.0, n.1)) p) ≡ Some (z, r) → InRange z
 signed_step true o p z r f g h =
     let x = followed o (λ n. Some (minus n.0, n.1)) (z, r) h in
-    let same : minus x.0.0 ≡ z = ap (λ p. p.0) (given (minus x.0.0, x.0.1) (z, r) x.2) in
+    let same : minus x.0.0 ≡ z = ap (λ p. p.0) (same_item (minus x.0.0, x.0.1) (z, r) x.2) in
     subst InRange same (minus_in_range x.0.0 (f x.0.0 x.0.1 x.1))
 signed_step false o p z r f g h =
     let x = followed p (λ n. Some (pos n.0, n.1)) (z, r) h in
-    let same : pos x.0.0 ≡ z = ap (λ p. p.0) (given (pos x.0.0, x.0.1) (z, r) x.2) in
+    let same : pos x.0.0 ≡ z = ap (λ p. p.0) (same_item (pos x.0.0, x.0.1) (z, r) x.2) in
     subst InRange same (above (g x.0.0 x.0.1 x.1))
 
 pub signed_lawful : (s r : Rest) (z : ℤ) → signed_at s ≡ Some (z, r) → InRange z
@@ -298,7 +299,7 @@ unit_step : (t v : Bool) (n u : ℕ) (q r : Rest) (z : ℤ) → (u == 0) ≡ t �
     → IsDuration z
 unit_step true v n u q r z e f one h = absurd (cc)
 unit_step false true n u q r z e f one h =
-    let same : pos (n * u) ≡ z = ap (λ p. p.0) (given (pos (n * u), q) (z, r) h) in
+    let same : pos (n * u) ≡ z = ap (λ p. p.0) (same_item (pos (n * u), q) (z, r) h) in
     let some : 1 ≤ u = grind (arith, nat_tests) in
     subst IsDuration same (seconds (product_from_one n u one some) (leb-true (n * u) longest f))
 unit_step false false n u q r z e f one h = absurd (cc)

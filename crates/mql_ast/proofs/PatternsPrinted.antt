@@ -14,10 +14,11 @@ use Rattle.mql_ast.specs.Quotes.{Open, Whole, Escape, More, begins_character, fu
 use Rattle.mql_ast.specs.Quotes.{is_mark, PatternStep, PatternEnd, PatternCut, PatternPass, PatternKeep, PatternUnfit}
 use Rattle.mql_ast.specs.Quotes.{PatternBad, kept_sign, unfit, pattern_step, with_piece, after_pattern_step}
 use Rattle.mql_ast.specs.Quotes.{pattern_from, pattern_at}
-use Rattle.mql_ast.proofs.TokensPrinted.{if_true, if_false, given, chosen, followed, From, regrouped, place_behind}
+use Rattle.mql_ast.proofs.TokensPrinted.{if_true, if_false, chosen, followed, From, regrouped, place_behind}
 use Rattle.mql_ast.proofs.TokensPrinted.{place_push, place_join, rest_behind, sign_printed}
 use Rattle.mql_ast.proofs.QuotesPrinted.{Good, content_step, Runs, plain, plain_good, begins_good, further_good}
 use Rattle.mql_ast.proofs.QuotesPrinted.{content_good, begins_whole, mark_goes_on}
+use Rattle.mon_value.proofs.PlainLemmas.{same_item}
 
 mark_is_ascii : (b : ℕ) → is_mark b ≡ true → (32 ≤ b) × (b ≤ 127)
 mark_is_ascii b h = (grind (arith, nat_tests), grind (arith, nat_tests))
@@ -108,7 +109,7 @@ pattern_on : (u : Open) (step : PatternStep) (b : ℕ) (rest r : Rest) (pieces :
     after_pattern_step step b rest pieces content go ≡ Some (all, r) → PatternRead u pieces content all
 pattern_on u PatternEnd b rest r pieces content all go fits f h =
     let x = piece_read content pieces (with_end rest) (all, r) h in
-    let same : pieces ++ content ∷ [] ≡ all = ap (λ p. p.0) (given (pieces ++ content ∷ [], rest) (all, r) x.1) in
+    let same : pieces ++ content ∷ [] ≡ all = ap (λ p. p.0) (same_item (pieces ++ content ∷ [], rest) (all, r) x.1) in
     record {
       more = [];
       others = [];

@@ -23,7 +23,7 @@ use Rattle.mql_ast.specs.Grammar.{or_equal, and_equal, comparison_at, literal_at
 use Rattle.mql_ast.specs.Grammar.{column, number, percentile, sum_in_parentheses, Disjunction, one_conjunction, or}
 use Rattle.mql_ast.specs.Grammar.{Conjunction, one_negation, and, Negation, not, in_parentheses, compare, like}
 use Rattle.mql_ast.specs.Parentheses.{parentheses}
-use Rattle.mql_ast.proofs.TokensPrinted.{given, chosen, followed, name_lawful}
+use Rattle.mql_ast.proofs.TokensPrinted.{chosen, followed, name_lawful}
 use Rattle.mql_ast.proofs.NumbersPrinted.{positive_lawful, signed_lawful}
 use Rattle.mql_ast.proofs.QuotesPrinted.{with_rest}
 use Rattle.mql_ast.proofs.PredicatePrinted.{text_value, truth_value, number_value}
@@ -31,6 +31,7 @@ use Rattle.mql_ast.proofs.PatternsPrinted.{with_end, piece_read}
 use Rattle.mql_ast.proofs.TokensFewest.{left, parentheses_append, no_parentheses, other_byte, open_byte, byte_less}
 use Rattle.mql_ast.proofs.TokensFewest.{last_byte, skip_left, behind_left, sign_left, open_left, word_left, name_none}
 use Rattle.mql_ast.proofs.TokensFewest.{name_left, positive_left, signed_left, decimal_none, signed_none}
+use Rattle.mon_value.proofs.PlainLemmas.{same_item}
 
 -- what either outcome of a test gives
 if_given : {A : Type 0} (t : Bool) (x y : Option A) (z : A) (P : Type 0) → (x ≡ Some z → P) → (y ≡ Some z → P)
@@ -81,7 +82,7 @@ text_ends : (content text : List ℕ) (rest r : Rest) (b : ℕ) → option_and_t
 text_ends content text rest r b h =
     let x = followed (text_in content) (with_rest rest) (text, r) h in
     let c = chosen (is_utf8 content) content x.0 x.1 in
-    let pair = given (x.0, rest) (text, r) x.2 in
+    let pair = same_item (x.0, rest) (text, r) x.2 in
     let same : content ≡ text = c.1 ∙ ap (λ p. p.0) pair in
     subst (λ t. parentheses t + left r ≤ parentheses content + parentheses (b ∷ rest.bytes)) same
     (subst (λ q. parentheses content + left q ≤ parentheses content + parentheses (b ∷ rest.bytes))
@@ -130,7 +131,7 @@ pattern_ends : (pieces all : List (List ℕ)) (content : List ℕ) (rest r : Res
     → with_end rest (pieces ++ content ∷ []) ≡ Some (all, r) → total all + left r ≤ total pieces + parentheses content
     + parentheses (b ∷ rest.bytes)
 pattern_ends pieces all content rest r b h =
-    let pair = given (pieces ++ content ∷ [], rest) (all, r) h in
+    let pair = same_item (pieces ++ content ∷ [], rest) (all, r) h in
     let low : total (pieces ++ content ∷ []) + left rest ≤ total pieces + parentheses content
     + parentheses (b ∷ rest.bytes) = omega (arith, total_push pieces content, byte_less b rest.bytes) in
     subst (λ p. total p.0 + left p.1 ≤ total pieces + parentheses content + parentheses (b ∷ rest.bytes)) pair low
@@ -218,18 +219,18 @@ value_left : (s : Rest) (x : FieldValue × Rest) → literal_at s ≡ Some x →
 value_left s x =
     let b = head (skip s) in
     if_given (b == 34) (option_and_then text_value (text_at s)) _ x (ValueLeft s x)
-    (λ h. let t = followed (text_at s) text_value x h in subst (ValueLeft s) (given (field.Text t.0.0, t.0.1) x t.2)
+    (λ h. let t = followed (text_at s) text_value x h in subst (ValueLeft s) (same_item (field.Text t.0.0, t.0.1) x t.2)
     (text_left s t.0.1 t.0.0 t.1))
     (if_given (b == 116) (option_and_then (truth_value true) (keyword_at (codes "true") s)) _ x (ValueLeft s x)
     (λ h. let t = followed (keyword_at (codes "true") s) (truth_value true) x h in
-    subst (ValueLeft s) (given (field.Bool true, t.0) x t.2)
+    subst (ValueLeft s) (same_item (field.Bool true, t.0) x t.2)
     (omega (arith, true_none, word_left (codes "true") s t.0 t.1)))
     (if_given (b == 102) (option_and_then (truth_value false) (keyword_at (codes "false") s)) _ x (ValueLeft s x)
     (λ h. let t = followed (keyword_at (codes "false") s) (truth_value false) x h in
-    subst (ValueLeft s) (given (field.Bool false, t.0) x t.2)
+    subst (ValueLeft s) (same_item (field.Bool false, t.0) x t.2)
     (omega (arith, false_none, word_left (codes "false") s t.0 t.1)))
     (if_given (b == 45 || is_digit b) (option_and_then number_value (signed_at s)) None x (ValueLeft s x)
-    (λ h. let t = followed (signed_at s) number_value x h in subst (ValueLeft s) (given (field.Int t.0.0, t.0.1) x t.2)
+    (λ h. let t = followed (signed_at s) number_value x h in subst (ValueLeft s) (same_item (field.Int t.0.0, t.0.1) x t.2)
     (omega (arith, signed_none t.0.0 (signed_lawful s t.0.1 t.0.0 t.1), signed_left s t.0.1 t.0.0 t.1)))
     (λ h. absurd (cc)))))
 
@@ -239,14 +240,14 @@ ComparisonLeft s x = left x.1 ≤ left s
 and_equal_left : (c : Comparison) (s q : Rest) (x : Comparison × Rest) → left q ≤ left s → and_equal c q ≡ Some x
     → ComparisonLeft s x
 and_equal_left c s q x low = if_given (head q == 61) (Some (c, behind q)) None x (ComparisonLeft s x)
-    (λ h. subst (ComparisonLeft s) (given (c, behind q) x h) (omega (arith, low, behind_left q))) (λ h. absurd (cc))
+    (λ h. subst (ComparisonLeft s) (same_item (c, behind q) x h) (omega (arith, low, behind_left q))) (λ h. absurd (cc))
 
 or_equal_left : (b c : Comparison) (s q : Rest) (x : Comparison × Rest) → left q ≤ left s → or_equal b c q ≡ Some x
     → ComparisonLeft s x
 or_equal_left b c s q x low =
     if_given (head q == 61) (Some (c, behind q)) (Some (b, q)) x (ComparisonLeft s x)
-    (λ h. subst (ComparisonLeft s) (given (c, behind q) x h) (omega (arith, low, behind_left q)))
-    (λ h. subst (ComparisonLeft s) (given (b, q) x h) low)
+    (λ h. subst (ComparisonLeft s) (same_item (c, behind q) x h) (omega (arith, low, behind_left q)))
+    (λ h. subst (ComparisonLeft s) (same_item (b, q) x h) low)
 
 comparison_left : (s : Rest) (x : Comparison × Rest) → comparison_at s ≡ Some x → ComparisonLeft s x
 comparison_left s x =

@@ -17,12 +17,13 @@ use Rattle.mql_ast.specs.Places.{predicate_content}
 use Rattle.mql_ast.specs.Printed.{predicate_text, comparison_text, value_text, quotation, pattern_signs}
 use Rattle.mql_ast.specs.Grammar.{comparison_at, literal_at, literal, Disjunction, one_conjunction, or, Conjunction}
 use Rattle.mql_ast.specs.Grammar.{one_negation, and, Negation, not, in_parentheses, compare, like}
-use Rattle.mql_ast.proofs.TokensPrinted.{if_true, if_false, both, given, followed, Ends, From, regrouped, here}
+use Rattle.mql_ast.proofs.TokensPrinted.{if_true, if_false, both, followed, Ends, From, regrouped, here}
 use Rattle.mql_ast.proofs.TokensPrinted.{behind_blank, rest_behind, no_blank, sign_printed, no_digit, IsName}
 use Rattle.mql_ast.proofs.TokensPrinted.{name_lawful, name_printed}
 use Rattle.mql_ast.proofs.NumbersPrinted.{InRange, signed_lawful, signed_printed, number_begins}
 use Rattle.mql_ast.proofs.QuotesPrinted.{IsText, text_lawful, text_printed}
 use Rattle.mql_ast.proofs.PatternsPrinted.{IsPattern, pattern_lawful, pattern_printed}
+use Rattle.mon_value.proofs.PlainLemmas.{same_item}
 
 -- the predicate is spelled here by this production, but for its places, and this is left
 pub record PredicateSpelled (production : ℕ → Rest → Rest → PredicateTree → Type 0) (d : ℕ) (s : Rest)
@@ -165,17 +166,17 @@ value_step : (a b c d : Bool) (s r : Rest) (v : FieldValue) →
     (if d then option_and_then number_value (signed_at s) else None)))) ≡ Some (v, r) → IsWritten v
 value_step true b c d s r v h =
     let x = followed (text_at s) text_value (v, r) h in
-    subst IsWritten (ap (λ p. p.0) (given (field.Text x.0.0, x.0.1) (v, r) x.2))
+    subst IsWritten (ap (λ p. p.0) (same_item (field.Text x.0.0, x.0.1) (v, r) x.2))
     (written_text (text_lawful s x.0.1 x.0.0 x.1))
 value_step false true c d s r v h =
     let x = followed (keyword_at (codes "true") s) (truth_value true) (v, r) h in
-    subst IsWritten (ap (λ p. p.0) (given (field.Bool true, x.0) (v, r) x.2)) written_truth
+    subst IsWritten (ap (λ p. p.0) (same_item (field.Bool true, x.0) (v, r) x.2)) written_truth
 value_step false false true d s r v h =
     let x = followed (keyword_at (codes "false") s) (truth_value false) (v, r) h in
-    subst IsWritten (ap (λ p. p.0) (given (field.Bool false, x.0) (v, r) x.2)) written_truth
+    subst IsWritten (ap (λ p. p.0) (same_item (field.Bool false, x.0) (v, r) x.2)) written_truth
 value_step false false false true s r v h =
     let x = followed (signed_at s) number_value (v, r) h in
-    subst IsWritten (ap (λ p. p.0) (given (field.Int x.0.0, x.0.1) (v, r) x.2))
+    subst IsWritten (ap (λ p. p.0) (same_item (field.Int x.0.0, x.0.1) (v, r) x.2))
     (written_number (signed_lawful s x.0.1 x.0.0 x.1))
 value_step false false false false s r v h = absurd (cc)
 

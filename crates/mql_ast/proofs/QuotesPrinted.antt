@@ -10,8 +10,9 @@ use Rattle.mql_ast.specs.Tokens.{Rest, sign_at}
 use Rattle.mql_ast.specs.Printed.{sign_text, escaped_text, is_text_mark, quotation}
 use Rattle.mql_ast.specs.Quotes.{Open, Whole, Escape, More, begins_character, further, TextStep, TextEnd, TextPass}
 use Rattle.mql_ast.specs.Quotes.{TextKeep, TextBad, kept_open, text_step, after_text_step, text_from, text_at}
-use Rattle.mql_ast.proofs.TokensPrinted.{if_true, if_false, or_false, and_true, given, chosen, followed, From}
+use Rattle.mql_ast.proofs.TokensPrinted.{if_true, if_false, or_false, chosen, followed, From}
 use Rattle.mql_ast.proofs.TokensPrinted.{regrouped, place_behind, place_push, place_join, rest_behind, sign_printed}
+use Rattle.mon_value.proofs.PlainLemmas.{and_both, same_item}
 
 -- what stands open between the bytes of a content
 abbrev pub Good : Open → Type 0
@@ -43,7 +44,7 @@ plain_good (More left low high) h = refl
 
 good_if : (t : Bool) (x next : Open) (o : Option Open) → Good x → (o ≡ Some next → Good next)
     → (if t then Some x else o) ≡ Some next → Good next
-good_if true x next o g h e = subst Good (given x next e) g
+good_if true x next o g h e = subst Good (same_item x next e) g
 good_if false x next o g h e = h e
 
 pub begins_good : (b : ℕ) (next : Open) → begins_character b ≡ Some next → Good next
@@ -123,7 +124,7 @@ text_ends : (u : Open) (content text : List ℕ) (rest r : Rest) → plain u ≡
 text_ends u content text rest r p h =
     let x = followed (text_in content) (with_rest rest) (text, r) h in
     let c = chosen (is_utf8 content) content x.0 x.1 in
-    let same : content ≡ text = c.1 ∙ ap (λ p. p.0) (given (x.0, rest) (text, r) x.2) in
+    let same : content ≡ text = c.1 ∙ ap (λ p. p.0) (same_item (x.0, rest) (text, r) x.2) in
     record {
       more = [];
       is = sym same ∙ sym (append-nil content);
@@ -189,7 +190,7 @@ mark_is_whole Whole next b g h m = refl
 mark_is_whole Escape next b g h m = absurd g
 mark_is_whole (More left low high) next b g h m =
     let c = chosen (nat_le low b && nat_le b high) (further left) next h in
-    let first : low ≤ b = leb-true low b (and_true (nat_le low b) (nat_le b high) c.0).0 in
+    let first : low ≤ b = leb-true low b (and_both (nat_le low b) (nat_le b high) c.0).0 in
     absurd (omega arith)
 
 pub mark_goes_on : (u next : Open) (b : ℕ) → Good u → content_step u b ≡ Some next → 32 ≤ b → b ≤ 127 → (u ≡ Whole)
@@ -197,7 +198,7 @@ pub mark_goes_on : (u next : Open) (b : ℕ) → Good u → content_step u b ≡
 mark_goes_on u next b g h low high =
     let whole = mark_is_whole u next b g h high in
     let same : content_step Whole b ≡ Some next = subst (λ v. content_step v b ≡ Some next) whole h in
-    (whole, given next Whole (sym same ∙ begins_whole b low high))
+    (whole, same_item next Whole (sym same ∙ begins_whole b low high))
 
 -- a byte behind its backslash
 text_mark : (b : ℕ) (content : List ℕ) (at : ℕ) (bs : List ℕ) → is_text_mark b ≡ true → text_from Whole content at

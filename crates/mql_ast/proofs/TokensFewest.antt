@@ -15,9 +15,10 @@ use Rattle.mql_ast.specs.Tokens.{metric_at, digits_from, positive_at, number_at,
 use Rattle.mql_ast.specs.Tokens.{longest, with_unit, duration_at}
 use Rattle.mql_ast.specs.Printed.{duration_text}
 use Rattle.mql_ast.specs.Parentheses.{parentheses}
-use Rattle.mql_ast.proofs.TokensPrinted.{given, chosen, followed, AllPass, IsName, name_lawful, MetricBytes}
+use Rattle.mql_ast.proofs.TokensPrinted.{chosen, followed, AllPass, IsName, name_lawful, MetricBytes}
 use Rattle.mql_ast.proofs.TokensPrinted.{metric_lawful}
 use Rattle.mql_ast.proofs.NumbersPrinted.{InRange, above, below, IsDuration, seconds}
+use Rattle.mon_value.proofs.PlainLemmas.{same_item}
 
 -- how many parentheses are left
 abbrev pub left : Rest → ℕ
@@ -107,7 +108,7 @@ past_step true o q s r f low h = let x = f h in omega arith
 past_step false o q s r f low h = absurd (cc)
 
 past_left : (word : List ℕ) (s r : Rest) → past word s ≡ Some r → left r ≤ left s
-past_left [] s r h = subst (λ q. left q ≤ left s) (given s r h) (omega arith)
+past_left [] s r h = subst (λ q. left q ≤ left s) (same_item s r h) (omega arith)
 past_left (c ∷ cs) s r h = past_step (head s == c) (past cs (behind s)) (behind s) s r (λ e. past_left cs (behind s) r
     e) (behind_left s) h
 
@@ -156,7 +157,7 @@ metric_none_from after (b ∷ bs) (inr h) = other_byte b bs (slash_is_other b af
 with_byte_left : (b : ℕ) (o : Option (List ℕ × Rest)) (w : List ℕ) (q r : Rest) → with_byte b o ≡ Some (w, r)
     → ((v : List ℕ) (p : Rest) → o ≡ Some (v, p) → left p ≤ left q) → left r ≤ left q
 with_byte_left b None w q r h f = absurd (cc)
-with_byte_left b (Some x) w q r h f = subst (λ p. left p ≤ left q) (ap (λ p. p.1) (given (b ∷ x.0, x.1) (w, r) h))
+with_byte_left b (Some x) w q r h f = subst (λ p. left p ≤ left q) (ap (λ p. p.1) (same_item (b ∷ x.0, x.1) (w, r) h))
     (f x.0 x.1 refl)
 
 metric_left_step : (t u after : Bool) (b at : ℕ) (bs : List ℕ) (o p : Option (List ℕ × Rest)) (r : Rest) (w : List ℕ) →
@@ -171,12 +172,12 @@ metric_left_step false true after b at bs o p r w f g h = let x = with_byte_left
     r h g in omega (arith, x, byte_less b bs)
 metric_left_step false false true b at bs o p r w f g h = absurd (cc)
 metric_left_step false false false b at bs o p r w f g h = subst (λ q. left q ≤ parentheses (b ∷ bs))
-    (ap (λ p. p.1) (given ([], record { at = at; bytes = b ∷ bs }) (w, r) h)) (omega arith)
+    (ap (λ p. p.1) (same_item ([], record { at = at; bytes = b ∷ bs }) (w, r) h)) (omega arith)
 
 metric_left_end : (after : Bool) (end r : Rest) (w : List ℕ) → cond {A = Option (List ℕ × Rest)} after None
     (Some ([], end)) ≡ Some (w, r) → left r ≤ left end
 metric_left_end true end r w h = absurd (cc)
-metric_left_end false end r w h = subst (λ q. left q ≤ left end) (ap (λ p. p.1) (given ([], end) (w, r) h))
+metric_left_end false end r w h = subst (λ q. left q ≤ left end) (ap (λ p. p.1) (same_item ([], end) (w, r) h))
     (omega arith)
 
 metric_from_left : (after : Bool) (at : ℕ) (bs w : List ℕ) (r : Rest) → metric_from after at bs ≡ Some (w, r) → left r
@@ -196,7 +197,7 @@ metric_left s r n h =
     let read = followed (metric_from true slash.0.at slash.0.bytes) (λ x. Some (metric_name (skip s).at x.0, x.1))
     (n, r) slash.2 in
     let x = read.0 in
-    let same : x.1 ≡ r = ap (λ p. p.1) (given (metric_name (skip s).at x.0, x.1) (n, r) read.2) in
+    let same : x.1 ≡ r = ap (λ p. p.1) (same_item (metric_name (skip s).at x.0, x.1) (n, r) read.2) in
     let less : left r ≤ left slash.0 = subst (λ q. left q ≤ left slash.0) same (metric_from_left true slash.0.at
     slash.0.bytes x.0 x.1 read.1) in
     omega (arith, none, less, word_left (codes "/") s slash.0 slash.1)
@@ -208,12 +209,12 @@ digits_left_step : (t u : Bool) (v : ℕ) (o : Option (ℕ × Rest)) (b at : ℕ
 digits_left_step true true v o b at bs r n f h = let x = f h in omega (arith, x, byte_less b bs)
 digits_left_step true false v o b at bs r n f h = absurd (cc)
 digits_left_step false u v o b at bs r n f h = subst (λ q. left q ≤ parentheses (b ∷ bs))
-    (ap (λ p. p.1) (given (v, record { at = at; bytes = b ∷ bs }) (n, r) h)) (omega arith)
+    (ap (λ p. p.1) (same_item (v, record { at = at; bytes = b ∷ bs }) (n, r) h)) (omega arith)
 
 digits_left : (most v at : ℕ) (bs : List ℕ) (r : Rest) (n : ℕ) → digits_from most v at bs ≡ Some (n, r) → left r
     ≤ parentheses bs
 digits_left most v at [] r n h = subst (λ q. left q ≤ parentheses [])
-    (ap (λ p. p.1) (given (v, record { at = at; bytes = [] }) (n, r) h)) (omega arith)
+    (ap (λ p. p.1) (same_item (v, record { at = at; bytes = [] }) (n, r) h)) (omega arith)
 digits_left most v at (b ∷ bs) r n h =
     digits_left_step (is_digit b) (nat_le (v * 10 + (b - 48)) most) v (digits_from most (v * 10 + (b - 48)) (at + 1)
     bs) b at bs r n (λ e. digits_left most (v * 10 + (b - 48)) (at + 1) bs r n e) h
@@ -235,7 +236,7 @@ positive_left most s r n h =
 
 number_left_step : (t : Bool) (most : ℕ) (s q r : Rest) (n : ℕ) → left q ≤ left s
     → (if t then Some (0, q) else positive_at most s) ≡ Some (n, r) → left r ≤ left s
-number_left_step true most s q r n low h = subst (λ p. left p ≤ left s) (ap (λ p. p.1) (given (0, q) (n, r) h)) low
+number_left_step true most s q r n low h = subst (λ p. left p ≤ left s) (ap (λ p. p.1) (same_item (0, q) (n, r) h)) low
 number_left_step false most s q r n low h = positive_left most s r n h
 
 number_left : (most : ℕ) (s r : Rest) (n : ℕ) → number_at most s ≡ Some (n, r) → left r ≤ left s
@@ -248,10 +249,10 @@ signed_left_step : (t : Bool) (o p : Option (ℕ × Rest)) (z : ℤ) (s r : Rest
     (option_and_then (λ n. Some (pos n.0, n.1)) p) ≡ Some (z, r) → left r ≤ left s
 signed_left_step true o p z s r f g h =
     let x = followed o (λ n. Some (minus n.0, n.1)) (z, r) h in
-    subst (λ q. left q ≤ left s) (ap (λ p. p.1) (given (minus x.0.0, x.0.1) (z, r) x.2)) (f x.0.0 x.0.1 x.1)
+    subst (λ q. left q ≤ left s) (ap (λ p. p.1) (same_item (minus x.0.0, x.0.1) (z, r) x.2)) (f x.0.0 x.0.1 x.1)
 signed_left_step false o p z s r f g h =
     let x = followed p (λ n. Some (pos n.0, n.1)) (z, r) h in
-    subst (λ q. left q ≤ left s) (ap (λ p. p.1) (given (pos x.0.0, x.0.1) (z, r) x.2)) (g x.0.0 x.0.1 x.1)
+    subst (λ q. left q ≤ left s) (ap (λ p. p.1) (same_item (pos x.0.0, x.0.1) (z, r) x.2)) (g x.0.0 x.0.1 x.1)
 
 pub signed_left : (s r : Rest) (z : ℤ) → signed_at s ≡ Some (z, r) → left r ≤ left s
 signed_left s r z h =
@@ -262,7 +263,7 @@ signed_left s r z h =
 unit_left_step : (t v : Bool) (m : ℕ) (q s r : Rest) (z : ℤ) → left q ≤ left s → cond {A = Option (ℤ × Rest)} t None
     (cond {A = Option (ℤ × Rest)} v (Some (pos m, q)) None) ≡ Some (z, r) → left r ≤ left s
 unit_left_step true v m q s r z low h = absurd (cc)
-unit_left_step false true m q s r z low h = subst (λ p. left p ≤ left s) (ap (λ p. p.1) (given (pos m, q) (z, r) h)) low
+unit_left_step false true m q s r z low h = subst (λ p. left p ≤ left s) (ap (λ p. p.1) (same_item (pos m, q) (z, r) h)) low
 unit_left_step false false m q s r z low h = absurd (cc)
 
 pub duration_left : (s r : Rest) (z : ℤ) → duration_at s ≡ Some (z, r) → left r ≤ left s

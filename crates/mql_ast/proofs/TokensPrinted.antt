@@ -8,6 +8,7 @@ use Rattle.mql_ast.specs.declared.names.Name.{Name}
 use Rattle.mql_ast.specs.Tokens.{is_blank, is_letter, is_digit, is_word_byte, is_metric_byte, Rest, first_of, head}
 use Rattle.mql_ast.specs.Tokens.{behind, skip, sign_at, past, keyword_at, word_bytes, behind_word, word_here, name_at}
 use Rattle.mql_ast.specs.Tokens.{with_byte, metric_from, metric_name, metric_behind, metric_at}
+use Rattle.mon_value.proofs.PlainLemmas.{same_item}
 
 pub if_true : {A : Type 0} (t : Bool) (x y : A) → t ≡ true → (if t then x else y) ≡ x
 if_true t x y h = ap (λ u. if u then x else y) h
@@ -19,10 +20,6 @@ pub or_false : (a b : Bool) → (a || b) ≡ false → (a ≡ false) × (b ≡ f
 or_false true b h = absurd (cc)
 or_false false b h = (refl, h)
 
-pub and_true : (a b : Bool) → (a && b) ≡ true → (a ≡ true) × (b ≡ true)
-and_true true b h = (refl, h)
-and_true false b h = absurd (cc)
-
 pub or_first : (a b : Bool) → a ≡ true → (a || b) ≡ true
 or_first a b h = ap (λ t. t || b) h
 
@@ -33,9 +30,6 @@ both f e g = cc
 pub chosen : {A : Type 0} (t : Bool) (x y : A) → (if t then Some x else None) ≡ Some y → (t ≡ true) × (x ≡ y)
 chosen true x y h = (refl, cc)
 chosen false x y h = absurd (cc)
-
-pub given : {A : Type 0} (x y : A) → Some x ≡ Some y → x ≡ y
-given x y h = cc
 
 -- what follows on what was read
 pub followed : {A B : Type 0} (o : Option A) (f : A → Option B) (y : B) → option_and_then f o ≡ Some y → (x : A)
@@ -136,11 +130,11 @@ word_bytes_pass : (bs : List ℕ) → AllPass is_word_byte (word_bytes bs)
 word_bytes_pass [] = tt
 word_bytes_pass (b ∷ bs) = word_passes b (word_bytes bs) (is_word_byte b) refl (word_bytes_pass bs)
 
-word_bytes_off : (rest : List ℕ) → is_word_byte (first_of rest) ≡ false → word_bytes rest ≡ []
+pub word_bytes_off : (rest : List ℕ) → is_word_byte (first_of rest) ≡ false → word_bytes rest ≡ []
 word_bytes_off [] h = refl
 word_bytes_off (b ∷ bs) h = if_false (is_word_byte b) _ _ h
 
-behind_word_off : (at : ℕ) (rest : List ℕ) → is_word_byte (first_of rest) ≡ false → behind_word at rest
+pub behind_word_off : (at : ℕ) (rest : List ℕ) → is_word_byte (first_of rest) ≡ false → behind_word at rest
     ≡ record { at = at; bytes = rest }
 behind_word_off at [] h = refl
 behind_word_off at (b ∷ bs) h = if_false (is_word_byte b) _ _ h
@@ -215,7 +209,7 @@ with_byte_read : (after : Bool) (b : ℕ) (o : Option (List ℕ × Rest)) (w : L
     ≡ Some (w, r) →
     ((v : List ℕ) (q : Rest) → o ≡ Some (v, q) → MetricBytes after v) → (v : List ℕ) × (w ≡ b ∷ v) × MetricBytes after v
 with_byte_read after b None w r h f = absurd (cc)
-with_byte_read after b (Some x) w r h f = (x.0, sym (ap (λ p. p.0) (given (b ∷ x.0, x.1) (w, r) h)), f x.0 x.1 refl)
+with_byte_read after b (Some x) w r h f = (x.0, sym (ap (λ p. p.0) (same_item (b ∷ x.0, x.1) (w, r) h)), f x.0 x.1 refl)
 
 metric_step : (t u after : Bool) (b : ℕ) (o p : Option (List ℕ × Rest)) (end r : Rest) (w : List ℕ) → is_metric_byte b
     ≡ t → (b == 47 && not after) ≡ u →
@@ -228,12 +222,12 @@ metric_step false true after b o p end r w e f g h i = let x = with_byte_read tr
     rw x.1 (inr (e, f, x.2))
 metric_step false false true b o p end r w e f g h i = absurd (cc)
 metric_step false false false b o p end r w e f g h i = let none : w ≡ [] =
-    sym (ap (λ p. p.0) (given ([], end) (w, r) i)) in rw none refl
+    sym (ap (λ p. p.0) (same_item ([], end) (w, r) i)) in rw none refl
 
 metric_end : (after : Bool) (end r : Rest) (w : List ℕ) → cond {A = Option (List ℕ × Rest)} after None (Some ([], end))
     ≡ Some (w, r) → MetricBytes after w
 metric_end true end r w h = absurd (cc)
-metric_end false end r w h = let none : w ≡ [] = sym (ap (λ p. p.0) (given ([], end) (w, r) h)) in rw none refl
+metric_end false end r w h = let none : w ≡ [] = sym (ap (λ p. p.0) (same_item ([], end) (w, r) h)) in rw none refl
 
 metric_read : (after : Bool) (at : ℕ) (bs w : List ℕ) (r : Rest) → metric_from after at bs ≡ Some (w, r)
     → MetricBytes after w
@@ -273,7 +267,7 @@ metric_lawful s r n h =
     let x = read.0 in
     record {
       others = x.0;
-      is = sym (ap (λ p. p.0.text) (given (metric_name (skip s).at x.0, x.1) (n, r) read.2));
+      is = sym (ap (λ p. p.0.text) (same_item (metric_name (skip s).at x.0, x.1) (n, r) read.2));
       bytes = metric_read true slash.0.at slash.0.bytes x.0 x.1 read.1;
     }
 

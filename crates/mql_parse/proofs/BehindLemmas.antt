@@ -3,10 +3,12 @@ use Rattle.std.proofs.Common.{◌≡◌, ℕ, ◌+◌, ◌<◌, Bool, true, fals
 use Rattle.std.proofs.Common.{ap, ◌∙◌, arith, if◌then◌else◌, length-append, append_assoc, Option, Some, None, subst}
 use Rattle.std.proofs.lemmas.Bool.{false≢true}
 use Rattle.mql_ast.specs.declared.names.Name.{Name}
-use Rattle.mql_ast.specs.Tokens.{is_blank, is_letter, is_digit, is_word_byte, Rest, first_of, behind_first}
+use Rattle.mql_ast.specs.Tokens.{is_blank, is_letter, is_word_byte, Rest, first_of, behind_first}
 use Rattle.mql_ast.specs.Tokens.{behind_blanks, head, behind, skip, sign_at, past, keyword_at, behind_word, word_here}
 use Rattle.mql_ast.specs.Tokens.{name_at}
 use Rattle.mql_parse.specs.Behind.{From, Behind}
+use Rattle.mql_parse.proofs.TokenEndings.{letter_in_word}
+use Rattle.mql_ast.proofs.TokensPrinted.{chosen}
 
 pub from_itself : (s : Rest) → From s s
 from_itself s = record { front = []; bytes = refl; place = omega arith }
@@ -82,10 +84,6 @@ word_from : (at : ℕ) (bs : List ℕ) → From (record { at = at; bytes = bs })
 word_from at [] = from_itself (record { at = at; bytes = [] })
 word_from at (b ∷ bs) = passing (is_word_byte b) b at bs (behind_word (at + 1) bs) (word_from (at + 1) bs)
 
--- the first byte of a word passes both tests
-letter_is_word : (b : ℕ) → is_letter b ≡ true → is_word_byte b ≡ true
-letter_is_word b h = ap (λ t. t || is_digit b) h
-
 word_here_behind : (at : ℕ) (bs : List ℕ) → is_word_byte (first_of bs) ≡ true →
     Behind (record { at = at; bytes = bs }) (behind_word at bs)
 word_here_behind at [] h = absurd (false≢true h)
@@ -94,11 +92,6 @@ word_here_behind at (b ∷ bs) h =
     (sym (ap (λ t. if t then behind_word (at + 1) bs else record { at = at; bytes = b ∷ bs }) h))
     (behind_from _ (record { at = at + 1; bytes = bs }) _
     (record { front = b ∷ []; bytes = refl; place = omega arith; read = omega arith }) (word_from (at + 1) bs))
-
--- a test that was passed, and what came of it
-pub chosen : {A : Type 0} (t : Bool) (x y : A) → (if t then Some x else None) ≡ Some y → (t ≡ true) × (x ≡ y)
-chosen true x y e = (refl, cc)
-chosen false x y e = absurd (cc)
 
 pub chosen_any : {A : Type 0} (t : Bool) (o : Option A) (y : A) → (if t then o else None) ≡ Some y →
     (t ≡ true) × (o ≡ Some y)
@@ -119,7 +112,7 @@ name_behind s r n e =
     let t = chosen (is_letter (head (skip s))) (word_here (skip s)) (n, r) e in
     subst (λ m. Behind s m) (ap (λ x. x.1) t.1)
     (from_behind s (skip s) _ (skip_from s)
-    (word_here_behind (skip s).at (skip s).bytes (letter_is_word (head (skip s)) t.0)))
+    (word_here_behind (skip s).at (skip s).bytes (letter_in_word (head (skip s)) t.0)))
 
 -- what is left of one byte on
 pub one_from : (s : Rest) → From s (behind s)

@@ -15,6 +15,7 @@ use Rattle.mql_parse.proofs.BehindLemmas.{chosen_any, sign_taken}
 use Rattle.mql_parse.proofs.Links.{sign_links, past_links, name_links, metric_links, positive_links, signed_links}
 use Rattle.mql_parse.proofs.Links.{duration_links}
 use Rattle.mql_parse.proofs.Loops.{loop_ends}
+use Rattle.mql_parse.proofs.TokenEndings.{and_first}
 
 pub read_of : {A F : Type 0} (o : Option A) (r : Result A F) (x : A) → o ≡ result_ok r → o ≡ Some x → r ≡ Ok x
 read_of o (Ok y) x e f = cc
@@ -95,10 +96,6 @@ pub and_then_given : {A B : Type 0} (o : Option A) (f : A → Option B) (x : B) 
     (y : A) × ((o ≡ Some y) × (f y ≡ Some x))
 and_then_given None f x e = absurd (cc)
 and_then_given (Some y) f x e = (y, (refl, e))
-
-and_first : (a b : Bool) → (a && b) ≡ true → a ≡ true
-and_first true b h = refl
-and_first false b h = h
 
 -- a number begins with a digit, or with a sign
 number_begins : (most : ℕ) (s : Rest) (x : ℕ × Rest) → number_at most s ≡ Some x → is_digit (head (skip s)) ≡ true

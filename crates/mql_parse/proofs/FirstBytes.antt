@@ -3,21 +3,21 @@ use Rattle.std.proofs.Common.{◌≡◌, ℕ, Bool, true, false, ◌==◌, ◌||
 use Rattle.mql_ast.specs.Tokens.{is_digit, first_of}
 use Rattle.mql_parse.specs.declared.faults.What.{What}
 use Rattle.mql_parse.specs.declared.faults.What.TheVariants as what
-use Rattle.mql_parse.proofs.TokenEndings.{equal_byte}
 use Rattle.mql_parse.proofs.FirstWords.{told, admits, digit_told, allowed_of}
 use Rattle.mql_parse.proofs.Firsts.{Spot, Begun}
+use Rattle.mon_value.proofs.PlainLemmas.{equal_numbers}
 
 -- where the byte is this one, which begins this word
 pub at_byte : (x : Spot) (w v : What) (b : ℕ) → told b (first_of x.more) ≡ v → admits w v ≡ true →
     (x.byte == b) ≡ true → Begun x w
 at_byte x w v b e h k =
     allowed_of w v x.word x.byte (first_of x.more) x.starts
-    (ap (λ n. told n (first_of x.more)) (equal_byte x.byte b k) ∙ e) h
+    (ap (λ n. told n (first_of x.more)) (equal_numbers x.byte b k) ∙ e) h
 
 -- where the byte behind it is this one
 pub at_bytes : (x : Spot) (w v : What) (b c : ℕ) → told b c ≡ v → admits w v ≡ true → (x.byte == b) ≡ true →
     (first_of x.more == c) ≡ true → Begun x w
-at_bytes x w v b c e h k l = at_byte x w v b (ap (told b) (equal_byte (first_of x.more) c l) ∙ e) h k
+at_bytes x w v b c e h k l = at_byte x w v b (ap (told b) (equal_numbers (first_of x.more) c l) ∙ e) h k
 
 pub digit_begins : (x : Spot) (w : What) → admits w what.Number ≡ true → is_digit x.byte ≡ true → Begun x w
 digit_begins x w h k =

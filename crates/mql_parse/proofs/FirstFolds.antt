@@ -16,7 +16,6 @@ use Rattle.mql_parse.specs.Folds as folds
 use Rattle.mql_parse.specs.Steadiness.{here, next}
 use Rattle.mql_parse.proofs.RestLemmas.{skip_off}
 use Rattle.mql_parse.proofs.Spots.{beyond}
-use Rattle.mql_parse.proofs.TokenEndings.{equal_byte}
 use Rattle.mql_parse.proofs.ListSound.{names_turn_behind, aggregates_turn_behind}
 use Rattle.mql_parse.proofs.Steady.{steady_from, steady_ok}
 use Rattle.mql_parse.proofs.FoldSteady.{aggregate_turn_steady}
@@ -32,6 +31,7 @@ use Rattle.mql_parse.proofs.FirstTokens.{all_solid, second_or, exact_fails, meet
 use Rattle.mql_parse.proofs.FirstTokens.{far_behind, meets_exact, keyword_far, first_name, meets_name}
 use Rattle.mql_parse.proofs.FirstTurns.{meets_either, skip_far, turn_read, OfState, Stopped, turn_if_read}
 use Rattle.mql_parse.proofs.FirstTurns.{on_read_read, meets_repetition, meets_list, first_list, first_part}
+use Rattle.mon_value.proofs.PlainLemmas.{equal_numbers}
 
 -- names between brackets
 listed_names : (x : Spot) → Meets x next next NoMore (λ s. repetition (list_turn 93 what.CloseBracket reading.name) []
@@ -212,7 +212,7 @@ behind_label first =
 fold_fails : (r : Rest) → (head r == 58) ≡ true → Failed (folds.fold_here (skip r))
 unfolding folds.fold_here
 fold_fails r h =
-    let same = equal_byte (head r) 58 h in
+    let same = equal_numbers (head r) 58 h in
     subst (λ s. Failed (if head s == 99 then folds.fold_word_from fold.Count (codes "count") s else
     (if head s == 115 then folds.fold_word_from fold.Sum (codes "sum") s else
     (if head s == 97 then folds.fold_word_from fold.Aggregate (codes "aggregate") s else

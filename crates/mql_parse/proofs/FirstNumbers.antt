@@ -13,7 +13,6 @@ use Rattle.mql_parse.specs.TokenReading as reading
 use Rattle.mql_parse.specs.Steadiness.{here, next, Reaches, Steady}
 use Rattle.mql_parse.proofs.Steady.{steady_from, steady_ok, steady_map}
 use Rattle.mql_parse.proofs.TokenSteady.{metric_from_steady, digits_steady, steady_head, number_steady, units_steady}
-use Rattle.mql_parse.proofs.TokenEndings.{equal_byte}
 use Rattle.mql_parse.proofs.Firsts.{Spot, instead, Splits, splits, over_splits, splits_head, splits_behind}
 use Rattle.mql_parse.proofs.Firsts.{splits_blank, Begun, Failed, failed_bind, ReadSame, MeetsOutcome, Meets, Before}
 use Rattle.mql_parse.proofs.Firsts.{FirstOutcome, First, NoMore, beyond_meets, passed_far, meets_then, meets_ok}
@@ -21,6 +20,8 @@ use Rattle.mql_parse.proofs.Firsts.{meets_map, meets_of, by_place, if_same, firs
 use Rattle.mql_parse.proofs.Firsts.{before_of, before_if, before_if_here, before_skip, before_behind}
 use Rattle.mql_parse.proofs.Firsts.{before_behind_skip, before_part_behind, before_unexpected}
 use Rattle.mql_parse.proofs.FirstBytes.{digit_begins}
+use Rattle.mon_value.proofs.PlainLemmas.{equal_numbers}
+use Rattle.mql_parse.proofs.TokenEndings.{and_first}
 
 -- readers that go byte by byte and keep a state
 module _ {K A : Type 0} (x : Spot) (read : K → ℕ → List ℕ → Outcome A)
@@ -138,10 +139,6 @@ before_head x to G read k = record {
 abbrev begins_positive : ℕ → Bool
 begins_positive b = is_digit b && not (b == 48)
 
-and_first : (a b : Bool) → (a && b) ≡ true → a ≡ true
-and_first true b h = refl
-and_first false b h = h
-
 pub first_positive : (x : Spot) (most : ℕ) → First x next here what.Number (reading.positive most)
 unfolding reading.positive
 first_positive x most =
@@ -174,7 +171,7 @@ unfolding reading.number
 first_number x most =
     first_if x here what.Number (λ b. b == 48) (λ s. Ok (0, behind (skip s))) (reading.positive most)
     (λ s e h. passed_far {A = ℕ} x here what.Number (λ b. b == 48) refl (λ r. Ok (0, r)) (steady_ok here 0) s e h)
-    (λ h. digit_begins x what.Number refl (ap is_digit (equal_byte x.byte 48 h)))
+    (λ h. digit_begins x what.Number refl (ap is_digit (equal_numbers x.byte 48 h)))
     (first_positive x most)
 
 before_number : (x : Spot) (most : ℕ) → Before x next here NoMore (reading.number most)

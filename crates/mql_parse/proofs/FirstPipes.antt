@@ -41,7 +41,7 @@ OpsGoes x ops = Begun x (op_on (pipes.groups_last ops))
 abbrev pub BarredGoes : Spot → List OpTree × Bool → Type 0
 BarredGoes x read = OnBar x read.1 (pipes.groups_last read.0)
 
-last_groups : (so_far : Bool) (ops : List OpTree) (op : OpTree) →
+pub last_groups : (so_far : Bool) (ops : List OpTree) (op : OpTree) →
     pipes.last_groups so_far (ops ++ op ∷ []) ≡ pipes.is_group_by op.what
 last_groups so_far [] op = refl
 last_groups so_far (first ∷ ops) op = last_groups (pipes.is_group_by first.what) ops op

@@ -33,11 +33,12 @@ use Rattle.mql_parse.proofs.Endings.{ComesBy, Closes, Comes, IfExpected}
 use Rattle.mql_ast.specs.Quotes.{Whole}
 use Rattle.mql_parse.proofs.KindFits.{quotes_append}
 use Rattle.mql_parse.proofs.TextKinds.{spelled_closed}
-use Rattle.mql_parse.proofs.TokenEndings.{equal_byte}
 use Rattle.mql_parse.proofs.FirstWords.{told, Starts, StartsOn, bare_starts, allowed, allowed_of, some_by}
 use Rattle.mql_parse.proofs.Firsts.{Spot, instead, Splits, over_splits, splits_head, Begun, Failed, MeetsOutcome}
 use Rattle.mql_parse.proofs.Firsts.{kind_names}
 use Rattle.mql_parse.proofs.FirstPipes.{PipeGoes, pipe_meets}
+use Rattle.mon_value.proofs.PlainLemmas.{equal_numbers}
+use Rattle.mql_parse.proofs.FollowTexts.{refused}
 
 -- some bytes are left of the second text
 some_instead : (x : Spot) (s t : Rest) → Splits x s t → t.bytes ≡ [] → ⊥
@@ -46,9 +47,6 @@ some_instead x = over_splits x (λ s t. t.bytes ≡ [] → ⊥) (λ common after
     of_common : (common : List ℕ) → common ++ instead x ≡ [] → ⊥
     of_common [] e = absurd (cc)
     of_common (c ∷ common) e = absurd (cc)
-
-refused : {A : Type 0} (a : A) (o : Result A ParseFault) (f : ParseFault) → o ≡ Ok a → o ≡ Err f → ⊥
-refused a o f h g = let e = sym h ∙ g in absurd (cc)
 
 -- a query's end
 end_first : (x : Spot) (tree : PipeTree) (r : Rest) (bs : List ℕ) (p : Outcome PipeTree) (other : PipeTree)
@@ -145,7 +143,7 @@ fetch_first v b rest m h k f =
     ∙ ap (past (codes "fetch")) (sym here) ∙ f in
     let second : (first_of rest == 101) ≡ true = some_by _ _ m again in
     allowed_of what.Fetch what.Fetch v b (first_of rest) k
-    (ap (λ n. told n (first_of rest)) (equal_byte b 102 first) ∙ ap (told 102) (equal_byte (first_of rest) 101 second))
+    (ap (λ n. told n (first_of rest)) (equal_numbers b 102 first) ∙ ap (told 102) (equal_numbers (first_of rest) 101 second))
     refl
 
 brace_first : (v : What) (b : ℕ) (rest : List ℕ) (m : Rest) → is_blank b ≡ false → Starts v b (first_of rest) →
@@ -153,7 +151,7 @@ brace_first : (v : What) (b : ℕ) (rest : List ℕ) (m : Rest) → is_blank b �
 brace_first v b rest m h k f =
     let first : (b == 123) ≡ true = ap (λ t. head t == 123) (sym (skip_off (start (b ∷ rest)) h)) ∙ some_by _ _ m f in
     allowed_of what.Fetch what.OpenBrace v b (first_of rest) k (ap (λ n. told n (first_of rest))
-    (equal_byte b 123 first))
+    (equal_numbers b 123 first))
     refl
 
 source_first : {d : ℕ} {s r : Rest} {t : SourceTree} → Source d s r t → (v : What) (b : ℕ) (rest : List ℕ) →
@@ -294,7 +292,7 @@ first_of_query text f e w k v m =
         (t || allows w v) ≡ true → allows w v ≡ true
     by_name front c m false h a = a
     by_name front c m true h a =
-        let one : rank w ≡ 1 = equal_byte (rank w) 1 h in
+        let one : rank w ≡ 1 = equal_numbers (rank w) 1 h in
         let named = name_follows front (subst (MayCome front) (name_of w one) c) in
         name_allows (rank w) (rank v) (stands_alone w) one (ap (λ u. stands_alone u) (name_of w one))
         (λ none. m.no_name (ap (λ n. n == 0 || n == 6 || (nat_le 8 n && nat_le n 11)) none) named)

@@ -5,7 +5,7 @@ use Rattle.std.proofs.lemmas.Bool.{false≢true}
 use Rattle.std.proofs.lemmas.Bool.Decides.{nat_tests}
 use Rattle.mon_value.specs.Answers.{◌>>=◌}
 use Rattle.mql_ast.specs.declared.names.Name.{Name}
-use Rattle.mql_ast.specs.Tokens.{is_blank, is_letter, is_digit, is_word_byte, Rest, first_of, behind_first, head}
+use Rattle.mql_ast.specs.Tokens.{is_blank, is_letter, is_word_byte, Rest, first_of, behind_first, head}
 use Rattle.mql_ast.specs.Tokens.{behind, skip, word_bytes, behind_word, word_here}
 use Rattle.mql_parse.specs.declared.faults.What.{What}
 use Rattle.mql_parse.specs.declared.faults.What.TheVariants as what
@@ -21,6 +21,8 @@ use Rattle.mql_parse.proofs.Firsts.{beyond_first, first_meets, kind_names, passe
 use Rattle.mql_parse.proofs.Firsts.{by_place, if_same, first_by, first_if, first_unexpected, before_of, before_if_here}
 use Rattle.mql_parse.proofs.Firsts.{before_skip, before_behind, before_unexpected}
 use Rattle.mql_parse.proofs.Spots.{beyond}
+use Rattle.mql_parse.proofs.FollowTokens.{not_false}
+use Rattle.mql_parse.proofs.TokenEndings.{letter_in_word}
 
 -- a fault here, and a choice by the byte that stands here
 pub meets_unexpected : {A : Type 0} (x : Spot) (to : Rest → ℕ) (G : A → Type 0) (w : What) →
@@ -68,16 +70,12 @@ abbrev pub all_solid : List ℕ → Bool
 all_solid [] = true
 all_solid (c ∷ cs) = not (10 == c) && (not (0 == c) && all_solid cs)
 
-both : (a b : Bool) → (not a && b) ≡ true → (a ≡ false) × (b ≡ true)
-both true b h = absurd (false≢true h)
-both false b h = (refl, h)
-
 pub meets_exact : (x : Spot) (w : What) (cs : List ℕ) → all_solid cs ≡ true →
     Meets x here here NoMore (λ s. unit_read (exact w cs s))
 meets_exact x w [] h = meets_ok x here NoMore tt
 meets_exact x w (c ∷ cs) h =
-    let first = both (10 == c) (not (0 == c) && all_solid cs) h in
-    let second = both (0 == c) (all_solid cs) first.1 in
+    let first = not_false (10 == c) (not (0 == c) && all_solid cs) h in
+    let second = not_false (0 == c) (all_solid cs) first.1 in
     meets_by x here here NoMore (λ s. unit_read (exact w (c ∷ cs) s))
     (λ s. if head s == c then unit_read (exact w cs (behind s)) else Err (unexpected_fault w s))
     (λ s. unit_if (head s == c) (exact w cs (behind s)) (Err (unexpected_fault w s)))
@@ -217,22 +215,19 @@ word_alike x (c ∷ common) after at h l =
         Splits x (if t then behind_word (at + 1) (common ++ after) else record
         { at = at; bytes = c ∷ (common ++ after) }) (if t then behind_word (at + 1) (common ++ instead x) else record
         { at = at; bytes = c ∷ (common ++ instead x) })
-    gone true k ih = let both = ih k in (ap (λ u. c ∷ u) both.0, both.1)
+    gone true k ih = let not_false = ih k in (ap (λ u. c ∷ u) both.0, both.1)
     gone false k ih = (refl, splits x (c ∷ common) after at h)
 
 pub meets_word : (x : Spot) → Meets x here here NoMore (λ s. Ok (word_here s))
 meets_word x = record {
   steady = word_steady;
   agrees = over_splits x (λ s t. MeetsOutcome x here NoMore (Ok (word_here s)) (Ok (word_here t)))
-      (λ common after at h l. let both = word_alike x common after at h l in
+      (λ common after at h l. let not_false = word_alike x common after at h l in
       inl (
         behind_word at (common ++ instead x),
         (ap (λ u. Ok (record { at = at; text = u }, behind_word at (common ++ instead x))) both.0, both.1),
       ));
 }
-
-letter_in_word : (b : ℕ) → is_letter b ≡ true → is_word_byte b ≡ true
-letter_in_word b h = ap (λ t. t || is_digit b) h
 
 word_far : (x : Spot) (at : ℕ) (bs : List ℕ) → at ≡ x.at → is_letter (first_of bs) ≡ true →
     x.at < (behind_word at bs).at

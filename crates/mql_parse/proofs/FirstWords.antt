@@ -15,6 +15,9 @@ use Rattle.mql_parse.specs.declared.faults.What.TheVariants as what
 use Rattle.mql_parse.specs.WordOrder.{rank, stands_alone, allows}
 use Rattle.mql_parse.specs.FaultTokens.{IsReadWhole, IsOneOf, IsBare, aligner_words, fold_words, operation_words}
 use Rattle.mql_parse.proofs.RestLemmas.{skip_off}
+use Rattle.mon_value.proofs.PlainLemmas.{equal_numbers, nothing_is}
+use Rattle.mql_parse.proofs.TokenEndings.{and_first}
+use Rattle.mql_parse.proofs.ValueEndings.{some_before}
 
 -- the word that letters begin
 abbrev lettered : ℕ → ℕ → What
@@ -55,11 +58,8 @@ abbrev pub StartsOn : What → List ℕ → List ℕ → Type 0
 StartsOn v more [] = ⊥
 StartsOn v more (b ∷ rest) = (is_blank b ≡ false) × Starts v b (first_of (rest ++ more))
 
-same_byte : (b c : ℕ) → (b == c) ≡ true → b ≡ c
-same_byte b c h = grind (arith, nat_tests)
-
 byte_starts : (v : What) (b k c : ℕ) → (b == k) ≡ true → Starts v k c → Starts v b c
-byte_starts v b k c e h = subst (λ n. Starts v n c) (sym (same_byte b k e)) h
+byte_starts v b k c e h = subst (λ n. Starts v n c) (sym (equal_numbers b k e)) h
 
 pub digit_told : (b c : ℕ) → is_digit b ≡ true → told b c ≡ what.Number
 digit_told b c h = ap (λ t. if t then what.Number else (if b == 95 then what.Name else
@@ -74,20 +74,9 @@ digit_starts v b c l h = let e = digit_told b c h in
 solid : (b : ℕ) (rest : List ℕ) → is_blank b ≡ false → skip (start (b ∷ rest)) ≡ start (b ∷ rest)
 solid b rest h = skip_off (start (b ∷ rest)) h
 
-none_some : {A : Type 0} (x : A) → None ≡ Some x → ⊥
-none_some x e = absurd (cc)
-
 pub some_by : {A : Type 0} (t : Bool) (o : Option A) (x : A) → (if t then o else None) ≡ Some x → t ≡ true
 some_by true o x h = refl
-some_by false o x h = absurd (none_some x h)
-
-and_first : (a b : Bool) → (a && b) ≡ true → a ≡ true
-and_first true b h = refl
-and_first false b h = absurd (false≢true h)
-
-given : {A B : Type 0} (o : Option A) (f : A → Option B) (y : B) → option_and_then f o ≡ Some y → (x : A) × (o ≡ Some x)
-given None f y h = absurd (none_some y h)
-given (Some x) f y h = (x, refl)
+some_by false o x h = absurd (nothing_is x h)
 
 positive_digit : (most b : ℕ) (rest : List ℕ) (x : ℕ × Rest) → is_blank b ≡ false →
     positive_at most (start (b ∷ rest)) ≡ Some x → is_digit b ≡ true
@@ -103,27 +92,27 @@ number_digit most b rest x h f =
   where
     by_zero : (t : Bool) → (b == 48) ≡ t → (if t then Some (0, behind (skip (start (b ∷ rest)))) else
         positive_at most (start (b ∷ rest))) ≡ Some x → is_digit b ≡ true
-    by_zero true e g = ap is_digit (same_byte b 48 e)
+    by_zero true e g = ap is_digit (equal_numbers b 48 e)
     by_zero false e g = positive_digit most b rest x h g
 
 number_starts : (most : ℕ) (t more : List ℕ) → IsReadWhole (number_at most) t → StartsOn what.Number more t
 unfolding skip
-number_starts most [] more h = absurd (none_some _ h.1.1)
+number_starts most [] more h = absurd (nothing_is _ h.1.1)
 number_starts most (b ∷ rest) more h =
     (h.0, digit_starts what.Number b _ (omega arith) (number_digit most b rest _ h.0 h.1.1))
 
 unit_starts : (t more : List ℕ) → IsReadWhole duration_at t → StartsOn what.Unit more t
 unfolding skip
-unit_starts [] more h = absurd (none_some _ h.1.1)
+unit_starts [] more h = absurd (nothing_is _ h.1.1)
 unit_starts (b ∷ rest) more h =
-    let read = given (positive_at longest (start (b ∷ rest))) with_unit _ h.1.1 in
+    let read = some_before (positive_at longest (start (b ∷ rest))) with_unit _ h.1.1 in
     (h.0, digit_starts what.Unit b _ (omega arith) (positive_digit longest b rest read.0 h.0 read.1))
 
 metric_starts : (t more : List ℕ) → IsReadWhole metric_at t → StartsOn what.Metric more t
 unfolding skip
-metric_starts [] more h = absurd (none_some _ h.1.1)
+metric_starts [] more h = absurd (nothing_is _ h.1.1)
 metric_starts (b ∷ rest) more h =
-    let read = given (keyword_at (codes "/") (start (b ∷ rest))) (metric_behind (skip (start (b ∷ rest))).at)
+    let read = some_before (keyword_at (codes "/") (start (b ∷ rest))) (metric_behind (skip (start (b ∷ rest))).at)
     _ h.1.1 in (
       h.0,
       byte_starts what.Metric b 47 _ (ap (λ t. head t == 47) (sym (solid b rest h.0)) ∙ some_by _ _ read.0 read.1)
@@ -136,9 +125,9 @@ quoted f s = option_and_then f (sign_at 34 s)
 quote_starts : {A : Type 0} (f : Rest → Option A) (x : A) (t more : List ℕ) → is_blank (first_of t) ≡ false →
     quoted f (start t) ≡ Some x → StartsOn what.Text more t
 unfolding skip
-quote_starts f x [] more h e = absurd (none_some x e)
+quote_starts f x [] more h e = absurd (nothing_is x e)
 quote_starts f x (b ∷ rest) more h e =
-    let read = given (sign_at 34 (start (b ∷ rest))) f x e in (
+    let read = some_before (sign_at 34 (start (b ∷ rest))) f x e in (
       h,
       byte_starts what.Text b 34 _ (ap (λ t. head t == 34) (sym (solid b rest h)) ∙ some_by _ _ read.0 read.1)
           (inl refl),
@@ -151,7 +140,7 @@ comparison_by b o p q r x c e = first (b == 61) refl e
   where
     fourth : (t : Bool) → (b == 62) ≡ t → (if t then r else None) ≡ Some x → Starts what.Comparison b c
     fourth true e f = byte_starts what.Comparison b 62 c e (inl refl)
-    fourth false e f = absurd (none_some x f)
+    fourth false e f = absurd (nothing_is x f)
 
     third : (t : Bool) → (b == 60) ≡ t → (if t then q else (if b == 62 then r else None)) ≡ Some x →
         Starts what.Comparison b c
@@ -171,7 +160,7 @@ comparison_by b o p q r x c e = first (b == 61) refl e
 
 comparison_starts : (t more : List ℕ) → IsReadWhole comparison_at t → StartsOn what.Comparison more t
 unfolding skip
-comparison_starts [] more h = absurd (none_some _ h.1.1)
+comparison_starts [] more h = absurd (nothing_is _ h.1.1)
 comparison_starts (b ∷ rest) more h =
     let t = skip (start (b ∷ rest)) in (
       h.0,

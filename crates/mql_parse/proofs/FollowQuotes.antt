@@ -19,10 +19,12 @@ use Rattle.mql_parse.specs.TokenReading as reading
 use Rattle.mql_parse.specs.Steadiness.{here}
 use Rattle.mql_parse.proofs.TokenSteady.{text_from_steady, text_steady, pattern_from_steady, pattern_steady}
 use Rattle.mql_parse.proofs.Utf8Steps.{LeavesOpen, StepOpens, text_step_opens, LeavesSign, PatternOpens}
-use Rattle.mql_parse.proofs.Utf8Steps.{pattern_step_opens, text_may_end, kept_ascii}
+use Rattle.mql_parse.proofs.Utf8Steps.{pattern_step_opens, kept_ascii}
+use Rattle.mon_value.proofs.TextLemmas.{text_in-IsUtf8}
 use Rattle.mql_parse.proofs.Firsts.{Failed}
 use Rattle.mql_parse.proofs.Swaps.{numbered, with_one, rest_at, ahead, over_pair}
-use Rattle.mql_parse.proofs.Follows.{Swap, counts, Any, FollowsIn, Follows, beyond, where_failed}
+use Rattle.mql_parse.proofs.Follows.{Swap, Any, FollowsIn, Follows, beyond, where_failed}
+use Rattle.mql_parse.proofs.FollowTokens.{count_is_digit}
 
 -- no line's end and no digit goes on a character of several bytes
 abbrev pub High : Open → Type 0
@@ -89,9 +91,6 @@ digit_is_low d h = grind (arith, nat_tests)
 digit_is_ascii : (d : ℕ) → is_digit d ≡ true → d < 128
 digit_is_ascii d h = grind (arith, nat_tests)
 
-count_is_digit : (d : ℕ) → counts d ≡ true → is_digit d ≡ true
-count_is_digit d h = grind (arith, nat_tests)
-
 digit_begins : (d : ℕ) → is_digit d ≡ true → begins_character d ≡ Some Whole
 digit_begins d h =
     ap (λ t. if t then Some Whole else
@@ -136,7 +135,7 @@ module _ (x : Swap) where
   text_end_beyond : (m : ℕ) (s : Rest) (bs content : List ℕ) (p : Outcome (List ℕ)) → m ≡ x.at → IsUtf8 content →
       FollowsIn x here Any (reading.text_end (text_in content) s (rest_at (m + 1) bs)) p
   text_end_beyond m s bs content p h u =
-      subst (λ o. FollowsIn x here Any (reading.text_end o s (rest_at (m + 1) bs)) p) (sym (text_may_end content u))
+      subst (λ o. FollowsIn x here Any (reading.text_end o s (rest_at (m + 1) bs)) p) (sym (text_in-IsUtf8 content u))
       (λ l. absurd (omega (arith, h, l)))
 
   text_step_at_byte : (step : TextStep) (content other : List ℕ) (m n : ℕ) → m ≡ x.at → StepOpens step x.byte content →
@@ -285,7 +284,7 @@ module _ (x : Swap) where
       ((all : List (List ℕ)) → FollowsIn x here Any (go all) p) →
       FollowsIn x here Any (reading.piece_end (text_in content) s pieces go) p
   piece_beyond s pieces content go p u f =
-      subst (λ o. FollowsIn x here Any (reading.piece_end o s pieces go) p) (sym (text_may_end content u))
+      subst (λ o. FollowsIn x here Any (reading.piece_end o s pieces go) p) (sym (text_in-IsUtf8 content u))
       (f (pieces ++ content ∷ []))
 
   pattern_step_at_byte : (step : PatternStep) (pieces others : List (List ℕ)) (content other : List ℕ) (m n : ℕ) →

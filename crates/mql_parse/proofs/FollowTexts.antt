@@ -29,7 +29,7 @@ some_left x = over_pair x (λ s t. t.bytes ≡ [] → ⊥) (λ common m n h e. o
     of_common [] e = absurd (cc)
     of_common (c ∷ common) e = absurd (cc)
 
-refused : {A : Type 0} (a : A) (o : Result A ParseFault) (f : ParseFault) → o ≡ Ok a → o ≡ Err f → ⊥
+pub refused : {A : Type 0} (a : A) (o : Result A ParseFault) (f : ParseFault) → o ≡ Ok a → o ≡ Err f → ⊥
 refused a o f h g = let e = sym h ∙ g in absurd (cc)
 
 failed_end : (p : Outcome PipeTree) (tree : PipeTree) → Failed p → (p >>= query_end) ≡ Ok tree → ⊥

@@ -31,13 +31,14 @@ use Rattle.mql_parse.proofs.Follows.{FollowsPass, beyond, where_failed, ok_any, 
 use Rattle.mql_parse.proofs.Follows.{follows_to, follows_then, follows_map, follows_behind_pass, if_follows}
 use Rattle.mql_parse.proofs.Follows.{head_tests, follows_if, follows_skip, behind_taken, follows_taken, next_taken}
 use Rattle.mql_parse.proofs.Follows.{follows_here, part_taken}
+use Rattle.mql_parse.proofs.TokenEndings.{digit_in_word}
 
 -- words of letters and signs
 abbrev pub no_counts : List ℕ → Bool
 no_counts [] = true
 no_counts (c ∷ cs) = not (counts c) && no_counts cs
 
-not_false : (t u : Bool) → (not t && u) ≡ true → (t ≡ false) × (u ≡ true)
+pub not_false : (t u : Bool) → (not t && u) ≡ true → (t ≡ false) × (u ≡ true)
 not_false true u h = absurd (cc)
 not_false false u h = (refl, h)
 
@@ -116,11 +117,8 @@ alike_names a b (inr z) = (
   no_word a.text (codes "percentile") z.0 refl ∙ sym (no_word b.text (codes "percentile") z.1 refl),
 )
 
-count_is_digit : (d : ℕ) → counts d ≡ true → is_digit d ≡ true
+pub count_is_digit : (d : ℕ) → counts d ≡ true → is_digit d ≡ true
 count_is_digit d h = grind (arith, nat_tests)
-
-digit_is_word : (d : ℕ) → is_digit d ≡ true → is_word_byte d ≡ true
-digit_is_word d h = grind (arith, nat_tests)
 
 digit_is_metric : (d : ℕ) → is_digit d ≡ true → is_metric_byte d ≡ true
 digit_is_metric d h = grind (arith, nat_tests)
@@ -162,8 +160,8 @@ module _ (x : Swap) where
   one_digit : (d m : ℕ) (bs : List ℕ) → is_digit d ≡ true →
       (word_bytes (d ∷ bs) ≡ d ∷ word_bytes bs) × (behind_word m (d ∷ bs) ≡ behind_word (m + 1) bs)
   one_digit d m bs h = (
-    ap (λ t. if t then d ∷ word_bytes bs else []) (digit_is_word d h),
-    ap (λ t. if t then behind_word (m + 1) bs else rest_at m (d ∷ bs)) (digit_is_word d h),
+    ap (λ t. if t then d ∷ word_bytes bs else []) (digit_in_word d h),
+    ap (λ t. if t then behind_word (m + 1) bs else rest_at m (d ∷ bs)) (digit_in_word d h),
   )
 
   run : (ds : List ℕ) (m : ℕ) → AreDigits ds → m + length ds ≡ x.at →

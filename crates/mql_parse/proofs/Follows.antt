@@ -12,7 +12,7 @@ use Rattle.mql_parse.specs.declared.faults.What.{What}
 use Rattle.mql_parse.specs.Outcomes.{Outcome, unexpected_fault, fault, sign, map_outcome, up_to_sign}
 use Rattle.mql_parse.specs.Steadiness.{here, next, Reaches, unit_read}
 pub use Rattle.mql_parse.proofs.Swaps.{Swap, counts, Pair, Blind, blind_sign, head_alike, skip_pair, behind_pair}
-use Rattle.mql_parse.proofs.Steady.{skip_on, behind_on, reaches_before, if_reaches, pass_bind, unit_if}
+use Rattle.mql_parse.proofs.Steady.{skip_on, behind_on, reaches_before, if_reaches, pass_bind, unit_if, pass_pass}
 use Rattle.mql_parse.proofs.Firsts.{Failed, failed_bind}
 
 -- values of which nothing is claimed
@@ -187,11 +187,6 @@ follows_behind_pass x from mid to H pass other on on' f g =
     (λ s. unit_read (other s) >>= λ y. on' y.1) (λ s. pass_bind (pass s) on) (λ s. pass_bind (other s) on')
     (follows_then x from mid to H (λ s. unit_read (pass s)) (λ s. unit_read (other s)) (λ y. on y.1) (λ y. on' y.1) f
     (λ a b. g))
-
-pass_pass : (o : Result Rest ParseFault) (on : Rest → Result Rest ParseFault) →
-    unit_read (o >>= on) ≡ (unit_read o >>= λ x. unit_read (on x.1))
-pass_pass (Ok r) on = refl
-pass_pass (Err f) on = refl
 
 pub follows_passes : (x : Swap) (from mid to : Rest → ℕ) (pass on : Rest → Result Rest ParseFault) →
     FollowsPass x from mid pass pass → FollowsPass x mid to on on →

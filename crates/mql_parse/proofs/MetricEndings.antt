@@ -15,8 +15,9 @@ use Rattle.mql_parse.specs.TokenReading as reading
 use Rattle.mql_parse.proofs.Endings.{Stops, Anyhow, Text, Default, Finish, Ends, Reads, done_ends}
 use Rattle.mql_parse.proofs.TextFronts.{MetricOpen, slash_open, metric_byte_open, metric_slash_open, open_metric}
 use Rattle.mql_parse.proofs.TokenHalts.{Halts, halted_unexpected, if_halts, halts_on, halts_map, halts_end}
-use Rattle.mql_parse.proofs.TokenEndings.{at_place, AreBlanks, outer_no_metric, equal_byte, first_cut, wrong, Token}
+use Rattle.mql_parse.proofs.TokenEndings.{at_place, AreBlanks, outer_no_metric, first_cut, wrong, Token}
 use Rattle.mql_parse.proofs.TokenEndings.{word_text, WordSpan}
+use Rattle.mon_value.proofs.PlainLemmas.{equal_numbers}
 
 -- a metric's name from behind a slash or another of its bytes
 abbrev MetricText : Bool → List ℕ → Type 0
@@ -135,7 +136,7 @@ metric_ends s =
     (λ slash. reading.metric_from true slash.at slash.bytes >>=
     λ read. Ok (record { at = t.at; text = 47 ∷ read.0 }, read.1))
     (λ h. let c = first_cut (λ b. b == 47) refl s h in
-    let v : c.front ≡ c.is.0 ++ 47 ∷ [] = c.is.1.1 ∙ ap (λ b. c.is.0 ++ b ∷ []) (equal_byte (head t) 47 h) in
+    let v : c.front ≡ c.is.0 ++ 47 ∷ [] = c.is.1.1 ∙ ap (λ b. c.is.0 ++ b ∷ []) (equal_numbers (head t) 47 h) in
     done_ends s on (λ read. (named read.0, read.1))
     (halts_end {R = Text Anyhow false (Token grammar.metric_at)} s m c.front c.is.0 47 on c.bytes c.place v
     (metric_from_halts true m.at m.bytes)

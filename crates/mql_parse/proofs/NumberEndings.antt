@@ -22,8 +22,9 @@ use Rattle.mql_parse.proofs.Endings.{Worded, Parted, OpensAs, opens_on, Text, jo
 use Rattle.mql_parse.proofs.Endings.{Smaller, known_smaller, Comes, IfExpected, Finish, finish_as, cut_before, cut_as}
 use Rattle.mql_parse.proofs.Endings.{Ends, behind_read, Reads, ends_before_it, cut_then, ends_as, done_ends, if_ends}
 use Rattle.mql_parse.proofs.TokenEndings.{at_place, and_first, AreBlanks, blank_last, blanks_open, skip_over}
-use Rattle.mql_parse.proofs.TokenEndings.{digit_not_blank, digit_in_word, outer_no_digit, byte_cut, first_cut}
+use Rattle.mql_parse.proofs.TokenEndings.{digit_in_word, outer_no_digit, byte_cut, first_cut}
 use Rattle.mql_parse.proofs.TokenEndings.{begun_here, wrong_spaced, SignSpan, minus_sign, sign_cut, Token}
+use Rattle.mql_ast.proofs.NumbersPrinted.{digit_is_no_blank}
 
 -- digits behind others: the number that they make
 abbrev IsDigits : ℕ → ℕ → ℕ → List ℕ → Type 0
@@ -154,7 +155,7 @@ first_positive most v b bs u e h f =
     let d = and_first (is_digit b) (not (b == 48)) h in
     let plain : PositiveText most v (b ∷ u) = λ z g at. let n = f.0 z g (at + 1) in (
       n.0,
-      ap (positive_of most) (skip_off (at_place at (b ∷ (u ++ z))) (digit_not_blank b d))
+      ap (positive_of most) (skip_off (at_place at (b ∷ (u ++ z))) (digit_is_no_blank b d))
           ∙ ap (λ t. if t then grammar.digits_from most (b - 48) (at + 1) (u ++ z) else None) h ∙ n.1,
     ) in (
       blanks_open Worded bs (b ∷ u) e (digit_first b u d),
@@ -424,7 +425,7 @@ unit_missing s r v c = let n = c.is.1.1.1 in by_number n.1.0 n.1.1.1.0 n.1.1.1.1
         begun_here {L = Text Worded true (Token grammar.duration_at)} what.Unit s r c.front c.is.1.1.1.0 (b ∷ u) 115 []
         [] c.bytes c.place q (
           without_unit v (b ∷ u) f,
-          with_seconds v (b ∷ u) c.is.1.1.0 f (digit_not_blank b (and_first (is_digit b) (not (b == 48)) k.0)),
+          with_seconds v (b ∷ u) c.is.1.1.0 f (digit_is_no_blank b (and_first (is_digit b) (not (b == 48)) k.0)),
         )
         (λ e. absurd (cc)) (in_seconds v c.front c.is)
 

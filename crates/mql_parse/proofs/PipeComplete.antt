@@ -29,13 +29,13 @@ use Rattle.mql_parse.proofs.RestLemmas.{skip_off}
 use Rattle.mql_parse.proofs.BehindLemmas.{sign_taken}
 use Rattle.mql_parse.proofs.Loops.{loop_goes_on}
 use Rattle.mql_parse.proofs.Sound.{sign_here}
-use Rattle.mql_parse.proofs.PredicateSound.{if_true, if_false}
 use Rattle.mql_parse.proofs.PipeSound.{operation_turn_behind, branch_turn_behind}
 use Rattle.mql_parse.proofs.Complete.{bound, mapped, up_to_read, sign_read, exact_read, name_read, metric_read}
 use Rattle.mql_parse.proofs.Complete.{positive_read, duration_read, ends_here, other_byte, passes, other_sign}
 use Rattle.mql_parse.proofs.Complete.{first_past}
 use Rattle.mql_parse.proofs.ListComplete.{names_read, items_read, aggregates_read}
 use Rattle.mql_parse.proofs.PredicateComplete.{filter_ends, filter_ends_barred}
+use Rattle.mql_ast.proofs.TokensPrinted.{if_true, if_false}
 
 -- a keyword and the blank behind it
 apart_read : (w : What) (m : Rest) → Apart m → apart w m ≡ Ok m

@@ -32,6 +32,7 @@ use Rattle.mql_parse.proofs.NumberEndings.{duration_default}
 use Rattle.mql_parse.proofs.ListEndings.{folding_default}
 use Rattle.mql_parse.proofs.OperationEndings.{GroupedText, grouped_on, DeedSpan, every_text, OpSpan, OpText}
 use Rattle.mql_parse.proofs.OperationEndings.{operation_ends}
+use Rattle.mql_parse.proofs.FirstPipes.{last_groups}
 
 -- pipes, and the bar behind one where it was read
 abbrev pub PipeSpan : ℕ → List ℕ → List ℕ → Type 0
@@ -83,17 +84,12 @@ OpsSeen d ops w = PipeText d w × Longer d (pipes.groups_last ops) w
 abbrev BarSeen : ℕ → List OpTree × Bool → List ℕ → Type 0
 BarSeen d read w = BarText d read.1 w × Longer d (pipes.groups_last read.0) w
 
-last_groups_end : (so_far : Bool) (ops : List OpTree) (op : OpTree) →
-    pipes.last_groups so_far (ops ++ op ∷ []) ≡ pipes.is_group_by op.what
-last_groups_end so_far [] op = refl
-last_groups_end so_far (first ∷ ops) op = last_groups_end (pipes.is_group_by first.what) ops op
-
 op_longer : (d : ℕ) (ops : List OpTree) (read : OpTree × Bool) (w v : List ℕ) → BarText d true w →
     (pipes.is_group_by read.0.what ≡ true → GroupedText v) → Longer d (pipes.groups_last (ops ++ read.0 ∷ [])) (w ++ v)
 op_longer d ops read w v f g = λ t bs e.
     subst (PipeText d) (sym (append_assoc w v (bs ++ 44 ∷ folding_default.text)))
     (op_grown d false w (v ++ (bs ++ 44 ∷ folding_default.text)) f
-    (grouped_on d v bs e (g (sym (last_groups_end false ops read.0) ∙ t))))
+    (grouped_on d v bs e (g (sym (last_groups false ops read.0) ∙ t))))
 
 operation_from_ends : (d : ℕ) (ops : List OpTree) (s : Rest) (w : List ℕ) → BarText d true w →
     TurnEnds (λ b u. BarSeen d b (w ++ u)) (λ b u. OpsSeen d b.0 (w ++ u)) (λ u. PipeText d (w ++ u)) s

@@ -27,17 +27,12 @@ use Rattle.mql_parse.specs.Behind.{Behind}
 use Rattle.mql_parse.specs.Soundness.{OfTurn}
 use Rattle.mql_parse.proofs.BehindLemmas.{from_behind, behind_from, behind_behind, sign_behind, word_behind}
 use Rattle.mql_parse.proofs.BehindLemmas.{name_behind, skip_from, one_from, tested_behind}
-use Rattle.mql_parse.proofs.Within.{some_given, signed_within, text_within, pattern_within}
+use Rattle.mql_parse.proofs.Within.{some_given, signed_within, text_within, pattern_within, some_test}
 use Rattle.mql_parse.proofs.Links.{text_from_links, pattern_from_links}
 use Rattle.mql_parse.proofs.Sound.{if_sound, bind_sound, linked, sign_sound, exact_sound, signed_sound, sign_here}
 use Rattle.mql_parse.proofs.Sound.{changed_sound, repeated_sound, if_turn}
 use Rattle.mql_parse.proofs.SumSound.{name_here}
-
-pub if_true : {A : Type 0} (t : Bool) (x y : A) → t ≡ true → (if t then x else y) ≡ x
-if_true t x y h = ap (λ u. if u then x else y) h
-
-pub if_false : {A : Type 0} (t : Bool) (x y : A) → t ≡ false → (if t then x else y) ≡ y
-if_false t x y h = ap (λ u. if u then x else y) h
+use Rattle.mql_ast.proofs.TokensPrinted.{if_true, if_false}
 
 -- how a condition compares
 abbrev ComparesAt : Rest → Compared × Rest → Type 0
@@ -131,22 +126,17 @@ and_equal_within s m with f = either (head m == 61)
     either true = behind_from s m (behind m) f (one_from m)
     either false = tt
 
-some_either : {A : Type 0} (t : Bool) (o p : Option A) (P : A → Type 0) → (t ≡ true → IfSome o P) →
-    (t ≡ false → IfSome p P) → IfSome (if t then o else p) P
-some_either true o p P f g = f refl
-some_either false o p P f g = g refl
-
 comparison_within : (s : Rest) → IfSome (comparison_at s) (Later s)
 comparison_within s =
     let t = skip s in
     let b = head t in
     let on : (c : ℕ) → (0 == c) ≡ false → (b == c) ≡ true → Behind s (behind t) =
     λ c z h. from_behind s t (behind t) (skip_from s) (tested_behind (λ x. x == c) z t h) in
-    some_either (b == 61) _ _ (Later s) (λ h. and_equal_within s (behind t) comparison.Equal (on 61 refl h))
-    (λ _. some_either (b == 33) _ _ (Later s) (λ h. and_equal_within s (behind t) comparison.NotEqual (on 33 refl h))
-    (λ _. some_either (b == 60) _ _ (Later s) (λ h. equal_within s (behind t) comparison.Less comparison.AtMost
+    some_test (b == 61) _ _ (Later s) (λ h. and_equal_within s (behind t) comparison.Equal (on 61 refl h))
+    (λ _. some_test (b == 33) _ _ (Later s) (λ h. and_equal_within s (behind t) comparison.NotEqual (on 33 refl h))
+    (λ _. some_test (b == 60) _ _ (Later s) (λ h. equal_within s (behind t) comparison.Less comparison.AtMost
     (on 60 refl h))
-    (λ _. some_either (b == 62) _ None (Later s) (λ h. equal_within s (behind t) comparison.Greater comparison.AtLeast
+    (λ _. some_test (b == 62) _ None (Later s) (λ h. equal_within s (behind t) comparison.Greater comparison.AtLeast
     (on 62 refl h)) (λ _. tt))))
 
 some_mapped : {A B : Type 0} (f : A → B) (o : Option A) (P : B → Type 0) → ((x : A) → o ≡ Some x → P (f x)) →
@@ -157,13 +147,13 @@ some_mapped f (Some x) P h = h x refl
 value_within : (s : Rest) → IfSome (literal_at s) (Later s)
 value_within s =
     let b = head (skip s) in
-    some_either (b == 34) _ _ (Later s) (λ _. some_mapped (λ (x : List ℕ × Rest). (field.Text x.0, x.1)) (text_at s)
+    some_test (b == 34) _ _ (Later s) (λ _. some_mapped (λ (x : List ℕ × Rest). (field.Text x.0, x.1)) (text_at s)
     (Later s) (λ x e. some_given (text_at s) (Later s) x (text_within s) e))
-    (λ _. some_either (b == 116) _ _ (Later s) (λ _. some_mapped (λ (r : Rest). (field.Bool true, r))
+    (λ _. some_test (b == 116) _ _ (Later s) (λ _. some_mapped (λ (r : Rest). (field.Bool true, r))
     (keyword_at (codes "true") s) (Later s) (λ r e. word_behind 116 (codes "rue") refl s r e))
-    (λ _. some_either (b == 102) _ _ (Later s) (λ _. some_mapped (λ (r : Rest). (field.Bool false, r))
+    (λ _. some_test (b == 102) _ _ (Later s) (λ _. some_mapped (λ (r : Rest). (field.Bool false, r))
     (keyword_at (codes "false") s) (Later s) (λ r e. word_behind 102 (codes "alse") refl s r e))
-    (λ _. some_either (b == 45 || is_digit b) _ None (Later s)
+    (λ _. some_test (b == 45 || is_digit b) _ None (Later s)
     (λ _. some_mapped (λ (x : ℤ × Rest). (field.Int x.0, x.1)) (signed_at s) (Later s)
     (λ x e. some_given (signed_at s) (Later s) x (signed_within s) e)) (λ _. tt))))
 

@@ -17,7 +17,8 @@ use Rattle.mql_parse.specs.TokenReading as reading
 use Rattle.mql_parse.specs.Faults.{open_behind, quotes_after, could_stand, QuotedKind}
 use Rattle.mql_parse.proofs.KindFits.{Outside, FaultFits, Fits}
 use Rattle.mql_parse.proofs.Utf8Steps.{LeavesOpen, StepOpens, text_step_opens, LeavesSign, PatternOpens}
-use Rattle.mql_parse.proofs.Utf8Steps.{pattern_step_opens, text_may_end}
+use Rattle.mql_parse.proofs.Utf8Steps.{pattern_step_opens}
+use Rattle.mon_value.proofs.TextLemmas.{text_in-IsUtf8}
 
 -- a byte of a text
 byte_fits : {A : Type 0} (o : Option Open) (at b : ℕ) (bs : List ℕ) (x : Outcome A) → Fits (quotes_after o b)
@@ -78,7 +79,7 @@ text_step_fits : (u : Open) (b : ℕ) (t : List ℕ) (at : ℕ) (bs : List ℕ) 
     (reading.after_text_step step b (record { at = at; bytes = b ∷ bs }) (record { at = at + 1; bytes = bs }) t
     (λ next more. reading.text_from next more (at + 1) bs))
 text_step_fits u b t at bs TextEnd e k ih = text_end_fits (Some u) t (record { at = at; bytes = b ∷ bs })
-    (record { at = at + 1; bytes = bs }) (text_in t) (text_may_end t k) (closed u at b bs (ap open_behind e))
+    (record { at = at + 1; bytes = bs }) (text_in t) (text_in-IsUtf8 t k) (closed u at b bs (ap open_behind e))
 text_step_fits u b t at bs (TextPass next) e k ih = opened u next at b bs (reading.text_from next t (at + 1) bs)
     (ap open_behind e) (ih next t k)
 text_step_fits u b t at bs (TextKeep next) e k ih = opened u next at b bs
@@ -219,10 +220,10 @@ pattern_step_fits : (u : Open) (b : ℕ) (ps : List (List ℕ)) (t : List ℕ) (
     (reading.after_pattern_step step b (record { at = at; bytes = b ∷ bs }) (record { at = at + 1; bytes = bs }) ps
     t (λ next sign all more. reading.pattern_from next sign all more (at + 1) bs))
 pattern_step_fits u b ps t at bs PatternEnd e k ih = piece_end_fits (Some u) t (record { at = at; bytes = b ∷ bs }) ps
-    (λ all. Ok (all, record { at = at + 1; bytes = bs })) (text_in t) (text_may_end t k) (λ all. closed u at b bs e)
+    (λ all. Ok (all, record { at = at + 1; bytes = bs })) (text_in t) (text_in-IsUtf8 t k) (λ all. closed u at b bs e)
 pattern_step_fits u b ps t at bs PatternCut e k ih =
     piece_end_fits (Some u) t (record { at = at; bytes = b ∷ bs }) ps
-    (λ all. reading.pattern_from Whole Plain all [] (at + 1) bs) (text_in t) (text_may_end t k)
+    (λ all. reading.pattern_from Whole Plain all [] (at + 1) bs) (text_in t) (text_in-IsUtf8 t k)
     (λ all. opened u Whole at b bs (reading.pattern_from Whole Plain all [] (at + 1) bs) e
     (ih Whole Plain all [] IsUtf8-nil))
 pattern_step_fits u b ps t at bs (PatternPass next sign) e k ih = opened u next at b bs

@@ -10,6 +10,7 @@ use Rattle.mql_parse.specs.Outcomes.{Outcome, unexpected_fault, fault, sign, map
 use Rattle.mql_parse.specs.Steadiness.{Shares, here, next, ReadAlike, AgreesBefore, Reaches, Steady, unit_read}
 use Rattle.mql_parse.specs.Steadiness.{SteadyPass}
 use Rattle.mql_parse.specs.Steadiness.{SteadyTest}
+use Rattle.mql_parse.proofs.Swaps.{blanks_on}
 
 -- what holds of any two rests that begin with the same bytes
 pub over_common : (e : ℕ) (P : Rest → Rest → Type 0) →
@@ -39,11 +40,6 @@ pub passed_on : (t : Bool) (at n : ℕ) (bs : List ℕ) (r : Rest) → n ≤ at 
     n ≤ (if t then r else record { at = at; bytes = bs }).at
 passed_on true at n bs r h k = k
 passed_on false at n bs r h k = h
-
-blanks_on : (n at : ℕ) (bs : List ℕ) → n ≤ at → n ≤ (behind_blanks at bs).at
-blanks_on n at [] h = h
-blanks_on n at (b ∷ bs) h = passed_on (is_blank b) at n (b ∷ bs) (behind_blanks (at + 1) bs) h
-    (blanks_on n (at + 1) bs (omega (arith, h)))
 
 pub skip_on : (s : Rest) → s.at ≤ (skip s).at
 unfolding skip
@@ -186,7 +182,7 @@ pub pass_bind : {B : Type 0} (o : Result Rest ParseFault) (on : Rest → Outcome
 pass_bind (Ok r) on = refl
 pass_bind (Err f) on = refl
 
-pass_pass : (o : Result Rest ParseFault) (on : Rest → Result Rest ParseFault) →
+pub pass_pass : (o : Result Rest ParseFault) (on : Rest → Result Rest ParseFault) →
     unit_read (o >>= on) ≡ (unit_read o >>= λ x. unit_read (on x.1))
 pass_pass (Ok r) on = refl
 pass_pass (Err f) on = refl

@@ -16,12 +16,12 @@ use Rattle.mql_parse.specs.TokenReading as reading
 use Rattle.mql_parse.specs.SumReading as sums
 use Rattle.mql_parse.specs.SumReading.{SumSeen, as_sum_seen, is_percentile}
 use Rattle.mql_parse.specs.Behind.{Behind}
-use Rattle.mql_parse.proofs.BehindLemmas.{behind_behind, sign_behind, chosen, sign_taken}
+use Rattle.mql_parse.proofs.BehindLemmas.{behind_behind, sign_behind, sign_taken}
 use Rattle.mql_parse.proofs.Sound.{repeated_again}
 use Rattle.mql_parse.proofs.SumSound.{term_behind}
-use Rattle.mql_parse.proofs.PredicateSound.{if_true, if_false}
 use Rattle.mql_parse.proofs.Complete.{bound, mapped, sign_read, name_read, positive_read, signed_read, ends_here}
 use Rattle.mql_parse.proofs.Complete.{not_that_byte, other_sign, signed_begins}
+use Rattle.mql_ast.proofs.TokensPrinted.{chosen, if_true, if_false}
 
 -- a name that stands here, and its place
 pub name_taken : (s r : Rest) (n : Name) → name_at s ≡ Some (n, r) →

@@ -1,5 +1,5 @@
 -- A sum that is read is one of the grammar.
-use Rattle.std.proofs.Common.{◌≡◌, ℕ, zero, suc, ◌-◌, arith, Bool, true, false, ◌==◌, ◌||◌, ◌&&◌, List, [], ◌∷◌, codes}
+use Rattle.std.proofs.Common.{◌≡◌, ℕ, zero, suc, ◌-◌, arith, true, ◌==◌, ◌||◌, ◌&&◌, List, [], ◌∷◌, codes}
 use Rattle.std.proofs.Common.{refl, ap, if◌then◌else◌, Some, None, Ok, Err, nat_eq}
 use Rattle.std.specs.Result.{IfOk}
 use Rattle.std.proofs.lemmas.Bool.{eqb-true}
@@ -23,6 +23,7 @@ use Rattle.mql_parse.proofs.BehindLemmas.{behind_behind, sign_behind, name_behin
 use Rattle.mql_parse.proofs.Within.{some_given, positive_within, signed_within}
 use Rattle.mql_parse.proofs.Sound.{if_sound, bind_sound, sign_sound, name_sound, positive_sound, signed_sound}
 use Rattle.mql_parse.proofs.Sound.{sign_here, changed_sound, repeated_sound, if_turn, if_ok_weaker, goes_on_behind}
+use Rattle.mon_value.proofs.PlainLemmas.{and_both}
 
 -- what is left behind a sum and a term
 mutual
@@ -52,10 +53,6 @@ IsTerm d s x = Term d s x.1 x.0.sum
 
 abbrev pub IsSum : ℕ → Rest → SumSeen × Rest → Type 0
 IsSum d s x = Sum d s x.1 x.0.sum
-
-and_both : (a b : Bool) → (a && b) ≡ true → (a ≡ true) × (b ≡ true)
-and_both true b h = (refl, h)
-and_both false b h = cc
 
 -- the words are compared byte by byte
 pub same_word : (xs ys : List ℕ) → pointwise nat_eq xs ys ≡ true → xs ≡ ys

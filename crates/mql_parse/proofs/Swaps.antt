@@ -92,7 +92,7 @@ head_alike x test blind = over_pair x (λ s t. test (head t) ≡ test (head s)) 
 count_no_blank : (d : ℕ) → counts d ≡ true → is_blank d ≡ false
 count_no_blank d h = grind (arith, nat_tests)
 
-blanks_on : (n at : ℕ) (bs : List ℕ) → n ≤ at → n ≤ (behind_blanks at bs).at
+pub blanks_on : (n at : ℕ) (bs : List ℕ) → n ≤ at → n ≤ (behind_blanks at bs).at
 blanks_on n at [] h = h
 blanks_on n at (b ∷ bs) h = either (is_blank b) (blanks_on n (at + 1) bs (omega (arith, h)))
   where

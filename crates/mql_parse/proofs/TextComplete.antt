@@ -12,9 +12,9 @@ use Rattle.mql_parse.specs.declared.faults.ParseFault.{ParseFault}
 use Rattle.mql_parse.specs.FaultDepths.{SpellsWithin}
 use Rattle.mql_parse.specs.PipeReading as pipes
 use Rattle.mql_parse.proofs.RestLemmas.{skip_off}
-use Rattle.mql_parse.proofs.PredicateSound.{if_true, if_false}
 use Rattle.mql_parse.proofs.Complete.{bound}
 use Rattle.mql_parse.proofs.PipeComplete.{PipeEnds, pipe_read}
+use Rattle.mql_ast.proofs.TokensPrinted.{if_true, if_false}
 
 -- nothing is left, and so no pipe goes on
 pub end_ends : (r : Rest) → r.bytes ≡ [] → PipeEnds r

@@ -22,7 +22,8 @@ use Rattle.mql_parse.proofs.QuoteKinds.{SameStep, same_step}
 use Rattle.mql_parse.proofs.TextFronts.{QuotesOpen, quotes_on}
 use Rattle.mql_parse.proofs.TokenHalts.{Halts, halted_at, halts_on}
 use Rattle.mql_parse.proofs.Utf8Steps.{IsCompleted, LeavesOpen, several_further, StepOpens, text_step_opens}
-use Rattle.mql_parse.proofs.Utf8Steps.{LeavesSign, PatternOpens, pattern_step_opens, kept_ascii, text_may_end}
+use Rattle.mql_parse.proofs.Utf8Steps.{LeavesSign, PatternOpens, pattern_step_opens, kept_ascii}
+use Rattle.mon_value.proofs.TextLemmas.{text_in-IsUtf8}
 
 -- a text of which this content was read
 abbrev TextOf : Open → List ℕ → List ℕ → Type 0
@@ -78,7 +79,7 @@ text_ends u b t e h =
     λ z at. (
       (at + 1, t),
       ap (text_after b t at z) e ∙ ap (option_and_then (λ x. Some (x, at_place (at + 1) z)))
-          (text_may_end t h),
+          (text_in-IsUtf8 t h),
     )
 
 text_passes : (u next : Open) (b : ℕ) (t w : List ℕ) → text_step u b ≡ TextPass next → TextOf next t w →
@@ -149,7 +150,7 @@ text_step_ends : (u : Open) (b : ℕ) (t : List ℕ) (at : ℕ) (bs : List ℕ) 
     (b ∷ bs))
     (at_place (at + 1) bs) t (λ next more. reading.text_from next more (at + 1) bs))
 text_step_ends u b t at bs TextEnd e h k ih =
-    text_end_ends u b t at bs (text_in t) (text_may_end t k) (text_ends u b t e k)
+    text_end_ends u b t at bs (text_in t) (text_in-IsUtf8 t k) (text_ends u b t e k)
 text_step_ends u b t at bs (TextPass next) e h k ih =
     let o = reading.text_from next t (at + 1) bs in
     halts_on {N = QuotesOpen u} {M = TextOf u t} (at_place at (b ∷ bs)) (at_place (at + 1) bs) (b ∷ []) o refl
@@ -189,7 +190,7 @@ pattern_ends u mark ps b t e h =
     λ z at. (
       (at + 1, ps ++ t ∷ []),
       ap (pattern_after b ps t at z) e
-          ∙ ap (λ o. quotes.with_piece o ps (λ all. Some (all, at_place (at + 1) z))) (text_may_end t h),
+          ∙ ap (λ o. quotes.with_piece o ps (λ all. Some (all, at_place (at + 1) z))) (text_in-IsUtf8 t h),
     )
 
 pattern_cuts : (u : Open) (mark : Sign) (ps : List (List ℕ)) (b : ℕ) (t w : List ℕ) →
@@ -200,7 +201,7 @@ pattern_cuts u mark ps b t w e h f = λ z at. let n = f z (at + 1) in (
   n.0,
   ap (pattern_after b ps t at (w ++ z)) e
       ∙ ap (λ o. quotes.with_piece o ps (λ all. quotes.pattern_from Whole Plain all [] (at + 1) (w ++ z)))
-      (text_may_end t h) ∙ n.1,
+      (text_in-IsUtf8 t h) ∙ n.1,
 )
 
 pattern_passes : (u : Open) (mark : Sign) (ps : List (List ℕ)) (next : Open) (sign : Sign) (b : ℕ) (t w : List ℕ) →
@@ -299,12 +300,12 @@ pattern_step_ends : (u : Open) (mark : Sign) (ps : List (List ℕ)) (b : ℕ) (t
     (at_place (at + 1) bs) ps t (λ next sign all more. reading.pattern_from next sign all more (at + 1) bs))
 pattern_step_ends u mark ps b t at bs PatternEnd e q h k ih =
     piece_end_ends u mark ps t (at_place at (b ∷ bs)) (λ all. Ok (all, at_place (at + 1) bs)) (text_in t)
-    (text_may_end t k)
+    (text_in-IsUtf8 t k)
     (record { way = record { front = b ∷ []; bytes = refl; place = omega arith; is = pattern_ends u mark ps b t e k } })
 pattern_step_ends u mark ps b t at bs PatternCut e q h k ih =
     let o = reading.pattern_from Whole Plain (ps ++ t ∷ []) [] (at + 1) bs in
     piece_end_ends u mark ps t (at_place at (b ∷ bs)) (λ all. reading.pattern_from Whole Plain all [] (at + 1) bs)
-    (text_in t) (text_may_end t k)
+    (text_in t) (text_in-IsUtf8 t k)
     (halts_on {N = QuotesOpen u} {M = PatternOf u mark ps t} (at_place at (b ∷ bs)) (at_place (at + 1) bs)
     (b ∷ []) o refl (omega arith)
     (ih Whole Plain (ps ++ t ∷ []) [] IsUtf8-nil) (λ w k. quotes_on u Whole b w q k)

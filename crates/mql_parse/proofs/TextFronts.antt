@@ -16,6 +16,7 @@ use Rattle.mql_parse.proofs.Links.{text_from_links, pattern_from_links}
 use Rattle.mql_parse.proofs.KindFits.{Fits}
 use Rattle.mql_parse.proofs.QuoteKinds.{text_fits, pattern_fits}
 use Rattle.mql_parse.proofs.TokenFronts.{whole}
+use Rattle.mon_value.proofs.PlainLemmas.{some_not_none, same_item}
 
 -- the quotes are open behind these bytes
 abbrev pub QuotesOpen : Open → List ℕ → Type 0
@@ -25,19 +26,12 @@ pub quotes_on : (u next : Open) (b : ℕ) (w : List ℕ) → open_behind (text_s
     QuotesOpen u (b ∷ w)
 quotes_on u next b w e k = (k.0, ap (λ o. open_quotes o w) e ∙ k.1)
 
--- where all was read, they are closed
-some_same : {A : Type 0} (x y : A) → Some x ≡ Some y → x ≡ y
-some_same x y e = cc
-
-some_none : {A : Type 0} (x : A) → Some x ≡ None → ⊥
-some_none x e = cc
-
 closed_by : {A : Type 0} (x : A × Rest) (o : Outcome A) (u : List ℕ) → Some x ≡ result_ok o → x.1.bytes ≡ [] →
     Fits (Some Whole) (record { at = 1; bytes = u }) o → open_quotes (Some Whole) u ≡ None
 closed_by x (Ok y) u e z f =
-    let none : y.1.bytes ≡ [] = sym (ap (λ t. t.1.bytes) (some_same x y e)) ∙ z in
+    let none : y.1.bytes ≡ [] = sym (ap (λ t. t.1.bytes) (same_item x y e)) ∙ z in
     ap (open_quotes (Some Whole)) (f.bytes ∙ ap (λ t. f.front ++ t) none ∙ append-nil f.front) ∙ f.closed
-closed_by x (Err f) u e z k = absurd (some_none x e)
+closed_by x (Err f) u e z k = absurd (some_not_none x e)
 
 text_closed : (u : List ℕ) → IsBare what.Text (34 ∷ u) → open_quotes (Some Whole) u ≡ None
 unfolding skip reading.text reading.pattern

@@ -16,11 +16,14 @@ use Rattle.mql_parse.specs.Outcomes.{kind_of_fault, fault, unexpected_fault, exa
 use Rattle.mql_parse.specs.FaultTokens.{IsBare}
 use Rattle.mql_parse.specs.TokenReading as reading
 use Rattle.mql_parse.proofs.RestLemmas.{skip_off}
-use Rattle.mql_parse.proofs.WordLemmas.{word_bytes_on, word_bytes_off, behind_word_off}
-use Rattle.mql_parse.proofs.TokenFronts.{both_hold, Fronts, WordOf}
+use Rattle.mql_parse.proofs.WordLemmas.{word_bytes_on}
+use Rattle.mql_parse.proofs.TokenFronts.{Fronts, WordOf}
 use Rattle.mql_parse.proofs.Endings.{is_inner, Front, Anyhow, Worded, Parted, OpensAs, Text, changed, worded, NoQuotes}
 use Rattle.mql_parse.proofs.Endings.{Default, Cut, Smaller, IfTooLarge, ComesBy, Closes, Comes, IfExpected, Finish}
 use Rattle.mql_parse.proofs.Endings.{Ends, behind_read, Reads, Leaves, cut_before, cut_as, ends_as, if_ends}
+use Rattle.mon_value.proofs.PlainLemmas.{equal_numbers}
+use Rattle.mql_parse.proofs.FollowTokens.{not_false}
+use Rattle.mql_ast.proofs.TokensPrinted.{behind_word_off, or_false, word_bytes_off, letter_no_blank}
 
 abbrev pub at_place : ℕ → List ℕ → Rest
 at_place at bs = record { at = at; bytes = bs }
@@ -28,12 +31,6 @@ at_place at bs = record { at = at; bytes = bs }
 -- tests of bytes
 pub blank_outer : (b : ℕ) → is_blank b ≡ true → is_inner b ≡ false
 blank_outer b h = grind (arith, nat_tests)
-
-pub letter_not_blank : (b : ℕ) → is_letter b ≡ true → is_blank b ≡ false
-letter_not_blank b h = grind (arith, nat_tests)
-
-pub digit_not_blank : (b : ℕ) → is_digit b ≡ true → is_blank b ≡ false
-digit_not_blank b h = grind (arith, nat_tests)
 
 pub letter_in_word : (b : ℕ) → is_letter b ≡ true → is_word_byte b ≡ true
 letter_in_word b h = ap (λ t. t || is_digit b) h
@@ -49,18 +46,14 @@ pub and_first : (a b : Bool) → (a && b) ≡ true → a ≡ true
 and_first true b h = refl
 and_first false b h = h
 
-neither : (a b : Bool) → (a || b) ≡ false → (a ≡ false) × (b ≡ false)
-neither true b h = absurd (false≢true (sym h))
-neither false b h = (refl, h)
-
 pub outer_no_metric : (b : ℕ) → is_inner b ≡ false → (is_metric_byte b ≡ false) × ((b == 47) ≡ false)
-outer_no_metric b h = neither (is_metric_byte b) (b == 47) h
+outer_no_metric b h = or_false (is_metric_byte b) (b == 47) h
 
 pub outer_no_word : (b : ℕ) → is_inner b ≡ false → is_word_byte b ≡ false
-outer_no_word b h = (neither (is_word_byte b) (b == 46) (outer_no_metric b h).0).0
+outer_no_word b h = (or_false (is_word_byte b) (b == 46) (outer_no_metric b h).0).0
 
 pub outer_no_digit : (b : ℕ) → is_inner b ≡ false → is_digit b ≡ false
-outer_no_digit b h = (neither (is_letter b) (is_digit b) (outer_no_word b h)).1
+outer_no_digit b h = (or_false (is_letter b) (is_digit b) (outer_no_word b h)).1
 
 -- blanks
 abbrev pub AreBlanks : List ℕ → Type 0
@@ -213,7 +206,7 @@ NamedSpan text x z =
 abbrev pub NameSpan : List ℕ → List ℕ → Type 0
 NameSpan x z = Token name_at x z
 
--- signs: neither blanks nor what goes on a name
+-- signs: or_false blanks nor what goes on a name
 abbrev pub IsSign : ℕ → Type 0
 IsSign b = (is_inner b ≡ false) × ((is_blank b ≡ false) × ((b == b ≡ true) × (0 == b ≡ false)))
 
@@ -237,9 +230,6 @@ sign_text b h bs e = blanks_before bs (b ∷ []) e (sign_over b bs e) (one_sign 
 pub sign_default : (b : ℕ) → IsSign b → NoQuotes (b ∷ []) → Default (Text Parted true (SignSpan b))
 sign_default b h p = record { text = b ∷ []; plain = p; is = one_sign b h }
 
-pub equal_byte : (a b : ℕ) → (a == b) ≡ true → a ≡ b
-equal_byte a b h = grind (arith, nat_tests)
-
 pub sign_cut : (b : ℕ) → IsSign b → (s : Rest) → (head (skip s) == b) ≡ true → Cut (Text Parted true (SignSpan b)) s
     (behind (skip s))
 sign_cut b h s e =
@@ -247,7 +237,7 @@ sign_cut b h s e =
     cut_before {N = Text Parted true (SignSpan b)} s (skip s) (behind (skip s)) c.front c.bytes c.place
     (cut_as (skip s) (behind (skip s)) (byte_cut (λ x. x == b) h.1.1.1 (skip s) e)
     (λ w f. subst (λ v. Text Parted true (SignSpan b) (c.front ++ v))
-    (ap (λ x. x ∷ []) (sym (equal_byte (head (skip s)) b e)) ∙ sym f) (sign_text b h c.front c.is)))
+    (ap (λ x. x ∷ []) (sym (equal_numbers (head (skip s)) b e)) ∙ sym f) (sign_text b h c.front c.is)))
 
 pub sign_ends : (b : ℕ) (w : What) → IsSign b → IsBare w (b ∷ []) → (s : Rest) →
     Leaves (Text Parted true (SignSpan b)) s (sign b w s)
@@ -278,10 +268,10 @@ pub word_from : (w : What) (cs : List ℕ) → (w ≡ what.Text → ⊥) → all
 word_from w [] o h s m v before b begun e p q u k =
     record { way = record { front = v; bytes = e; place = p; is = sym (append-nil v) } }
 word_from w (c ∷ cs) o h s m v before b begun e p q u k =
-    let nonzero = both_hold (0 == c) (all_nonzero cs) h in
+    let nonzero = not_false (0 == c) (all_nonzero cs) h in
     if_ends s (head m == c) (exact w cs (behind m)) (Err (unexpected_fault w m))
     (λ g. let next = byte_cut (λ x. x == c) nonzero.0 m g in
-    let first : next.front ≡ c ∷ [] = next.is ∙ ap (λ x. x ∷ []) (equal_byte (head m) c g) in
+    let first : next.front ≡ c ∷ [] = next.is ∙ ap (λ x. x ∷ []) (equal_numbers (head m) c g) in
     ends_as s (exact w cs (behind m))
     (word_from w cs o nonzero.1 s (behind m) (v ++ c ∷ []) before b (begun ++ c ∷ [])
     (e ∙ ap (λ t. v ++ t) (next.bytes ∙ ap (λ t. t ++ (behind m).bytes) first)
@@ -300,11 +290,11 @@ pub exact_ends : {L : List ℕ → Type 0} (w : What) (c : ℕ) (cs : List ℕ) 
     WordOf w c cs → ((bs : List ℕ) → AreBlanks bs → L (bs ++ c ∷ cs)) → (s : Rest) →
     Leaves L s (exact w (c ∷ cs) (skip s))
 exact_ends {L = L} w c cs h k f s =
-    let nonzero = both_hold (0 == c) (all_nonzero cs) h in
+    let nonzero = not_false (0 == c) (all_nonzero cs) h in
     if_ends s (head (skip s) == c) (exact w cs (behind (skip s))) (Err (unexpected_fault w (skip s)))
     (λ g. let next = first_cut (λ x. x == c) nonzero.0 s g in
     let front : next.front ≡ next.is.0 ++ c ∷ [] =
-    next.is.1.1 ∙ ap (λ x. next.is.0 ++ x ∷ []) (equal_byte (head (skip s)) c g) in
+    next.is.1.1 ∙ ap (λ x. next.is.0 ++ x ∷ []) (equal_numbers (head (skip s)) c g) in
     let whole : (u : List ℕ) → u ≡ next.front ++ cs → L u = λ u e. subst L
     (sym (e ∙ ap (λ t. t ++ cs) front ∙ append_assoc next.is.0 (c ∷ []) cs)) (f next.is.0 next.is.1.0) in
     ends_as s (exact w cs (behind (skip s)))
@@ -399,7 +389,7 @@ one_name (c ∷ w) h e = record {
   fills = λ z stops at. (
     (at + length (c ∷ w), at),
     ap (λ t. if is_letter (head t) then Some (word_here t) else None)
-        (skip_off (at_place at (c ∷ (w ++ z))) (letter_not_blank c e))
+        (skip_off (at_place at (c ∷ (w ++ z))) (letter_no_blank c e))
         ∙ ap (λ t. if t then Some (word_here (at_place at (c ∷ (w ++ z)))) else None) e
         ∙ ap (λ t. Some (record { at = at; text = t }, behind_word at (c ∷ (w ++ z))))
         (whole_word (c ∷ w) z h (outer_no_word (first_of z) stops))

@@ -10,6 +10,7 @@ use Rattle.mql_ast.specs.Grammar.{how_word}
 use Rattle.mql_parse.specs.declared.faults.What.{What}
 use Rattle.mql_parse.specs.declared.faults.What.TheVariants as what
 use Rattle.mql_parse.specs.FaultTokens.{IsOneOf, aligner_words, fold_words, operation_words, IsBare}
+use Rattle.mql_parse.proofs.FollowTokens.{not_false}
 
 -- whether all was read
 abbrev pub whole : {A : Type 0} → Option (A × Rest) → Bool
@@ -29,7 +30,7 @@ abbrev is_one_of : List (List ℕ) → List ℕ → Bool
 is_one_of [] t = false
 is_one_of (word ∷ words) t = same_bytes t word || is_one_of words t
 
-or_second : (a b : Bool) → b ≡ true → (a || b) ≡ true
+pub or_second : (a b : Bool) → b ≡ true → (a || b) ≡ true
 or_second true b h = refl
 or_second false b h = h
 
@@ -54,16 +55,12 @@ abbrev fronts_open : List (List ℕ) → List ℕ → List ℕ → Bool
 fronts_open words begun [] = true
 fronts_open words begun (c ∷ cs) = not (is_one_of words begun) && fronts_open words (begun ++ c ∷ []) cs
 
-pub both_hold : (a b : Bool) → (not a && b) ≡ true → (a ≡ false) × (b ≡ true)
-both_hold true b h = absurd (false≢true h)
-both_hold false b h = (refl, h)
-
 -- where tokens of the kind are words
 module _ (w : What) (words : List (List ℕ)) (one_of : (t : List ℕ) → IsBare w t → IsOneOf words t) where
   fronts_of : (begun cs : List ℕ) → fronts_open words begun cs ≡ true → Fronts w begun cs
   fronts_of begun [] h = tt
   fronts_of begun (c ∷ cs) h =
-      let k = both_hold (is_one_of words begun) (fronts_open words (begun ++ c ∷ []) cs) h in
+      let k = not_false (is_one_of words begun) (fronts_open words (begun ++ c ∷ []) cs) h in
       ((λ t. false≢true (sym k.0 ∙ one_found words begun (one_of begun t))), fronts_of (begun ++ c ∷ []) cs k.1)
 
   word_of : (c : ℕ) (cs : List ℕ) → (w ≡ what.Text → ⊥) → IsBare w (c ∷ cs) → fronts_open words (c ∷ []) cs ≡ true →

@@ -15,6 +15,7 @@ use Rattle.mql_parse.specs.Faults.{OutsideKind}
 use Rattle.mql_parse.proofs.KindFits.{Outside, Fits, PassFits, outside_itself, outside_before, pass_before, bind_fits}
 use Rattle.mql_parse.proofs.KindFits.{map_fits, pass_then, if_fits, if_pass, byte_outside, skip_outside, part_outside}
 use Rattle.mql_parse.proofs.KindFits.{behind_fits, skip_fits, part_fits, unexpected_fits, unexpected_next, fault_fits}
+use Rattle.mql_parse.proofs.TokenFronts.{or_second}
 
 -- neither a quote nor none
 abbrev pub plain_bytes : List ℕ → Bool
@@ -92,17 +93,12 @@ metric_fits s =
     (λ slash. map_fits None slash (metric_name (skip s).at) (reading.metric_from true slash.at slash.bytes)
     (metric_from_fits true slash.at slash.bytes)))
 
--- digits and units are of the alphabet
-either_true : (a b : Bool) → b ≡ true → (a || b) ≡ true
-either_true true b h = refl
-either_true false b h = h
-
 word_in_alphabet : (b : ℕ) → is_word_byte b ≡ true → is_alphabet b ≡ true
 word_in_alphabet b h = ap (λ t. t || is_blank b || is_sign b) h
 
 digit_kind : (b : ℕ) → is_digit b ≡ true → OutsideKind (is_alphabet b) b NumberTooLarge
 digit_kind b h = subst (λ t. OutsideKind t b NumberTooLarge)
-    (sym (word_in_alphabet b (either_true (is_letter b) (is_digit b) h))) (ap (λ t. t || not (unit_seconds b == 0)) h)
+    (sym (word_in_alphabet b (or_second (is_letter b) (is_digit b) h))) (ap (λ t. t || not (unit_seconds b == 0)) h)
 
 abbrev is_unit : ℕ → Bool
 is_unit b = not (unit_seconds b == 0)
@@ -124,7 +120,7 @@ unit_letter b =
 
 unit_kind : (b : ℕ) → is_unit b ≡ true → OutsideKind (is_alphabet b) b NumberTooLarge
 unit_kind b h = subst (λ t. OutsideKind t b NumberTooLarge)
-    (sym (word_in_alphabet b (ap (λ t. t || is_digit b) (unit_letter b h)))) (either_true (is_digit b) (is_unit b) h)
+    (sym (word_in_alphabet b (ap (λ t. t || is_digit b) (unit_letter b h)))) (or_second (is_digit b) (is_unit b) h)
 
 -- numbers
 digits_fits : (most value at : ℕ) (bs : List ℕ) → Fits None (record { at = at; bytes = bs })

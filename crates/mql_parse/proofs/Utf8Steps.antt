@@ -7,8 +7,7 @@ use Rattle.std.specs.Char.{IsScalar, encode_utf8}
 use Rattle.std.proofs.lemmas.Bool.{le-ltb, lt-ltb}
 use Rattle.std.proofs.lemmas.Bool.Decides.{nat_tests}
 use Rattle.std.proofs.lemmas.Str.{IsUtf8-append, IsUtf8-encode}
-use Rattle.mon_value.specs.Values.{text_in}
-use Rattle.mon_value.proofs.TextLemmas.{text_in-IsUtf8}
+use Rattle.mql_parse.proofs.Within.{some_test}
 use Rattle.mql_ast.specs.Quotes.{Open, Whole, Escape, More, begins_long_character, begins_character, further, TextStep}
 use Rattle.mql_ast.specs.Quotes.{TextEnd, TextPass, TextKeep, TextBad, kept_open, text_step, Sign, Plain, Dot}
 use Rattle.mql_ast.specs.Quotes.{Backslash}
@@ -116,11 +115,6 @@ further_open (suc n) t h = subst (λ u. LeavesOpen u t) (sym (several_further n)
 
 between : (low b high : ℕ) → (nat_le low b && nat_le b high) ≡ true → (low ≤ b) × (b ≤ high)
 between low b high h = (grind (arith, nat_tests), grind (arith, nat_tests))
-
-some_test : {A : Type 0} (t : Bool) (o p : Option A) (P : A → Type 0) → (t ≡ true → IfSome o P) →
-    (t ≡ false → IfSome p P) → IfSome (if t then o else p) P
-some_test true o p P f g = f refl
-some_test false o p P f g = g refl
 
 long_opens : (b : ℕ) (t : List ℕ) → IsUtf8 t → IfSome (begins_long_character b) (λ u. LeavesOpen u (t ++ b ∷ []))
 long_opens b t u =
@@ -267,7 +261,3 @@ pattern_step_opens (More (suc n) low high) mark b t h =
     sign_test (nat_le low b && nat_le b high) _ _ b t
     (λ e. let r = between low b high e in plain_sign (further (suc n)) (t ++ b ∷ [])
     (further_open n (t ++ b ∷ []) (h.1 b r.0 r.1))) (λ _. tt)
-
--- what was read of a text may end
-pub text_may_end : (t : List ℕ) → IsUtf8 t → text_in t ≡ Some t
-text_may_end t h = text_in-IsUtf8 t h

@@ -1,5 +1,5 @@
 -- What was read of a comparison or a value before its fault can be completed.
-use Rattle.std.proofs.Common.{◌≡◌, inl, inr, ℕ, ℤ, ◌+◌, Bool, true, false, ◌==◌, ◌||◌, ◌&&◌, not as not', pos, ◌-◌}
+use Rattle.std.proofs.Common.{◌≡◌, inl, inr, ℕ, ℤ, ◌+◌, Bool, true, false, ◌==◌, ◌||◌, ◌&&◌, not as not', ◌-◌}
 use Rattle.std.proofs.Common.{◌^◌, List, [], ◌∷◌, ◌++◌, length, codes, refl, sym, ap, ◌∙◌, subst, if◌then◌else◌}
 use Rattle.std.proofs.Common.{append_assoc, Option, Some, None, option_and_then, Ok, Err, arith}
 use Rattle.std.proofs.lemmas.List.{append-nil}
@@ -9,8 +9,8 @@ use Rattle.mon_value.specs.declared.values.FieldValue.{FieldValue}
 use Rattle.mon_value.specs.declared.values.FieldValue.TheVariants as field
 use Rattle.mql_ast.specs.declared.predicates.Comparison.{Comparison}
 use Rattle.mql_ast.specs.declared.predicates.Comparison.TheVariants as comparison
-use Rattle.mql_ast.specs.Tokens.{is_blank, is_digit, Rest, first_of, head, behind, skip, keyword_at, number_at}
-use Rattle.mql_ast.specs.Tokens.{signed_at, minus}
+use Rattle.mql_ast.specs.Tokens.{is_blank, is_digit, Rest, first_of, head, behind, skip, keyword_at}
+use Rattle.mql_ast.specs.Tokens.{signed_at}
 use Rattle.mql_ast.specs.Quotes as quotes
 use Rattle.mql_ast.specs.Quotes.{text_at, pattern_at, Whole, Plain}
 use Rattle.mql_ast.specs.Grammar.{comparison_at, and_equal, or_equal, literal_at}
@@ -32,6 +32,8 @@ use Rattle.mql_parse.proofs.NumberEndings.{signed_ends, signed_default}
 use Rattle.mql_parse.proofs.MetricEndings.{if_bind}
 use Rattle.mql_parse.proofs.TextEndings.{TextRest, PatternRest, text_rest_ends, no_text}
 use Rattle.mql_parse.proofs.TokenHalts.{halts_end}
+use Rattle.mon_value.proofs.PlainLemmas.{equal_numbers}
+use Rattle.mql_parse.proofs.Complete.{signed_begins}
 
 -- comparisons
 abbrev comparison_of : Rest → Option (Comparison × Rest)
@@ -103,9 +105,6 @@ only_greater z h at = (
 at_least : Compares comparison.AtLeast (62 ∷ 61 ∷ [])
 at_least z h at = (at + 1 + 1, refl)
 
-same_bytes : (a b : ℕ) → (a == b) ≡ true → a ≡ b
-same_bytes a b h = grind (arith, nat_tests)
-
 -- a first byte behind blanks, and what stands behind it
 abbrev pub FirstByte : ℕ → List ℕ → Type 0
 FirstByte b v = (bs : List ℕ) × (AreBlanks bs × (v ≡ bs ++ b ∷ []))
@@ -114,11 +113,11 @@ pub first_is : (b : ℕ) → (0 == b) ≡ false → (s : Rest) → (head (skip s
     Cut (FirstByte b) s (behind (skip s))
 first_is b z s h =
     cut_as s (behind (skip s)) (first_cut (λ x. x == b) z s h)
-    (λ w f. (f.0, (f.1.0, f.1.1 ∙ ap (λ x. f.0 ++ x ∷ []) (same_bytes (head (skip s)) b h))))
+    (λ w f. (f.0, (f.1.0, f.1.1 ∙ ap (λ x. f.0 ++ x ∷ []) (equal_numbers (head (skip s)) b h))))
 
 pub byte_is : (b : ℕ) → (0 == b) ≡ false → (s : Rest) → (head s == b) ≡ true → Cut (λ w. w ≡ b ∷ []) s (behind s)
 byte_is b z s h =
-    cut_as s (behind s) (byte_cut (λ x. x == b) z s h) (λ w f. f ∙ ap (λ x. x ∷ []) (same_bytes (head s) b h))
+    cut_as s (behind s) (byte_cut (λ x. x == b) z s h) (λ w f. f ∙ ap (λ x. x ∷ []) (equal_numbers (head s) b h))
 
 -- the same text, the first byte with the others
 pub first_joined : (L : List ℕ → Type 0) (b : ℕ) (v u cs : List ℕ) (c : FirstByte b v) → u ≡ cs →
@@ -280,22 +279,10 @@ number_begins b x y z h = either (b == 48) (is_digit b) (digit_zero b) h
     either false true f g = refl
     either false false f g = absurd (cc)
 
-some_before : {A B : Type 0} (o : Option A) (f : A → Option B) (y : B) → option_and_then f o ≡ Some y →
+pub some_before : {A B : Type 0} (o : Option A) (f : A → Option B) (y : B) → option_and_then f o ≡ Some y →
     (x : A) × (o ≡ Some x)
 some_before None f y h = absurd (cc)
 some_before (Some x) f y h = (x, refl)
-
-signed_begins : (s : Rest) (x : ℤ × Rest) → signed_at s ≡ Some x →
-    (head (skip s) == 45 || is_digit (head (skip s))) ≡ true
-signed_begins s x f = either (head (skip s) == 45) f
-  where
-    either : (t : Bool) →
-        (if t then option_and_then (λ n. Some (minus n.0, n.1)) (number_at (2 ^ 63) (behind (skip s))) else
-        option_and_then (λ n. Some (pos n.0, n.1)) (number_at (2 ^ 63 - 1) s)) ≡ Some x →
-        (t || is_digit (head (skip s))) ≡ true
-    either true h = refl
-    either false h = let n = some_before (number_at (2 ^ 63 - 1) s) (λ n. Some (pos n.0, n.1)) x h in
-        number_begins (head (skip s)) _ _ n.0 n.1
 
 fourth : {A : Type 0} (a b c e : Bool) (p q r o n : A) → a ≡ false → b ≡ false → c ≡ false → e ≡ true →
     (if a then p else (if b then q else (if c then r else (if e then o else n)))) ≡ o
@@ -381,7 +368,7 @@ no_equals x z k = either (first_of x == 61) refl
     either : (t : Bool) → (first_of x == 61) ≡ t → t ≡ false
     either false e = refl
     either true e =
-        let same : first_of x ≡ 61 = same_bytes (first_of x) 61 e in
+        let same : first_of x ≡ 61 = equal_numbers (first_of x) 61 e in
         let here : head (skip (at_place 0 x)) ≡ 61 = ap head (skip_off (at_place 0 x) (ap is_blank same)) ∙ same in
         let none : literal_at (at_place 0 x) ≡ None = ap (value_by (at_place 0 x)) here in
         let some = (k 0).1 in absurd (cc)

@@ -20,7 +20,7 @@ some_if true o p P f g = f
 some_if false o p P f g = g
 
 -- the same where the test tells the one side more
-some_test : {A : Type 0} (t : Bool) (o p : Option A) (P : A → Type 0) → (t ≡ true → IfSome o P) →
+pub some_test : {A : Type 0} (t : Bool) (o p : Option A) (P : A → Type 0) → (t ≡ true → IfSome o P) →
     (t ≡ false → IfSome p P) → IfSome (if t then o else p) P
 some_test true o p P f g = f refl
 some_test false o p P f g = g refl

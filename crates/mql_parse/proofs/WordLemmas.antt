@@ -1,8 +1,7 @@
 -- Words and digits, one byte more.
-use Rattle.std.proofs.Common.{◌≡◌, ℕ, ◌+◌, ◌<◌, true, false, List, [], ◌∷◌, length, refl, ap, if◌then◌else◌}
+use Rattle.std.proofs.Common.{◌≡◌, ℕ, ◌+◌, ◌<◌, true, List, [], ◌∷◌, length, refl, ap, if◌then◌else◌}
 use Rattle.std.proofs.lemmas.Bool.{false≢true}
 use Rattle.mql_ast.specs.Tokens.{is_word_byte, is_digit, Rest, first_of, behind_first, head, behind, word_bytes}
-use Rattle.mql_ast.specs.Tokens.{behind_word}
 use Rattle.mql_parse.proofs.RestLemmas.{tested_shorter}
 
 pub word_shorter : (s : Rest) → is_word_byte (head s) ≡ true → length (behind s).bytes < length s.bytes
@@ -15,12 +14,3 @@ pub word_bytes_on : (at : ℕ) (bs : List ℕ) → is_word_byte (first_of bs) �
     word_bytes bs ≡ first_of bs ∷ word_bytes (behind_first at bs).bytes
 word_bytes_on at [] h = absurd (false≢true h)
 word_bytes_on at (b ∷ bs) h = ap (λ t. if t then b ∷ word_bytes bs else []) h
-
-pub word_bytes_off : (bs : List ℕ) → is_word_byte (first_of bs) ≡ false → word_bytes bs ≡ []
-word_bytes_off [] h = refl
-word_bytes_off (b ∷ bs) h = ap (λ t. if t then b ∷ word_bytes bs else []) h
-
-pub behind_word_off : (at : ℕ) (bs : List ℕ) → is_word_byte (first_of bs) ≡ false →
-    behind_word at bs ≡ record { at = at; bytes = bs }
-behind_word_off at [] h = refl
-behind_word_off at (b ∷ bs) h = ap (λ t. if t then behind_word (at + 1) bs else record { at = at; bytes = b ∷ bs }) h

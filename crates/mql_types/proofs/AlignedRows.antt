@@ -46,15 +46,15 @@ use Rattle.mql_types.proofs.AlignedValues.{series_within, sum_of_values, valued,
 use Rattle.mql_types.proofs.FetchedPoints.{IsRowOf, IsSeriesOf, series_columns, series_small, series_typed}
 use Rattle.mql_types.proofs.FetchedPoints.{value_small, value_typed}
 use Rattle.mql_types.proofs.GroupSums.{key_sums_within, keys_apart}
-use Rattle.mql_types.proofs.JoinedRows.{FitColumns-append, FitWidths-append, IsRowWide, all-both, all-flat_map}
+use Rattle.mql_types.proofs.JoinedRows.{FitColumns-append, FitWidths-append, IsRowWide, all-flat_map}
 use Rattle.mql_types.proofs.JoinedRows.{all-made, all-map, column_of_all, place_bound}
-use Rattle.mql_types.proofs.KeptRows.{all-append, all-filter, sum_by-flat_map}
-use Rattle.mql_types.proofs.MadeCells.{Side, back, front, get_back, length_fit, nothing_is, same_item, side_of}
+use Rattle.mql_types.proofs.KeptRows.{all-filter, sum_by-flat_map}
+use Rattle.mql_types.proofs.MadeCells.{Side, back, front, length_fit, side_of}
 use Rattle.mql_types.proofs.MadeCells.{sums_less}
 use Rattle.mql_types.proofs.SumBounds.{AreLawful, IsSound}
 use Rattle.mql_types.proofs.Totals.{counted, sum_by-filter-le, totals_from}
 use Rattle.mql_types.proofs.ValueRows.{FitsBoth}
-use Rattle.mql_types.proofs.GroupedRows.{sum_by-map}
+use Rattle.mon_value.proofs.PlainLemmas.{get_back, nothing_is, all_both, sum_by-map, all_append, same_item}
 
 -- ---- series of a source
 
@@ -266,7 +266,7 @@ series_rows target metric by grid rows own =
     (aligned_values by grid series.1)
     (λ timed fit. row_fits by target metric series.0 p.0.key part (omega (arith, p.1, most)) timed fit)
     (aligned_fit grid own.lawful by metric.value own.takes series.1 p.0.points))
-    (all-both (SeriesFits target metric)
+    (all_both (SeriesFits target metric)
     (λ (series : SeriesKey × List Point). sum_by (reached grid by) series.1 ≤ whole) (points_by_series rows)
     (series_fit target metric rows own.fit) (weights grid by rows))
 
@@ -336,11 +336,11 @@ metric_wide (f ∷ fs) = (omega arith, metric_wide fs)
 series_wide : (target : TargetSchema) (metric : MetricSchema)
     → AllByRecursion IsRowWide (series_columns target metric)
 series_wide target metric =
-    all-append IsRowWide (target_columns target.name 0 target.fields) (map (key_column None) metric.fields)
+    all_append IsRowWide (target_columns target.name 0 target.fields) (map (key_column None) metric.fields)
     (target_wide target.name 0 target.fields)
     (metric_wide metric.fields)
 
-bits_more : (n cell total : ℕ) → n ≤ 2 ^ (cell + 24) → cell + 24 ≤ total → n ≤ 2 ^ total
+pub bits_more : (n cell total : ℕ) → n ≤ 2 ^ (cell + 24) → cell + 24 ≤ total → n ≤ 2 ^ total
 bits_more n cell total h wide = omega (arith, h, pow-le-pow_right {n = 2} (omega arith) wide)
 
 get_same : {A : Type 0} (xs ys : List A) (place : ℕ) (x y : A) → slice_get xs place ≡ Some x
@@ -455,7 +455,7 @@ can_align target metric by grid rows fit few lawful duration takes =
     (λ (series : SeriesKey × List Point). CanAlign by grid series.1) (points_by_series rows)
     (λ series p. series_can grid lawful by duration metric.value takes series.1 p.0.points
     (omega (arith, p.1, most)))
-    (all-both (SeriesFits target metric)
+    (all_both (SeriesFits target metric)
     (λ (series : SeriesKey × List Point). sum_by (reached grid by) series.1 ≤ whole) (points_by_series rows)
     (series_fit target metric rows fit) (weights grid by rows))
 
@@ -499,8 +499,8 @@ pub aligned_lawful : (target : TargetSchema) (metric : MetricSchema) (by : Align
     → AreLawful (map (aligned_column by) (columns_fetched target metric))
 aligned_lawful target metric by numbers bounded =
     subst AreLawful (aligned_are by target metric)
-    (all-append IsSound (series_columns target metric) (with_width (aligned_width by) (value_column metric) ∷ [])
-    (all-append IsSound (target_columns target.name 0 target.fields) (map (key_column None) metric.fields)
+    (all_append IsSound (series_columns target metric) (with_width (aligned_width by) (value_column metric) ∷ [])
+    (all_append IsSound (target_columns target.name 0 target.fields) (map (key_column None) metric.fields)
     (target_sound target.name 0 target.fields)
     (metric_sound metric.fields))
     (last_sound by metric numbers bounded, tt))

@@ -26,13 +26,13 @@ use Rattle.mon_value.specs.declared.values.Value.{Value}
 use Rattle.mon_value.specs.declared.values.Value.TheVariants as value
 use Rattle.mon_value.specs.declared.values.ValueType.{ValueType}
 use Rattle.mon_value.specs.declared.values.ValueType.TheVariants as type
-use Rattle.mon_value.proofs.SameLemmas.{both, join}
+use Rattle.mon_value.proofs.SameLemmas.{join}
 use Rattle.mon_schema.specs.Faults.{is_kind_met}
 use Rattle.mql_types.proofs.FoldedValues.{Folded, merge_folded, sum_folded}
 use Rattle.mql_types.proofs.JoinedRows.{all-map, all-made}
-use Rattle.mql_types.proofs.KeptRows.{all-append, all-filter}
-use Rattle.mql_types.proofs.MadeCells.{nothing_is, same_item}
+use Rattle.mql_types.proofs.KeptRows.{all-filter}
 use Rattle.mql_types.proofs.SumBounds.{amount}
+use Rattle.mon_value.proofs.PlainLemmas.{nothing_is, and_both, all_append, same_item}
 
 -- ---- what an aligner makes of points
 
@@ -175,7 +175,7 @@ window_reached : (grid : Grid) (by : Aligner) (time : ℤ) → IsBetween grid ti
     → ends_within time (seconds_of by) point ≡ true
     → is_in_reach grid by point ≡ true
 window_reached grid by time between point e =
-    let parts = both (int_lt (time -ℤ seconds_of by) point.end) (int_le point.end time) e in
+    let parts = and_both (int_lt (time -ℤ seconds_of by) point.end) (int_le point.end time) e in
     reach_by (least_time grid) time (seconds_of by) point.end grid.moment between.0 between.1 parts.0 parts.1
 
 window_step : (b c : Bool) (point : Point) (some : List Point) (rest : ℕ) → (b ≡ true → c ≡ true)
@@ -320,7 +320,7 @@ all_timed : (P : Value → Type 0) (by : Aligner) (points : List Point) (n : ℕ
     → AllByRecursion (λ (timed : TimedValue). P timed.value) (values_back by points n t e)
 all_timed P by points zero t e all = tt
 all_timed P by points (suc n) t e all =
-    all-append (λ (timed : TimedValue). P timed.value) (timed_values t (value_at by points t))
+    all_append (λ (timed : TimedValue). P timed.value) (timed_values t (value_at by points t))
     (values_back by points n (t -ℤ e) e)
     (by_value (value_at by points t) all.0) (all_timed P by points n (t -ℤ e) e all.1)
   where

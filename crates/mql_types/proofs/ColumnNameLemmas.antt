@@ -6,18 +6,11 @@ use Rattle.std.specs.List.{list_any}
 use Rattle.mon_schema.specs.Faults.{texts_repeat}
 use Rattle.mon_value.specs.Same.{same_text}
 use Rattle.mql_types.specs.Items.{is_taken, with_name}
+use Rattle.mon_value.proofs.PlainLemmas.{or_false, or_assoc}
 
 -- whether one of the names is taken, or stands twice
 abbrev pub repeats_behind : List (List ℕ) → List (List ℕ) → Bool
 repeats_behind taken names = list_any (λ name. is_taken name taken) names || texts_repeat names
-
-or_false : (a : Bool) → (a || false) ≡ a
-or_false true = refl
-or_false false = refl
-
-or_assoc : (a b c : Bool) → ((a || b) || c) ≡ (a || (b || c))
-or_assoc true b c = refl
-or_assoc false b c = refl
 
 -- of four tests, the two in the middle change places
 or_swap : (a b c d : Bool) → ((a || b) || (c || d)) ≡ ((a || c) || (b || d))

@@ -21,7 +21,7 @@ use Rattle.mql_types.specs.Typing.{source_faults, source_part, typed_query, typi
 
 -- ---- no faults
 
-both_none : (some more : List TypeFault) → some ++ more ≡ [] → (some ≡ []) × (more ≡ [])
+pub both_none : (some more : List TypeFault) → some ++ more ≡ [] → (some ≡ []) × (more ≡ [])
 both_none [] more e = (refl, e)
 both_none (fault ∷ some) more e = absurd (cc)
 

@@ -23,7 +23,7 @@ use Rattle.mon_value.specs.declared.values.Value.{Value}
 use Rattle.mon_value.specs.declared.values.Value.TheVariants as value
 use Rattle.mon_value.specs.declared.values.ValueType.{ValueType}
 use Rattle.mon_value.specs.declared.values.ValueType.TheVariants as type
-use Rattle.mon_value.proofs.SameLemmas.{both, same_text-Decides}
+use Rattle.mon_value.proofs.SameLemmas.{same_text-Decides}
 use Rattle.mon_schema.specs.Fits.{field_fits, fields_fit, fits, fits_both, row_fits, times_fit, value_fits}
 use Rattle.mon_schema.specs.Names.{SchemaLists, metric_named, target_named}
 use Rattle.mql_ast.specs.Rows.{cell_named, column_named, place_of, FitWidths, is_compared, is_like, is_passed}
@@ -34,8 +34,9 @@ use Rattle.mql_types.specs.Fetches.{columns_fetched, field_value_type, key_colum
 use Rattle.mql_types.specs.Meaning.{is_key_name, lets_in, names_keys, series_cells, is_fetched, is_point_kept}
 use Rattle.mql_types.proofs.JoinedRows.{FitColumns-append, FitWidths-append}
 use Rattle.mql_types.proofs.KnownSums.{cell_of}
-use Rattle.mql_types.proofs.MadeCells.{Side, back, front, get_front, nothing_is, same_item, side_of}
+use Rattle.mql_types.proofs.MadeCells.{Side, back, front, side_of}
 use Rattle.mql_types.proofs.SumBounds.{number_within}
+use Rattle.mon_value.proofs.PlainLemmas.{get_front, nothing_is, and_both, same_item}
 use Rattle.std.proofs.lemmas.Bool.{eqb-true, ltb-true}
 
 -- ---- rows of a target schema and a metric
@@ -52,11 +53,11 @@ pub record IsRowOf (target : TargetSchema) (metric : MetricSchema) (row : Row) :
 pub row_of_schemas : (target : TargetSchema) (metric : MetricSchema) (row : Row) → row_fits target metric row ≡ true
     → IsRowOf target metric row
 row_of_schemas target metric row e =
-    let parts = both (fields_fit target.fields row.key.target.fields && fields_fit metric.fields row.key.fields)
+    let parts = and_both (fields_fit target.fields row.key.target.fields && fields_fit metric.fields row.key.fields)
     (times_fit metric.kind row.point.start row.point.end && value_fits metric.value row.point.value) e in
-    let fields = both (fields_fit target.fields row.key.target.fields) (fields_fit metric.fields row.key.fields)
+    let fields = and_both (fields_fit target.fields row.key.target.fields) (fields_fit metric.fields row.key.fields)
     parts.0 in
-    let point = both (times_fit metric.kind row.point.start row.point.end) (value_fits metric.value row.point.value)
+    let point = and_both (times_fit metric.kind row.point.start row.point.end) (value_fits metric.value row.point.value)
     parts.1 in
     record {
       series = record { target_fields = fields.0; fields = fields.1 };
@@ -69,7 +70,7 @@ pub fetched_row : (held : SchemaLists) (schema metric : List ℕ) (target : Targ
     → fits held row ≡ true
     → is_fetched schema metric row.key ≡ true → IsRowOf target found row
 fetched_row held schema metric target found t m row e fetched =
-    let parts = both (same_text schema row.key.target.schema) (same_text metric row.key.metric) fetched in
+    let parts = and_both (same_text schema row.key.target.schema) (same_text metric row.key.metric) fetched in
     let schema_same : schema ≡ row.key.target.schema = (same_text-Decides schema row.key.target.schema).0 parts.0 in
     let metric_same : metric ≡ row.key.metric = (same_text-Decides metric row.key.metric).0 parts.1 in
     let targets : target_named row.key.target.schema held.targets ≡ Some target =
@@ -112,7 +113,7 @@ target_typed schema next [] [] e = tt
 target_typed schema next [] (v ∷ vs) e = absurd cc
 target_typed schema next (f ∷ fs) [] e = absurd cc
 target_typed schema next (f ∷ fs) (v ∷ vs) e =
-    let parts = both (field_fits f.of v) (fields_fit fs vs) e in
+    let parts = and_both (field_fits f.of v) (fields_fit fs vs) e in
     (field_typed f.of v parts.0, target_typed schema (next + 1) fs vs parts.1)
 
 target_small : (schema : List ℕ) (next : ℕ) (fields : List Field) (values : List FieldValue)
@@ -121,7 +122,7 @@ target_small : (schema : List ℕ) (next : ℕ) (fields : List Field) (values : 
 target_small schema next [] values e = tt
 target_small schema next (f ∷ fs) [] e = tt
 target_small schema next (f ∷ fs) (v ∷ vs) e =
-    let parts = both (field_fits f.of v) (fields_fit fs vs) e in
+    let parts = and_both (field_fits f.of v) (fields_fit fs vs) e in
     (field_small f.of v parts.0, target_small schema (next + 1) fs vs parts.1)
 
 metric_typed : (fields : List Field) (values : List FieldValue) → fields_fit fields values ≡ true
@@ -130,7 +131,7 @@ metric_typed [] [] e = tt
 metric_typed [] (v ∷ vs) e = absurd cc
 metric_typed (f ∷ fs) [] e = absurd cc
 metric_typed (f ∷ fs) (v ∷ vs) e =
-    let parts = both (field_fits f.of v) (fields_fit fs vs) e in
+    let parts = and_both (field_fits f.of v) (fields_fit fs vs) e in
     (field_typed f.of v parts.0, metric_typed fs vs parts.1)
 
 metric_small : (fields : List Field) (values : List FieldValue) → fields_fit fields values ≡ true
@@ -138,7 +139,7 @@ metric_small : (fields : List Field) (values : List FieldValue) → fields_fit f
 metric_small [] values e = tt
 metric_small (f ∷ fs) [] e = tt
 metric_small (f ∷ fs) (v ∷ vs) e =
-    let parts = both (field_fits f.of v) (fields_fit fs vs) e in
+    let parts = and_both (field_fits f.of v) (fields_fit fs vs) e in
     (field_small f.of v parts.0, metric_small fs vs parts.1)
 
 -- the columns of a series' fields
@@ -189,7 +190,7 @@ value_typed (type.Dist bounds) (value.Bool b) e = absurd cc
 value_typed (type.Dist bounds) (value.Text s) e = absurd cc
 value_typed (type.Dist bounds) (value.Dist counts) e =
     eqb-true (length counts) (length bounds + 1)
-    (both (length counts == length bounds + 1) (nat_lt (sum counts) (2 ^ 63)) e).0
+    (and_both (length counts == length bounds + 1) (nat_lt (sum counts) (2 ^ 63)) e).0
 
 pub value_small : (of : ValueType) (v : Value) → value_fits of v ≡ true → magnitude v ≤ 2 ^ 63
 value_small type.Int (value.Int z) e = number_within z e
@@ -211,7 +212,7 @@ value_small (type.Dist bounds) (value.Dist counts) e =
     omega (
       arith,
       ltb-true (sum counts) (2 ^ 63)
-          (both (length counts == length bounds + 1) (nat_lt (sum counts) (2 ^ 63)) e).1,
+          (and_both (length counts == length bounds + 1) (nat_lt (sum counts) (2 ^ 63)) e).1,
     )
 
 -- ---- filters that name keys alone
@@ -279,12 +280,12 @@ truth_same columns v plain cells fit last (tree.Not p) e =
     ap (λ b. not b) (truth_same columns v plain cells fit last p e)
 truth_same columns v plain cells fit last (tree.And p q) e =
     let all = columns ++ v ∷ [] in
-    let parts = both (names_keys all p) (names_keys all q) e in
+    let parts = and_both (names_keys all p) (names_keys all q) e in
     ap (λ b. b && predicate_truth q all (cells ++ last ∷ [])) (truth_same columns v plain cells fit last p parts.0)
     ∙ ap (λ b. predicate_truth p all cells && b) (truth_same columns v plain cells fit last q parts.1)
 truth_same columns v plain cells fit last (tree.Or p q) e =
     let all = columns ++ v ∷ [] in
-    let parts = both (names_keys all p) (names_keys all q) e in
+    let parts = and_both (names_keys all p) (names_keys all q) e in
     ap (λ b. b || predicate_truth q all (cells ++ last ∷ [])) (truth_same columns v plain cells fit last p parts.0)
     ∙ ap (λ b. predicate_truth p all cells || b) (truth_same columns v plain cells fit last q parts.1)
 

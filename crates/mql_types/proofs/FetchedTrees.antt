@@ -7,7 +7,7 @@ use Rattle.mon_value.specs.declared.grids.Grid.{Grid}
 use Rattle.mon_value.specs.declared.rows.Row.{Row}
 use Rattle.mon_value.specs.declared.schemas.MetricSchema.{MetricSchema}
 use Rattle.mon_value.specs.declared.schemas.TargetSchema.{TargetSchema}
-use Rattle.mon_value.proofs.SameLemmas.{both, join}
+use Rattle.mon_value.proofs.SameLemmas.{join}
 use Rattle.mon_schema.specs.Fits.{fits}
 use Rattle.mon_schema.specs.Names.{SchemaLists, metric_named, target_named}
 use Rattle.mql_types.specs.Fetches.{columns_fetched}
@@ -16,6 +16,7 @@ use Rattle.mql_types.specs.Nodes as node
 use Rattle.mql_types.specs.Nodes.{NodeTree, columns_of}
 use Rattle.mql_types.proofs.FetchedPoints.{IsRowOf, fetched_row, kept_let_in}
 use Rattle.mql_types.proofs.JoinedRows.{all-map}
+use Rattle.mon_value.proofs.PlainLemmas.{and_both}
 
 -- a fetch with filters, of schemas that are held
 abbrev pub ArePoints : SchemaLists → TargetSchema → MetricSchema → NodeTree → Type 0
@@ -90,7 +91,7 @@ row_reaches : (held : SchemaLists) (target : TargetSchema) (found : MetricSchema
 row_reaches held target found (node.Fetch info schema metric) own row fit kept =
     record { own = fetched_row held schema metric target found own.1.0 own.1.1 row fit kept; meets = kept }
 row_reaches held target found (node.Filter info by input) own row fit kept =
-    let parts = both (is_kept input row) (is_point_kept by info.columns row) kept in
+    let parts = and_both (is_kept input row) (is_point_kept by info.columns row) kept in
     let below = row_reaches held target found input own.1 row fit parts.0 in
     record {
       own = below.own;

@@ -35,10 +35,12 @@ use Rattle.mql_types.proofs.FoldedValues.{Folded, folded_more, greatest_folded, 
 use Rattle.mql_types.proofs.FoldedValues.{merge_folded, sum_folded}
 use Rattle.mql_types.proofs.JoinedRows.{all-map, column_of_all}
 use Rattle.mql_types.proofs.KnownSums.{cell_of}
-use Rattle.mql_types.proofs.MadeCells.{IsThere, MadeCell, all-filter_map, is_there, same_item}
-use Rattle.mql_types.proofs.SumBounds.{AreLawful, IsLawful, IsSound, amount, none_where}
+use Rattle.mql_types.proofs.MadeCells.{IsThere, MadeCell, all-filter_map, is_there}
+use Rattle.mql_types.proofs.SumBounds.{AreLawful, IsLawful, IsSound, amount}
 use Rattle.mql_types.proofs.Totals.{by_cell, cell_within, counted}
 use Rattle.mql_types.proofs.ValueRows.{FitsBoth, alone_total}
+use Rattle.mon_value.proofs.PlainLemmas.{same_item}
+use Rattle.mql_types.proofs.TypedGridLemmas.{no_test}
 
 -- ---- the rows of a group
 
@@ -69,7 +71,7 @@ values_fit columns place c e rows fit =
     (λ (row : TimedRow). slice_get row.cells place) rows
     (λ row v p is. value_fits columns place c e row v p is) fit
 
-cons_some : (o : Option Value) (values : List Value) → IsThere o → 0 < length (cons_option o values)
+pub cons_some : (o : Option Value) (values : List Value) → IsThere o → 0 < length (cons_option o values)
 cons_some None values there = absurd there
 cons_some (Some v) values there = omega arith
 
@@ -398,7 +400,7 @@ named_made columns lawful n how name c e takes other =
       takes = type_takes (fold_kind how c.of) c (slice_get columns place) e (kind_takes how c.of takes);
     }
 
-no_count : (how : FoldWord) (name : Name) → CountsRows how (Some name) → how ≡ fold.Count → ⊥
+pub no_count : (how : FoldWord) (name : Name) → CountsRows how (Some name) → how ≡ fold.Count → ⊥
 no_count how name counts e =
     let P : FoldWord → Type 0 = λ h. CountsRows h (Some name) in
     subst P e counts
@@ -411,7 +413,7 @@ found_made : (columns : List Column) → AreLawful columns → (n : List ℕ) (h
     (option_and_then (aggregate_at columns how) (place_found name.text columns))
 found_made columns lawful n how name counts None e none = absurd cc
 found_made columns lawful n how name counts (Some c) e none =
-    named_made columns lawful n how name.text c e (not-false (fold_takes how c.of) (none_where _ _ _ none))
+    named_made columns lawful n how name.text c e (not-false (fold_takes how c.of) (no_test _ _ _ none))
     (no_count how name counts)
 
 -- an aggregate without a fault

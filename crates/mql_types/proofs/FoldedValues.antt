@@ -1,6 +1,6 @@
 -- What the values of a group come to: of their type, and no larger than they are.
 use Rattle.std.proofs.Common.{◌≡◌, ◌≤◌, ◌<◌, ℕ, ℤ, pos, negsuc, suc, ◌+◌, ◌*◌, ◌/◌, Option, Some, List, [], ◌∷◌}
-use Rattle.std.proofs.Common.{length, fold, sum, subst, refl, arith, unsigned_abs}
+use Rattle.std.proofs.Common.{length, fold, subst, refl, arith, unsigned_abs}
 use Rattle.std.specs.Prelude.{option_map}
 use Rattle.std.specs.Int.{int_div_euclid, int_max, int_min}
 use Rattle.std.specs.List.{AllByRecursion, sum_by}
@@ -18,6 +18,7 @@ use Rattle.mon_value.specs.declared.values.ValueType.TheVariants as type
 use Rattle.mon_value.proofs.AggregateLemmas.{sum_of-magnitude}
 use Rattle.mon_value.proofs.CountsLemmas.{length-counts_added, sum-counts_of}
 use Rattle.mql_types.proofs.MadeCells.{all-filter_map}
+use Rattle.mon_value.proofs.GroupLemmas.{numbers-magnitude, distributions-magnitude}
 
 -- a value of a type, within a most for a cell and within a whole
 pub record Folded (of : ValueType) (most whole : ℕ) (o : Option Value) : Type 0 where
@@ -40,40 +41,11 @@ folded_more of most whole more all o made wide long = record {
 
 -- ---- sums and merged distributions
 
-pub numbers_sum : (values : List Value) → sum_by unsigned_abs (numbers_in values) ≤ sum_by magnitude values
-numbers_sum [] = omega arith
-numbers_sum (value.Int z ∷ values) =
-    omega (
-      arith,
-      numbers_sum values,
-      sum_by-cons unsigned_abs z (numbers_in values),
-      sum_by-cons magnitude
-          (value.Int z) values,
-    )
-numbers_sum (value.Bool p ∷ values) = omega (arith, numbers_sum values, sum_by-cons magnitude (value.Bool p) values)
-numbers_sum (value.Text s ∷ values) = omega (arith, numbers_sum values, sum_by-cons magnitude (value.Text s) values)
-numbers_sum (value.Dist counts ∷ values) =
-    omega (arith, numbers_sum values, sum_by-cons magnitude (value.Dist counts) values)
-
-pub totals_sum : (values : List Value) → sum_by sum (distributions_in values) ≤ sum_by magnitude values
-totals_sum [] = omega arith
-totals_sum (value.Int z ∷ values) = omega (arith, totals_sum values, sum_by-cons magnitude (value.Int z) values)
-totals_sum (value.Bool p ∷ values) = omega (arith, totals_sum values, sum_by-cons magnitude (value.Bool p) values)
-totals_sum (value.Text s ∷ values) = omega (arith, totals_sum values, sum_by-cons magnitude (value.Text s) values)
-totals_sum (value.Dist counts ∷ values) =
-    omega (
-      arith,
-      totals_sum values,
-      sum_by-cons sum counts (distributions_in values),
-      sum_by-cons magnitude
-          (value.Dist counts) values,
-    )
-
 pub sum_folded : (values : List Value) → 0 < length values → AllByRecursion (HasType type.Int) values
     → Folded type.Int (sum_by magnitude values) (sum_by magnitude values) (sum_in values)
 sum_folded [] some all = absurd (omega (arith, some))
 sum_folded (value.Int z ∷ values) some all =
-    let whole = numbers_sum (value.Int z ∷ values) in
+    let whole = numbers-magnitude (value.Int z ∷ values) in
     let total = sum_of-magnitude (numbers_in (value.Int z ∷ values)) in
     record {
       value = value.Int (sum_of (numbers_in (value.Int z ∷ values)));
@@ -109,7 +81,7 @@ merge_folded bounds (value.Int z ∷ values) some all = absurd all.0
 merge_folded bounds (value.Bool p ∷ values) some all = absurd all.0
 merge_folded bounds (value.Text s ∷ values) some all = absurd all.0
 merge_folded bounds (value.Dist counts ∷ values) some all =
-    let whole = totals_sum (value.Dist counts ∷ values) in
+    let whole = distributions-magnitude (value.Dist counts ∷ values) in
     let total = sum-counts_of (distributions_in (value.Dist counts ∷ values)) in
     record {
       value = value.Dist (counts_of (distributions_in (value.Dist counts ∷ values)));
@@ -181,7 +153,7 @@ least_folded most (value.Int z ∷ values) some all fit = record {
   less = omega (
     arith,
     best_less int_min least_within least_less z (numbers_in values),
-    numbers_sum values,
+    numbers-magnitude values,
     sum_by-cons magnitude (value.Int z) values,
   );
 }
@@ -202,7 +174,7 @@ greatest_folded most (value.Int z ∷ values) some all fit = record {
   less = omega (
     arith,
     best_less int_max greatest_within greatest_less z (numbers_in values),
-    numbers_sum values,
+    numbers-magnitude values,
     sum_by-cons magnitude (value.Int z) values,
   );
 }
@@ -239,7 +211,7 @@ mean_folded most [] some all fit = absurd (omega (arith, some))
 mean_folded most (value.Int z ∷ values) some all fit =
     let xs = numbers_in (value.Int z ∷ values) in
     let total = sum_of-magnitude xs in
-    let whole = numbers_sum (value.Int z ∷ values) in
+    let whole = numbers-magnitude (value.Int z ∷ values) in
     let each = sum_most most xs (numbers_within most (value.Int z ∷ values) fit) in
     record {
       value = value.Int (int_div_euclid (sum_of xs) (item_count xs));

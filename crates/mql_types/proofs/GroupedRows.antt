@@ -30,16 +30,18 @@ use Rattle.mql_types.specs.Items.{is_taken, reserved_names, with_name}
 use Rattle.mql_types.specs.Soundness.{CountsRows, FitTable, TotalsFit}
 use Rattle.mql_types.proofs.FoldedColumns.{FoldMade, IsGroup, fold_made, value_fits}
 use Rattle.mql_types.proofs.GroupSums.{group_sums_within}
-use Rattle.mql_types.proofs.JoinedRows.{FitColumns-append, FitWidths-append, all-both, all-made, all-map, column_of_all}
-use Rattle.mql_types.proofs.KeptRows.{all-append, all-filter}
+use Rattle.mql_types.proofs.JoinedRows.{FitColumns-append, FitWidths-append, all-made, all-map, column_of_all}
+use Rattle.mql_types.proofs.KeptRows.{all-filter}
 use Rattle.mql_types.proofs.KnownSums.{cell_of}
 use Rattle.mql_types.proofs.MadeCells.{IsThere, MadeCell, Side, all-filter_map, back, cell_there, from_item, front}
-use Rattle.mql_types.proofs.MadeCells.{get_back, get_front, get_made, is_there, length_fit, made_shaped, made_within}
-use Rattle.mql_types.proofs.MadeCells.{nothing_is, same_item, side_of, sums_less}
-use Rattle.mql_types.proofs.RowCounts.{length-filter-le}
-use Rattle.mql_types.proofs.SumBounds.{AreLawful, IsSound, amount, no_faults}
+use Rattle.mql_types.proofs.MadeCells.{get_made, is_there, length_fit, made_shaped, made_within}
+use Rattle.mql_types.proofs.MadeCells.{side_of, sums_less}
+use Rattle.mql_types.proofs.SumBounds.{AreLawful, IsSound, amount}
 use Rattle.mql_types.proofs.Totals.{TotalsFit-fewer, counted, sum_by-filter-le, total-counted, totals_from}
 use Rattle.mql_types.proofs.ValueRows.{FitsBoth, alone_total}
+use Rattle.mon_value.proofs.PlainLemmas.{get_back, get_front, nothing_is, all_both, sum_by-map, all_append, filter-few}
+use Rattle.mql_types.proofs.FetchColumnLemmas.{both_none}
+use Rattle.mon_value.proofs.PlainLemmas.{same_item, map_same}
 
 -- ---- lists made twice
 
@@ -85,7 +87,7 @@ pub listed_within : (columns : List Column) (taken : List (List ℕ)) (names : L
     → AllByRecursion (λ place. place < length columns) (listed_places columns taken names)
 listed_within columns taken [] = tt
 listed_within columns taken (name ∷ names) =
-    all-append (λ place. place < length columns) (option_to_list (new_place columns taken name.text))
+    all_append (λ place. place < length columns) (option_to_list (new_place columns taken name.text))
     (listed_places columns (with_name taken name.text) names)
     (all_listed (λ place. place < length columns) (new_place columns taken name.text)
     (λ place e. place_within columns _ (length columns) place
@@ -132,7 +134,7 @@ pub aggregates_made : (columns : List Column) → AreLawful columns → (aggrega
     → AllByRecursion (AggregateMade columns) aggregates
 aggregates_made columns lawful [] counts none = tt
 aggregates_made columns lawful (a ∷ aggregates) counts none =
-    let parts = no_faults (aggregate_faults columns a) (flat_map (aggregate_faults columns) aggregates) none in (
+    let parts = both_none (aggregate_faults columns a) (flat_map (aggregate_faults columns) aggregates) none in (
       fold_made columns lawful (aggregate_name a).text a.fold a.column counts.0 parts.0,
       aggregates_made columns lawful aggregates counts.1 parts.1,
     )
@@ -280,7 +282,7 @@ keyed_group columns by rows fit totals few key some =
         some = some;
         totals = TotalsFit-fewer key.time rows (rows_in by key rows)
             (λ place. sum_by-filter-le (counted key.time place) own rows) 0 columns (totals key.time);
-        few = omega (arith, few, length-filter-le own rows);
+        few = omega (arith, few, filter-few own rows);
       };
     }
 
@@ -403,15 +405,6 @@ aggregate_counts columns by within aggregates all time k a e fold key (row ∷ r
     (sum_by (fold.measure key.time) g) place
     (fold.less key.time g keyed.rows))
 
-pub sum_by-map : {A B : Type 0} (f : B → ℕ) (g : A → B) (xs : List A) → sum_by f (map g xs) ≡ sum_by (λ x. f (g x)) xs
-sum_by-map f g [] = refl
-sum_by-map f g (x ∷ xs) =
-    sum_by-cons f (g x) (map g xs) ∙ ap (λ n. f (g x) + n) (sum_by-map f g xs) ∙ sym (sum_by-cons (λ y. f (g y)) x xs)
-
-map_same : {A B : Type 0} (f g : A → B) → ((x : A) → f x ≡ g x) → (xs : List A) → map f xs ≡ map g xs
-map_same f g same [] = refl
-map_same f g same (x ∷ xs) = ap (λ y. y ∷ map f xs) (same x) ∙ ap (λ ys. g x ∷ ys) (map_same f g same xs)
-
 -- rows of groups as they are made
 abbrev groups_made : List Column → List ℕ → List Aggregate → List TimedRow → List TimedRow
 groups_made columns by aggregates rows = map (row_of_group columns aggregates) (rows_by_group by rows)
@@ -496,7 +489,7 @@ fits_made columns names aggregates rows fit all few =
     let made = groups_made columns by aggregates rows in
     let to = grouped_columns columns names aggregates in
     let both : AllByRecursion (FitsBoth columns) rows =
-    all-both (λ row. FitColumns columns row.cells) (λ row. FitWidths columns row.cells) rows fit.shaped
+    all_both (λ row. FitColumns columns row.cells) (λ row. FitWidths columns row.cells) rows fit.shaped
     fit.widths in
     let keyed = keyed_groups columns by rows both fit.totals few in
     let fits : AllByRecursion (FitsBoth to) made =
@@ -547,7 +540,7 @@ pub group_lawful : (columns : List Column) (names : List Name) (aggregates : Lis
     → AreLawful (grouped_columns columns names aggregates)
 group_lawful columns names aggregates lawful counts none =
     let by = listed_places columns reserved_names names in
-    all-append IsSound (key_columns_at columns by) (aggregate_columns columns aggregates)
+    all_append IsSound (key_columns_at columns by) (aggregate_columns columns aggregates)
     (all-filter_map (λ place. place < length columns) IsSound (key_at columns) by
     (λ place c h e. key_sound columns lawful place c (slice_get columns place) refl e)
     (listed_within columns reserved_names names))

@@ -18,9 +18,11 @@ use Rattle.mon_schema.specs.Names.{SchemaLists}
 use Rattle.mql_ast.specs.Rows.{column_named, FitWidths}
 use Rattle.mql_types.specs.Branches.{anchored_with, as_joined, common_column, join_columns, left_column}
 use Rattle.mql_types.specs.Soundness.{FitTable, TotalsFit}
-use Rattle.mql_types.proofs.KeptRows.{all-append, all-filter}
+use Rattle.mql_types.proofs.KeptRows.{all-filter}
 use Rattle.mql_types.proofs.Totals.{cell_within, counted, counted_rows, totals_from}
 use Rattle.mql_types.proofs.MadeCells.{kept_shaped, kept_within}
+use Rattle.mon_value.proofs.PlainLemmas.{all_both, all_append}
+use Rattle.mql_types.proofs.AlignedRows.{bits_more}
 
 -- ---- columns whose sums are bounded by the number of rows
 
@@ -63,9 +65,6 @@ place_bound columns rows fit few time place column e =
     row_wide (sum_by (counted time place) rows) (length rows) column.cell_bits (column.cell_bits + 24)
     (counted_rows time place (2 ^ column.cell_bits) rows cells) few (omega arith)
 
-widened : (sum cell total : ℕ) → sum ≤ 2 ^ (cell + 24) → cell + 24 ≤ total → sum ≤ 2 ^ total
-widened sum cell total within wide = omega (arith, within, pow-le-pow_right {n = 2} (omega arith) wide)
-
 -- so few rows sum to no more in any column
 pub totals-row_wide : (columns : List Column) (rows : List TimedRow)
     → AllByRecursion (λ row. FitWidths columns row.cells) rows
@@ -75,7 +74,7 @@ totals-row_wide columns rows fit few wide time = totals_from time rows 0 columns
     let here : place ≡ 0 + place = omega arith in
     let P : ℕ → Type 0 = λ n. sum_by (counted time n) rows ≤ 2 ^ column.total_bits in
     subst P here
-    (widened (sum_by (counted time place) rows) column.cell_bits column.total_bits
+    (bits_more (sum_by (counted time place) rows) column.cell_bits column.total_bits
     (place_bound columns rows fit few time place column e)
     (column_of_all IsRowWide columns place column wide e)))
 
@@ -154,11 +153,6 @@ pair_widths held lefts rights left right fit other widths more =
 
 -- ---- joins
 
-pub all-both : {A : Type 0} (P Q : A → Type 0) (xs : List A) → AllByRecursion P xs → AllByRecursion Q xs
-    → AllByRecursion (λ x. P x × Q x) xs
-all-both P Q [] all more = tt
-all-both P Q (x ∷ xs) all more = ((all.0, more.0), all-both P Q xs all.1 more.1)
-
 pub all-made : {A B : Type 0} (P : A → Type 0) (Q : B → Type 0) (f : A → B) (xs : List A) → ((x : A) → P x → Q (f x))
     → AllByRecursion P xs → AllByRecursion Q (map f xs)
 all-made P Q f [] step all = tt
@@ -168,7 +162,7 @@ pub all-flat_map : {A B : Type 0} (P : A → Type 0) (Q : B → Type 0) (g : A �
     → ((x : A) → P x → AllByRecursion Q (g x)) → AllByRecursion P xs → AllByRecursion Q (flat_map g xs)
 all-flat_map P Q g [] step all = tt
 all-flat_map P Q g (x ∷ xs) step all =
-    all-append Q (g x) (flat_map g xs) (step x all.0) (all-flat_map P Q g xs step all.1)
+    all_append Q (g x) (flat_map g xs) (step x all.0) (all-flat_map P Q g xs step all.1)
 
 -- a column of which no sum is too wide
 abbrev pub IsNarrow : Column → Type 0
@@ -194,7 +188,7 @@ pub join_columns-row_wide : (held : SchemaLists) (lefts rights : List Column)
 join_columns-row_wide held lefts rights narrow =
     let parts = all-front IsNarrow (map (left_column held rights) lefts)
     (map as_joined (right_columns lefts rights)) narrow in
-    all-append IsRowWide (map (left_column held rights) lefts) (map as_joined (right_columns lefts rights))
+    all_append IsRowWide (map (left_column held rights) lefts) (map as_joined (right_columns lefts rights))
     (joined_wide (λ (column : Column). unwrap_or (common_column held rights column) column) lefts parts.0)
     (joined_wide (λ (column : Column). column) (right_columns lefts rights) parts.1)
 
@@ -209,10 +203,10 @@ FitTable-join held lefts rights rows others fit other narrow few =
     let P : TimedRow → Type 0 = λ row. FitColumns lefts row.cells × FitWidths lefts row.cells in
     let Q : TimedRow → Type 0 = λ row. FitColumns rights row.cells × FitWidths rights row.cells in
     let all : AllByRecursion P rows =
-    all-both (λ row. FitColumns lefts row.cells) (λ row. FitWidths lefts row.cells) rows fit.shaped
+    all_both (λ row. FitColumns lefts row.cells) (λ row. FitWidths lefts row.cells) rows fit.shaped
     fit.widths in
     let more : AllByRecursion Q others =
-    all-both (λ row. FitColumns rights row.cells) (λ row. FitWidths rights row.cells) others other.shaped
+    all_both (λ row. FitColumns rights row.cells) (λ row. FitWidths rights row.cells) others other.shaped
     other.widths in
     let shaped : AllByRecursion (λ row. FitColumns columns row.cells) (flat_map (pairs_of lefts rights others) rows) =
     all-flat_map P (λ row. FitColumns columns row.cells) (pairs_of lefts rights others) rows

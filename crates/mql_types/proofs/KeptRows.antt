@@ -16,6 +16,7 @@ use Rattle.std.specs.declared.cmp.Ordering.{Ordering}
 use Rattle.mql_types.specs.Soundness.{FitTable}
 use Rattle.mql_types.proofs.GroupSums.{group_sums_within}
 use Rattle.mql_types.proofs.Totals.{TotalsFit-fewer, counted, sum_by-filter-le}
+use Rattle.mon_value.proofs.PlainLemmas.{all_append}
 
 -- ---- what holds of all items
 
@@ -28,11 +29,6 @@ pub all-filter : {A : Type 0} (P : A → Type 0) (p : A → Bool) (xs : List A) 
     → AllByRecursion P (filter p xs)
 all-filter P p [] all = tt
 all-filter P p (x ∷ xs) all = kept_by P (p x) x (filter p xs) all.0 (all-filter P p xs all.1)
-
-pub all-append : {A : Type 0} (P : A → Type 0) (xs ys : List A) → AllByRecursion P xs → AllByRecursion P ys
-    → AllByRecursion P (xs ++ ys)
-all-append P [] ys all more = more
-all-append P (x ∷ xs) ys all more = (all.0, all-append P xs ys all.1 more)
 
 pub all-take : {A : Type 0} (P : A → Type 0) (n : ℕ) (xs : List A) → AllByRecursion P xs
     → AllByRecursion P (take n xs)
@@ -80,7 +76,7 @@ all-firsts : (P : TimedRow → Type 0) (n column : ℕ) (rows : List TimedRow) (
     → AllByRecursion P (flat_map (firsts n column) (map (λ key. (key, rows_in [] key rows)) keys))
 all-firsts P n column rows [] all = tt
 all-firsts P n column rows (key ∷ keys) all =
-    all-append P (firsts n column (key, rows_in [] key rows)) _
+    all_append P (firsts n column (key, rows_in [] key rows)) _
     (all-take P n (sorted_list (rank_cmp column) (rows_in [] key rows))
     (all-sorted P (rank_cmp column) (rows_in [] key rows)
     (all-filter P (λ row. same_row key (group_key [] row)) rows all)))

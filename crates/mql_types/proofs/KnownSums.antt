@@ -21,7 +21,9 @@ use Rattle.mql_types.specs.Fetches.{column_faults}
 use Rattle.mql_types.specs.Items.{is_number_type, operand_faults, percentile_faults, percentile_faults_of, sum_width}
 use Rattle.mql_types.specs.Items.{width_of_type, width_together}
 use Rattle.mql_types.specs.Branches.{added_width, point_width, width_of}
-use Rattle.mql_types.proofs.SumBounds.{bounds_in, no_faults, none_where}
+use Rattle.mql_types.proofs.SumBounds.{bounds_in}
+use Rattle.mql_types.proofs.FetchColumnLemmas.{both_none}
+use Rattle.mql_types.proofs.TypedGridLemmas.{no_test}
 
 -- ---- columns and their cells
 
@@ -54,7 +56,7 @@ number_type (type.Dist bounds) e = absurd cc
 
 number_column : (o : Option Column) (at : ℕ) → column_faults o at is_number_type word.Int ≡ [] → NumberColumn o
 number_column None at e = absurd cc
-number_column (Some c) at e = record { column = c; is = refl; of = number_type c.of (none_where _ _ _ e) }
+number_column (Some c) at e = record { column = c; is = refl; of = number_type c.of (no_test _ _ _ e) }
 
 -- ---- widths
 
@@ -86,13 +88,13 @@ width_known columns (tree.Column name) none =
     int_width (column_named name.text columns) (number_column (column_named name.text columns) name.at none)
 width_known columns (tree.Number at z) none = record { width = point_width; is = refl }
 width_known columns (tree.Plus left right) none =
-    let first = no_faults (operand_faults columns left) _ none in
-    let second = no_faults (operand_faults columns right) _ first.1 in
+    let first = both_none (operand_faults columns left) _ none in
+    let second = both_none (operand_faults columns right) _ first.1 in
     width_of_both (sum_width columns left) (sum_width columns right) (width_known columns left first.0)
     (width_known columns right second.0)
 width_known columns (tree.Minus left right) none =
-    let first = no_faults (operand_faults columns left) _ none in
-    let second = no_faults (operand_faults columns right) _ first.1 in
+    let first = both_none (operand_faults columns left) _ none in
+    let second = both_none (operand_faults columns right) _ first.1 in
     width_of_both (sum_width columns left) (sum_width columns right) (width_known columns left first.0)
     (width_known columns right second.0)
 width_known columns (tree.Percentile at name p) none = record { width = point_width; is = refl }
@@ -169,14 +171,14 @@ number_known columns cells fit (tree.Column name) none some =
     (number_column (column_named name.text columns) name.at none)
 number_known columns cells fit (tree.Number at z) none some = record { number = z; is = refl }
 number_known columns cells fit (tree.Plus left right) none some =
-    let first = no_faults (operand_faults columns left) _ none in
-    let second = no_faults (operand_faults columns right) _ first.1 in
+    let first = both_none (operand_faults columns left) _ none in
+    let second = both_none (operand_faults columns right) _ first.1 in
     let both = or_parts (meets_no_values left columns cells) (meets_no_values right columns cells) some in
     number_of_both ◌+ℤ◌ (sum_value left columns cells) (sum_value right columns cells)
     (number_known columns cells fit left first.0 both.0) (number_known columns cells fit right second.0 both.1)
 number_known columns cells fit (tree.Minus left right) none some =
-    let first = no_faults (operand_faults columns left) _ none in
-    let second = no_faults (operand_faults columns right) _ first.1 in
+    let first = both_none (operand_faults columns left) _ none in
+    let second = both_none (operand_faults columns right) _ first.1 in
     let both = or_parts (meets_no_values left columns cells) (meets_no_values right columns cells) some in
     number_of_both ◌-ℤ◌ (sum_value left columns cells) (sum_value right columns cells)
     (number_known columns cells fit left first.0 both.0) (number_known columns cells fit right second.0 both.1)

@@ -1,16 +1,12 @@
 -- Items that are added where there is one.
-use Rattle.std.proofs.Common.{◌≡◌, ◌∙◌, Bool, true, false, not, List, [], ◌∷◌, ◌++◌, map, Option, Some, None, refl, ap}
+use Rattle.std.proofs.Common.{◌≡◌, ◌∙◌, Bool, true, false, not, List, [], ◌∷◌, ◌++◌, map, Option, refl, ap}
 use Rattle.std.proofs.Common.{append_assoc, if◌then◌else◌}
 use Rattle.std.specs.Prelude.{option_to_list}
 use Rattle.std.specs.List.{filter_map}
 use Rattle.mon_value.specs.Tables.{has_name, right_columns}
 use Rattle.mon_value.specs.declared.columns.Column.{Column}
 use Rattle.mql_types.specs.Branches.{as_joined}
-
-first_given : {A B : Type 0} (f : A → Option B) (x : A) (xs : List A) (o : Option B)
-    → f x ≡ o → option_to_list o ++ filter_map f xs ≡ filter_map f (x ∷ xs)
-first_given f x xs None e = rw e refl
-first_given f x xs (Some y) e = rw e refl
+use Rattle.mon_value.proofs.PlainLemmas.{first_given}
 
 -- what was made, with what is made of an item and of those behind it
 pub option_to_list-filter_map : {A B : Type 0} (f : A → Option B) (x : A) (xs : List A) (made : List B)

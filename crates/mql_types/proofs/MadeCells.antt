@@ -9,11 +9,9 @@ use Rattle.mon_value.specs.Values.{magnitude}
 use Rattle.mon_value.specs.declared.columns.Column.{Column}
 use Rattle.mon_value.specs.declared.values.Value.{Value}
 use Rattle.mql_ast.specs.Rows.{FitWidths}
+use Rattle.mon_value.proofs.PlainLemmas.{nothing_is, same_item}
 
 -- ---- what there is
-
-pub nothing_is : {A : Type 0} (x : A) → None ≡ Some x → ⊥
-nothing_is x e = cc
 
 abbrev pub IsThere : {A : Type 0} → Option A → Type 0
 IsThere None = ⊥
@@ -22,9 +20,6 @@ IsThere (Some x) = Unit {0}
 pub is_there : {A : Type 0} (o : Option A) (x : A) → o ≡ Some x → IsThere o
 is_there None x e = absurd (nothing_is x e)
 is_there (Some y) x e = tt
-
-pub same_item : {A : Type 0} (x y : A) → Some x ≡ Some y → x ≡ y
-same_item x y e = cc
 
 -- ---- a cell for each column
 
@@ -115,20 +110,6 @@ pub side_of : {A : Type 0} (xs ys : List A) (place : ℕ) (x : A) → slice_get 
 side_of [] ys place x e = back place (omega arith) e
 side_of (y ∷ xs) ys zero x e = front e
 side_of (y ∷ xs) ys (suc place) x e = side_more y xs ys place x (side_of xs ys place x e)
-
-pub get_front : {A : Type 0} (xs ys : List A) (place : ℕ) (x : A) → slice_get xs place ≡ Some x
-    → slice_get (xs ++ ys) place ≡ Some x
-get_front [] ys place x e = absurd (nothing_is x e)
-get_front (y ∷ xs) ys zero x e = e
-get_front (y ∷ xs) ys (suc place) x e = get_front xs ys place x e
-
-pub get_back : {A : Type 0} (xs ys : List A) (k : ℕ) → slice_get (xs ++ ys) (length xs + k) ≡ slice_get ys k
-get_back [] ys k =
-    let here : 0 + k ≡ k = omega arith in
-    ap (λ n. slice_get ys n) here
-get_back (x ∷ xs) ys k =
-    let moved : suc (length xs) + k ≡ suc (length xs + k) = omega arith in
-    ap (λ n. slice_get (x ∷ (xs ++ ys)) n) moved ∙ get_back xs ys k
 
 pub length_fit : (columns : List Column) (cells : List Value) → FitColumns columns cells
     → length cells ≡ length columns

@@ -2,14 +2,14 @@
 use Rattle.std.proofs.Common.{◌≡◌, ◌∙◌, ℕ, ◌+◌, ◌≤◌, ◌<◌, Bool, true, false, not, cond, ◌||◌, is_none, is_some, nat_lt}
 use Rattle.std.proofs.Common.{nat_eq, List, [], ◌∷◌, ◌++◌, length, Option, Some, None, refl, ap, sym, subst, arith}
 use Rattle.std.proofs.Common.{Bor, length-append}
-use Rattle.std.proofs.lemmas.Bool.{lt-ltb, le-ltb, eqb-true, false_from_ne_true}
+use Rattle.std.proofs.lemmas.Bool.{lt-ltb, le-ltb, eqb-true}
 use Rattle.std.proofs.lemmas.Bool.Decides.{nat_tests}
 use Rattle.std.proofs.lemmas.List.Folds.{position_or_len_push}
 use Rattle.std.proofs.lemmas.List.Sums.{prefix_len-le-length}
 use Rattle.std.specs.List.{position_or_len}
 use Rattle.std.specs.Option.{option_copied, option_or}
 use Rattle.indexmap.specs.IndexMap.{get, get_by, UpdatesBy}
-use Rattle.mon_value.proofs.SameLemmas.{same_text-Decides}
+use Rattle.mon_value.proofs.SameLemmas.{same_text-Decides, same_text-back}
 use Rattle.mon_value.specs.Tables.{has_name}
 use Rattle.mon_value.specs.Same.{same_text}
 use Rattle.mon_value.specs.declared.columns.Column.{Column}
@@ -78,12 +78,6 @@ has_name-place name (x ∷ xs) =
 pub copied_none : {A : Type 0} (o : Option (Bor A)) → is_none o ≡ true → option_copied o ≡ None
 copied_none None h = refl
 copied_none (Some x) h = absurd (cc)
-
-same_text-back : (s t : List ℕ) (b : Bool) → same_text s t ≡ b → same_text t s ≡ b
-same_text-back s t true e = (same_text-Decides t s).1 (sym ((same_text-Decides s t).0 e))
-same_text-back s t false e =
-    false_from_ne_true (same_text t s) (λ h. let back : same_text s t ≡ true = (same_text-Decides s t).1
-    (sym ((same_text-Decides t s).0 h)) in cc)
 
 one_place : {S : Type 0} (places : PlaceMap S) (a b : Bor (List ℕ)) → same_text a.now b.now ≡ true
     → get same_name places a ≡ get same_name places b

@@ -1,10 +1,9 @@
 -- How many rows tables have.
-use Rattle.std.proofs.Common.{◌≡◌, ◌∙◌, ◌≤◌, ℕ, ◌+◌, Bool, not, Option, Some, None, List, [], ◌∷◌, length, take, refl}
+use Rattle.std.proofs.Common.{◌≡◌, ◌∙◌, ◌≤◌, ℕ, ◌+◌, not, Option, Some, None, List, [], ◌∷◌, length, take, refl}
 use Rattle.std.proofs.Common.{ap, sym, arith, length-append}
-use Rattle.std.specs.List.{cons_option, filter, filter_map, flat_map, sum_by}
+use Rattle.std.specs.List.{cons_option, flat_map, sum_by}
 use Rattle.std.proofs.lemmas.List.{length-map, length-take}
 use Rattle.std.proofs.lemmas.List.Sorted.{length_permutation}
-use Rattle.std.proofs.lemmas.List.Filters.{length-filter_both}
 use Rattle.std.proofs.lemmas.List.Sums.{sum_by-cons, sum_by-le-sum_by}
 use Rattle.mon_value.specs.Groups.{group_key, group_keys, group_row, group_rows, rows_by_group, rows_in, rank_cmp}
 use Rattle.mon_value.specs.Groups.{top_rows}
@@ -21,17 +20,11 @@ use Rattle.mql_types.specs.Meaning.{load_of, rows_meant, value_row}
 use Rattle.mql_types.specs.Nodes as node
 use Rattle.mql_types.specs.Nodes.{NodeTree, columns_of}
 use Rattle.mql_types.proofs.GroupSums.{group_sums_within}
-
-pub length-filter-le : {A : Type 0} (p : A → Bool) (xs : List A) → length (filter p xs) ≤ length xs
-length-filter-le p xs = omega (arith, length-filter_both p (λ x. not (p x)) (λ x. refl) xs)
+use Rattle.mon_value.proofs.PlainLemmas.{filter_map-few, filter-few}
 
 by_given : {A : Type 0} (o : Option A) (xs : List A) → length (cons_option o xs) ≤ length xs + 1
 by_given None xs = omega arith
 by_given (Some x) xs = omega arith
-
-pub length-filter_map-le : {A B : Type 0} (f : A → Option B) (xs : List A) → length (filter_map f xs) ≤ length xs
-length-filter_map-le f [] = omega arith
-length-filter_map-le f (x ∷ xs) = omega (arith, by_given (f x) (filter_map f xs), length-filter_map-le f xs)
 
 count_ones_lem : {A : Type 0} (xs : List A) → sum_by (λ x. 1) xs ≡ length xs
 count_ones_lem [] = refl
@@ -64,7 +57,7 @@ keys_within by [] = omega arith
 keys_within by (row ∷ rows) =
     omega (
       arith,
-      length-filter-le (λ key. not (same_row (group_key by row) key)) (group_keys by rows),
+      filter-few (λ key. not (same_row (group_key by row) key)) (group_keys by rows),
       keys_within
           by rows,
     )
@@ -105,7 +98,7 @@ rows_within_load grid (node.Fetch info schema metric) rows = omega arith
 rows_within_load grid (node.Filter info by input) rows =
     omega (
       arith,
-      length-filter-le (λ (row : TimedRow). predicate_truth by info.columns row.cells)
+      filter-few (λ (row : TimedRow). predicate_truth by info.columns row.cells)
           (rows_meant grid input rows),
       rows_within_load grid input rows,
     )
@@ -115,7 +108,7 @@ rows_within_load grid (node.GroupBy info by with input) rows =
 rows_within_load grid (node.Value info items input) rows =
     omega (
       arith,
-      length-filter_map-le (value_row (columns_of input) items) (rows_meant grid input rows),
+      filter_map-few (value_row (columns_of input) items) (rows_meant grid input rows),
       rows_within_load grid input rows,
     )
 rows_within_load grid (node.Top info most column input) rows =

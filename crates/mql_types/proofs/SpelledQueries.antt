@@ -16,9 +16,9 @@ use Rattle.mql_ast.specs.declared.operations.Aggregate.{Aggregate}
 use Rattle.mql_ast.specs.declared.operations.FoldWord.{FoldWord}
 use Rattle.mql_ast.specs.declared.operations.FoldWord.TheVariants as fold
 use Rattle.mql_ast.proofs.NumbersPrinted as printed
+use Rattle.mon_value.proofs.PlainLemmas.{all_append}
 use Rattle.mql_types.specs.Soundness.{AreBranchesSpelled, AreOpsSpelled, CountsRows, HasLiterals, IsDeedSpelled}
 use Rattle.mql_types.specs.Soundness.{IsPipeSpelled, IsSourceSpelled}
-use Rattle.mql_types.proofs.KeptRows.{all-append}
 
 in_range : (z : ℤ) → printed.InRange z → is_number z ≡ true
 in_range (pos n) (printed.above h) =
@@ -60,7 +60,7 @@ item_spelled (grammar.labelled a b e) = sum_spelled e
 items_spelled : {d : ℕ} {s r : Rest} {items : List ItemTree} → ItemList d s r items → AllByRecursion IsItemSpelled items
 items_spelled (grammar.one_item i) = (item_spelled i, tt)
 items_spelled (grammar.more_items {items = items} {i = i} l a e) =
-    all-append IsItemSpelled items (i ∷ []) (items_spelled l) (item_spelled e, tt)
+    all_append IsItemSpelled items (i ∷ []) (items_spelled l) (item_spelled e, tt)
 
 other_fold : (w : FoldWord) (n : Name) → (w ≡ fold.Count → ⊥) → CountsRows w (Some n)
 other_fold fold.Count n other = other refl
@@ -85,7 +85,7 @@ folding_counts (grammar.named a b c f) = folded_counts f
 foldings_count : {s r : Rest} {all : List Aggregate} → FoldingList s r all → AllByRecursion Counts all
 foldings_count (grammar.one_folding f) = (folding_counts f, tt)
 foldings_count (grammar.more_foldings {as' = all} {a = a} l b f) =
-    all-append Counts all (a ∷ []) (foldings_count l) (folding_counts f, tt)
+    all_append Counts all (a ∷ []) (foldings_count l) (folding_counts f, tt)
 
 deed_spelled : {d : ℕ} {s r : Rest} {what : DeedTree} → Deed d s r what → IsDeedSpelled what
 deed_spelled (grammar.filter a b p) = tt
@@ -103,7 +103,7 @@ IsOpSpelled op = IsDeedSpelled op.what
 ops_spelled : {d : ℕ} {s r : Rest} {ops : List OpTree} → Ops d s r ops → AreOpsSpelled ops
 ops_spelled grammar.no_ops = tt
 ops_spelled (grammar.more_ops {k = k} {ops = ops} {what = what} l a deed) =
-    all-append IsOpSpelled ops (record { at = (skip k).at; what = what } ∷ []) (ops_spelled l) (deed_spelled deed, tt)
+    all_append IsOpSpelled ops (record { at = (skip k).at; what = what } ∷ []) (ops_spelled l) (deed_spelled deed, tt)
 
 branches_spelled : (pipes : List PipeTree) → AllByRecursion IsPipeSpelled pipes → AreBranchesSpelled (branches pipes)
 branches_spelled [] all = tt
@@ -120,7 +120,7 @@ mutual
   list_spelled : {d : ℕ} {s r : Rest} {ps : List PipeTree} → PipeList d s r ps → AllByRecursion IsPipeSpelled ps
   list_spelled (grammar.two_pipes p a q) = (pipe_spelled p, (pipe_spelled q, tt))
   list_spelled (grammar.more_pipes {ps = ps} {p = p} l a q) =
-      all-append IsPipeSpelled ps (p ∷ []) (list_spelled l) (pipe_spelled q, tt)
+      all_append IsPipeSpelled ps (p ∷ []) (list_spelled l) (pipe_spelled q, tt)
 
 -- what a text spells has numbers, percentiles and counts as the grammar has them
 pub query_spelled : (query : PipeTree) (text : List ℕ) → Spells query text → IsPipeSpelled query

@@ -12,13 +12,11 @@ use Rattle.mon_value.specs.declared.values.Value.{Value}
 use Rattle.mon_value.specs.declared.values.Value.TheVariants as value
 use Rattle.mon_value.specs.declared.values.ValueType.{ValueType}
 use Rattle.mon_value.specs.declared.values.ValueType.TheVariants as type
-use Rattle.mon_value.proofs.SameLemmas.{both}
 use Rattle.mon_schema.specs.Fits.{is_number, HasNumbers}
 use Rattle.mql_ast.specs.Rows.{cell_named, column_named, place_of, FitWidths, HasBound, bucket_bounds, percentile_in}
 use Rattle.mql_ast.specs.Rows.{put_together, sum_value}
 use Rattle.mql_ast.specs.Trees as tree
 use Rattle.mql_ast.specs.Trees.{SumTree}
-use Rattle.mql_types.specs.declared.faults.TypeFault.{TypeFault}
 use Rattle.mql_types.specs.declared.widths.Width.{Width}
 use Rattle.mql_types.specs.Items.{operand_faults, optional_width_faults, sum_width, width_of_type, width_together}
 use Rattle.mql_types.specs.Soundness.{HasLiterals}
@@ -26,11 +24,11 @@ use Rattle.mql_types.specs.Branches.{added_width, point_width, width_faults, wid
 use Rattle.mql_types.proofs.Totals.{cell_within}
 use Rattle.mql_types.proofs.JoinedRows.{column_of_all}
 use Rattle.mql_types.proofs.UnitedRows.{both_sums}
-use Rattle.mql_types.specs.declared.faults.TypeKind.{TypeKind}
 use Rattle.mql_types.specs.declared.faults.TypeKind.TheVariants.{TooWide}
-use Rattle.mql_types.specs.Faults.{fault_where}
 use Rattle.std.proofs.lemmas.Int.{ints}
-use Rattle.mql_types.proofs.MadeCells.{same_item}
+use Rattle.mon_value.proofs.PlainLemmas.{and_both, same_item}
+use Rattle.mql_types.proofs.FetchColumnLemmas.{both_none}
+use Rattle.mql_types.proofs.TypedGridLemmas.{no_test}
 
 -- a width that isn't too wide
 pub record IsLawful (width : Width) : Type 0 where
@@ -45,7 +43,7 @@ amount o = option_map_or magnitude o 0
 
 pub number_within : (z : ℤ) → is_number z ≡ true → unsigned_abs z ≤ 2 ^ 63
 number_within z fits =
-    let parts = both (int_le (neg_ℤ (pos (2 ^ 63))) z) (int_lt z (pos (2 ^ 63))) fits in
+    let parts = and_both (int_le (neg_ℤ (pos (2 ^ 63))) z) (int_lt z (pos (2 ^ 63))) fits in
     grind (arith, ints)
 
 pub added_by : (y z : ℤ) → unsigned_abs (y +ℤ z) ≤ unsigned_abs y + unsigned_abs z
@@ -152,16 +150,8 @@ both_by (Some x) None w e = absurd cc
 both_by (Some x) (Some y) w e =
     record { left = x; right = y; of_left = refl; of_right = refl; is = same_item (added_width x y) w e }
 
-pub no_faults : (xs ys : List TypeFault) → xs ++ ys ≡ [] → (xs ≡ []) × (ys ≡ [])
-no_faults [] ys e = (refl, e)
-no_faults (x ∷ xs) ys e = absurd cc
-
-pub none_where : (b : Bool) (at : ℕ) (kind : TypeKind) → fault_where b at kind ≡ [] → b ≡ false
-none_where true at kind e = absurd cc
-none_where false at kind e = refl
-
 pub not_wide : (at : ℕ) (w : Width) → width_faults at w ≡ [] → w.total ≤ 126
-not_wide at w e = omega (arith, ltb-false 126 w.total (none_where (nat_lt 126 w.total) at (TooWide w.total) e))
+not_wide at w e = omega (arith, ltb-false 126 w.total (no_test (nat_lt 126 w.total) at (TooWide w.total) e))
 
 pub lawful_sum : (left right w : Width) → added_width left right ≡ w → IsLawful left → IsLawful right
     → w.total ≤ 126 → IsLawful w
@@ -217,16 +207,16 @@ sum_within columns cells fit lawful (tree.Column name) literal none w h =
 sum_within columns cells fit lawful (tree.Number at z) literal none w h =
     of_number (unsigned_abs z) w (same_item point_width w h) (number_within z literal)
 sum_within columns cells fit lawful (tree.Plus left right) literal none w h =
-    let first = no_faults (operand_faults columns left) _ none in
-    let second = no_faults (operand_faults columns right) _ first.1 in
+    let first = both_none (operand_faults columns left) _ none in
+    let second = both_none (operand_faults columns right) _ first.1 in
     plus_within _ (amount (sum_value left columns cells)) (amount (sum_value right columns cells)) _
     (sum_width columns left) (sum_width columns right) w
     (together_within ◌+ℤ◌ added_by (sum_value left columns cells) (sum_value right columns cells)) h second.1
     (λ v e. sum_within columns cells fit lawful left literal.0 first.0 v e)
     (λ v e. sum_within columns cells fit lawful right literal.1 second.0 v e)
 sum_within columns cells fit lawful (tree.Minus left right) literal none w h =
-    let first = no_faults (operand_faults columns left) _ none in
-    let second = no_faults (operand_faults columns right) _ first.1 in
+    let first = both_none (operand_faults columns left) _ none in
+    let second = both_none (operand_faults columns right) _ first.1 in
     plus_within _ (amount (sum_value left columns cells)) (amount (sum_value right columns cells)) _
     (sum_width columns left) (sum_width columns right) w
     (together_within ◌-ℤ◌ taken_by (sum_value left columns cells) (sum_value right columns cells)) h second.1

@@ -18,17 +18,18 @@ use Rattle.mql_types.specs.Soundness.{HasLiterals, TotalsFit}
 use Rattle.mql_types.specs.Branches.{added_width, point_width, width_of}
 use Rattle.mql_types.proofs.JoinedRows.{column_of_all, row_wide}
 use Rattle.mql_types.proofs.SumBounds.{AreLawful, IsLawful, IsSound, added_by, amount, both_by, column_by, lawful_sum}
-use Rattle.mql_types.proofs.SumBounds.{no_faults, not_wide, number_within, numbers_at, percentile_column, taken_by}
+use Rattle.mql_types.proofs.SumBounds.{not_wide, number_within, numbers_at, percentile_column, taken_by}
 use Rattle.mql_types.proofs.SumBounds.{together_within}
 use Rattle.mql_types.proofs.Totals.{counted, total_at}
 use Rattle.mql_types.proofs.UnitedRows.{both_sums}
-use Rattle.mql_types.proofs.MadeCells.{same_item}
+use Rattle.mql_types.proofs.FetchColumnLemmas.{both_none}
+use Rattle.mon_value.proofs.PlainLemmas.{same_item}
 
 -- how much a sum comes to in a row of a time
 abbrev pub summed : ℤ → List Column → SumTree → TimedRow → ℕ
 summed time columns e row = cond (int_eq row.time time) (amount (sum_value e columns row.cells)) 0
 
-within_by : (b : Bool) (n most : ℕ) → n ≤ most → cond b n 0 ≤ most
+pub within_by : (b : Bool) (n most : ℕ) → n ≤ most → cond b n 0 ≤ most
 within_by true n most h = h
 within_by false n most h = omega arith
 
@@ -127,8 +128,8 @@ total_within columns rows time fit few lawful (tree.Number at z) literal none w 
     number_total (sum_by (summed time columns (tree.Number at z)) rows) (length rows) w (same_item point_width w h)
     (each_within time (2 ^ 63) (λ row. unsigned_abs z) (λ row. number_within z literal) rows) few
 total_within columns rows time fit few lawful (tree.Plus left right) literal none w h =
-    let first = no_faults (operand_faults columns left) _ none in
-    let second = no_faults (operand_faults columns right) _ first.1 in
+    let first = both_none (operand_faults columns left) _ none in
+    let second = both_none (operand_faults columns right) _ first.1 in
     plus_total (sum_by (summed time columns (tree.Plus left right)) rows) (sum_by (summed time columns left) rows)
     (sum_by (summed time columns right) rows) _
     (sum_width columns left) (sum_width columns right) w
@@ -140,8 +141,8 @@ total_within columns rows time fit few lawful (tree.Plus left right) literal non
     (λ v e. total_within columns rows time fit few lawful left literal.0 first.0 v e)
     (λ v e. total_within columns rows time fit few lawful right literal.1 second.0 v e)
 total_within columns rows time fit few lawful (tree.Minus left right) literal none w h =
-    let first = no_faults (operand_faults columns left) _ none in
-    let second = no_faults (operand_faults columns right) _ first.1 in
+    let first = both_none (operand_faults columns left) _ none in
+    let second = both_none (operand_faults columns right) _ first.1 in
     plus_total (sum_by (summed time columns (tree.Minus left right)) rows) (sum_by (summed time columns left) rows)
     (sum_by (summed time columns right) rows) _
     (sum_width columns left) (sum_width columns right) w

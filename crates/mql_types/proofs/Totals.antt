@@ -15,7 +15,8 @@ use Rattle.mon_value.specs.declared.tables.TimedRow.{TimedRow}
 use Rattle.mon_value.specs.declared.values.Value.{Value}
 use Rattle.mql_ast.specs.Rows.{FitWidths}
 use Rattle.mql_types.specs.Soundness.{TotalsFit}
-use Rattle.mql_types.proofs.MadeCells.{nothing_is, same_item}
+use Rattle.mon_value.proofs.PlainLemmas.{nothing_is, same_item}
+use Rattle.mql_types.proofs.SumTotals.{within_by}
 
 -- how much a row counts in a column at a time
 abbrev pub counted : ℤ → ℕ → TimedRow → ℕ
@@ -73,17 +74,13 @@ cell_within (column ∷ columns) (cell ∷ cells) fit zero = λ other e.
     subst P same fit.0
 cell_within (column ∷ columns) (cell ∷ cells) fit (suc place) = cell_within columns cells fit.1 place
 
-counted_by : (b : Bool) (n m : ℕ) → n ≤ m → cond b n 0 ≤ m
-counted_by true n m within = within
-counted_by false n m within = omega arith
-
 -- so many rows count no more than each does so many times
 pub counted_rows : (time : ℤ) (place most : ℕ) (rows : List TimedRow)
     → AllByRecursion (λ row. option_map_or magnitude (slice_get row.cells place) 0 ≤ most) rows
     → sum_by (counted time place) rows ≤ length rows * most
 counted_rows time place most [] all = omega arith
 counted_rows time place most (row ∷ rows) all =
-    let one = counted_by (int_eq row.time time) (option_map_or magnitude (slice_get row.cells place) 0) most all.0 in
+    let one = within_by (int_eq row.time time) (option_map_or magnitude (slice_get row.cells place) 0) most all.0 in
     let more = counted_rows time place most rows all.1 in
     let sums = sum_by-cons (counted time place) row rows in
     let product = suc-mul (length rows) most in

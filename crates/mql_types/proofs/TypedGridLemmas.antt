@@ -15,11 +15,10 @@ use Rattle.mql_types.specs.Faults.{fault_where}
 use Rattle.mql_types.specs.Meaning.{grid_of}
 use Rattle.mql_types.specs.Nodes.{TypedTree}
 use Rattle.mql_types.specs.Typing.{pipe_faults, query_faults, typing}
-use Rattle.mql_types.specs.declared.faults.TypeFault.{TypeFault}
 use Rattle.mql_types.specs.declared.faults.TypeKind.{TypeKind}
 use Rattle.mql_types.specs.declared.times.Times.{Times}
 use Rattle.mql_types.proofs.DurationLemmas.{Last}
-use Rattle.mql_types.proofs.FetchColumnLemmas.{typed_without_faults}
+use Rattle.mql_types.proofs.FetchColumnLemmas.{typed_without_faults, both_none}
 
 -- ---- what is said of the times
 
@@ -92,11 +91,7 @@ few_times n (pos e) (negsuc w) f g few = absurd (omega (arith, ints))
 
 -- ---- a query that has a type has no fault
 
-parts_empty : (xs ys : List TypeFault) → xs ++ ys ≡ [] → (xs ≡ []) × (ys ≡ [])
-parts_empty [] ys h = (refl, h)
-parts_empty (x ∷ xs) ys h = absurd (cc)
-
-no_test : (test : Bool) (at : ℕ) (kind : TypeKind) → fault_where test at kind ≡ [] → test ≡ false
+pub no_test : (test : Bool) (at : ℕ) (kind : TypeKind) → fault_where test at kind ≡ [] → test ≡ false
 no_test true at kind h = absurd (cc)
 no_test false at kind h = refl
 
@@ -104,9 +99,9 @@ few_said : (held : SchemaLists) (query : PipeTree) → query_faults held query �
     → are_too_many (query_times query) ≡ false
 few_said held query h =
     let said = query_times query in
-    let rest = parts_empty (pipe_order_faults false query)
+    let rest = both_none (pipe_order_faults false query)
     (times_faults said ++ pipe_faults held (every_said said) query) h in
-    let times = parts_empty (times_faults said) (pipe_faults held (every_said said) query) rest.1 in
+    let times = both_none (times_faults said) (pipe_faults held (every_said said) query) rest.1 in
     no_test (are_too_many said) _ _ times.0
 
 -- at whatever moment it is asked

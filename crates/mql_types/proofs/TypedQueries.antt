@@ -44,10 +44,11 @@ use Rattle.mql_types.specs.Typing.{pipe_faults, pipe_part, source_faults, source
 use Rattle.mql_types.proofs.AlignedValues.{Takes}
 use Rattle.mql_types.proofs.FetchedTrees.{ArePoints, columns_fetched_are}
 use Rattle.mql_types.proofs.JoinedRows.{IsNarrow, all-front, all-map}
-use Rattle.mql_types.proofs.MadeCells.{nothing_is, same_item}
-use Rattle.mql_types.proofs.SumBounds.{no_faults, none_where, not_wide}
-use Rattle.mql_types.proofs.FetchColumnLemmas.{typed_without_faults}
+use Rattle.mql_types.proofs.SumBounds.{not_wide}
+use Rattle.mql_types.proofs.FetchColumnLemmas.{typed_without_faults, both_none}
 use Rattle.mql_types.proofs.TypedTrees.{AreRows}
+use Rattle.mon_value.proofs.PlainLemmas.{nothing_is, same_item}
+use Rattle.mql_types.proofs.TypedGridLemmas.{no_test}
 
 -- ---- parts
 
@@ -145,12 +146,12 @@ group_none : (columns : List Column) (names : List Name) (aggregates : List Aggr
     → group_faults columns names aggregates ≡ []
     → flat_map (aggregate_faults columns) aggregates ≡ []
 group_none columns names aggregates none =
-    (no_faults (flat_map (unknown_faults columns) names) (flat_map (aggregate_faults columns) aggregates)
-    (no_faults (taken_faults reserved_names (names ++ map aggregate_name aggregates)) _ none).1).1
+    (both_none (flat_map (unknown_faults columns) names) (flat_map (aggregate_faults columns) aggregates)
+    (both_none (taken_faults reserved_names (names ++ map aggregate_name aggregates)) _ none).1).1
 
 value_none : (columns : List Column) (items : List ItemTree) → value_faults columns items ≡ []
     → flat_map (item_sum_faults columns) items ≡ []
-value_none columns items none = (no_faults _ (flat_map (item_sum_faults columns) items) none).1
+value_none columns items none = (both_none _ (flat_map (item_sum_faults columns) items) none).1
 
 deed_ruled : (held : SchemaLists) (every : ℤ) → IsDuration every → (points : Option Kind) (input : NodeTree)
     → IsRuled held points input → (at : ℕ) (what : DeedTree)
@@ -199,7 +200,7 @@ ops_ruled : (held : SchemaLists) (every : ℤ) → IsDuration every → (part : 
     → OpsHaveDurations ops → ops_faults held every part ops ≡ [] → IsRuledPart held (ops_part held every part ops)
 ops_ruled held every long part own [] spelled durations none = own
 ops_ruled held every long part own (op ∷ ops) spelled durations none =
-    let parts = no_faults (deed_faults every part op.at op.what)
+    let parts = both_none (deed_faults every part op.at op.what)
     (ops_faults held every (deed_part held every part op.at op.what) ops) none in
     ops_ruled held every long (deed_part held every part op.at op.what)
     (deed_ruled held every long part.points part.tree own op.at op.what spelled.0 durations.0 parts.0) ops
@@ -239,20 +240,20 @@ fetch_ruled : (held : SchemaLists) → AllByRecursion IsHeld held.metrics → (a
     → fetch_faults held at schema metric ≡ []
     → IsRuledPart held (fetch_part held at schema metric)
 fetch_ruled held metrics at schema metric none =
-    let first = no_faults (fault_where (is_none (target_named schema.text held.targets)) schema.at UnknownSchema) _
+    let first = both_none (fault_where (is_none (target_named schema.text held.targets)) schema.at UnknownSchema) _
     none in
-    let second = no_faults (fault_where (is_none (metric_named metric.text held.metrics)) metric.at UnknownMetric) _
+    let second = both_none (fault_where (is_none (metric_named metric.text held.metrics)) metric.at UnknownMetric) _
     first.1 in
     fetch_by held metrics _ schema.text metric.text (target_named schema.text held.targets) refl
     (metric_named metric.text held.metrics) refl
-    (none_where _ _ _ first.0) (none_where _ _ _ second.0) refl
+    (no_test _ _ _ first.0) (no_test _ _ _ second.0) refl
 
 -- ---- joins and unions
 
 narrow_columns : (at : ℕ) (columns : List Column) → wide_faults at columns ≡ [] → AllByRecursion IsNarrow columns
 narrow_columns at [] none = tt
 narrow_columns at (c ∷ cs) none =
-    let parts = no_faults (width_faults at (width_of c)) (wide_faults at cs) none in
+    let parts = both_none (width_faults at (width_of c)) (wide_faults at cs) none in
     (not_wide at (width_of c) parts.0, narrow_columns at cs parts.1)
 
 branch_ruled : (held : SchemaLists) (by : How) (at : ℕ) (left right : NodeTree) → AreRows held left
@@ -260,7 +261,7 @@ branch_ruled : (held : SchemaLists) (by : How) (at : ℕ) (left right : NodeTree
     → branch_faults held by at (columns_of left) (columns_of right) ≡ []
     → AreRows held (branch_node held by at left right)
 branch_ruled held how.Join at left right own other none =
-    let parts = no_faults (pair_faults at (columns_of left) (columns_of right)) _ none in (
+    let parts = both_none (pair_faults at (columns_of left) (columns_of right)) _ none in (
       record {
         narrow = narrow_columns at (join_columns held (columns_of left) (columns_of right)) parts.1;
         is =
@@ -269,10 +270,10 @@ branch_ruled held how.Join at left right own other none =
       (own, other),
     )
 branch_ruled held how.Union at left right own other none =
-    let parts = no_faults (fault_where (not (same_columns (columns_of left) (columns_of right))) at BranchColumns) _
+    let parts = both_none (fault_where (not (same_columns (columns_of left) (columns_of right))) at BranchColumns) _
     none in (
       record {
-        same = not-false (same_columns (columns_of left) (columns_of right)) (none_where _ _ _ parts.0);
+        same = not-false (same_columns (columns_of left) (columns_of right)) (no_test _ _ _ parts.0);
         narrow = narrow_columns at (union_columns held (columns_of left) (columns_of right)) parts.1;
         is = refl;
       },
@@ -287,7 +288,7 @@ mutual
       → OpsHaveDurations (pipe_ops pipe) → pipe_faults held every pipe ≡ []
       → IsRuledPart held (pipe_part held every pipe)
   pipe_ruled held metrics every long (tree.Flow source ops) spelled durations none =
-      let parts = no_faults (source_faults held every source)
+      let parts = both_none (source_faults held every source)
       (ops_faults held every (source_part held every source) ops) none in
       let times = all-front (λ (op : OpTree). HasDuration op.what) (source_ops source) ops durations in
       ops_ruled held every long (source_part held every source)
@@ -309,7 +310,7 @@ mutual
       → AreRows held (branches_node held every by at pipes)
   branches_ruled held metrics every long by at tree.NoBranch spelled durations none = tt
   branches_ruled held metrics every long by at (tree.Branch first rest) spelled durations none =
-      let parts = no_faults (pipe_faults held every first) _ none in
+      let parts = both_none (pipe_faults held every first) _ none in
       let times = all-front (λ (op : OpTree). HasDuration op.what) (pipe_ops first) (branch_ops rest) durations in
       let part = pipe_part held every first in
       further_ruled held metrics every long by at (aligned_tree every part)
@@ -325,8 +326,8 @@ mutual
   further_ruled held metrics every long by at left own (tree.Branch next rest) spelled durations none =
       let part = pipe_part held every next in
       let right = aligned_tree every part in
-      let parts = no_faults (pipe_faults held every next) _ none in
-      let more = no_faults (branch_faults held by at (columns_of left) (columns_of right))
+      let parts = both_none (pipe_faults held every next) _ none in
+      let more = both_none (branch_faults held by at (columns_of left) (columns_of right))
       (further_faults held every by at (branch_node held by at left right) rest) parts.1 in
       let times = all-front (λ (op : OpTree). HasDuration op.what) (pipe_ops next) (branch_ops rest) durations in
       let other = aligned_ruled held every long part.points part.tree
@@ -346,8 +347,8 @@ query_ruled held metrics query spelled durations typed is long =
     let every = every_said (query_times query) in
     let same : typed.every ≡ every = ap (λ (t : TypedTree). t.every) (sym from.1) in
     let step : IsDuration every = subst IsDuration same long in
-    let first = no_faults (pipe_order_faults false query) _ from.0 in
-    let second = no_faults (times_faults (query_times query)) (pipe_faults held every query) first.1 in
+    let first = both_none (pipe_order_faults false query) _ from.0 in
+    let second = both_none (times_faults (query_times query)) (pipe_faults held every query) first.1 in
     let part = pipe_part held every query in
     let P : TypedTree → Type 0 = λ t. AreRows held t.tree in
     subst P from.1

@@ -21,9 +21,11 @@ use Rattle.mql_types.specs.Items.{percentile_faults_of, sum_width, width_of_type
 use Rattle.mql_types.specs.Soundness.{HasLiterals}
 use Rattle.mql_types.specs.Branches.{added_width, point_width, width_of}
 use Rattle.mql_types.proofs.KnownSums.{width_known}
-use Rattle.mql_types.proofs.SumBounds.{AreLawful, IsLawful, both_by, no_faults, none_where, not_wide, sum_within}
+use Rattle.mql_types.proofs.SumBounds.{AreLawful, IsLawful, both_by, not_wide, sum_within}
 use Rattle.mql_types.proofs.ValueRows.{no_cells}
-use Rattle.mql_types.proofs.MadeCells.{same_item}
+use Rattle.mql_types.proofs.FetchColumnLemmas.{both_none}
+use Rattle.mon_value.proofs.PlainLemmas.{same_item}
+use Rattle.mql_types.proofs.TypedGridLemmas.{no_test}
 
 number_cell : (of : ValueType) (own w : Width) → width_of_type of own ≡ Some w
     → asked.column_bits of own.cell ≡ Some w.cell
@@ -45,7 +47,7 @@ percentile_of_type type.Int bits at e = absurd cc
 percentile_of_type type.Bool bits at e = absurd cc
 percentile_of_type type.Text bits at e = absurd cc
 percentile_of_type (type.Dist bounds) bits at e =
-    ap (λ b. cond b (Some NUMBER_BITS) None) (not-false (nat_le bits 119) (none_where (not (nat_le bits 119)) at _ e))
+    ap (λ b. cond b (Some NUMBER_BITS) None) (not-false (nat_le bits 119) (no_test (not (nat_le bits 119)) at _ e))
 
 percentile_column : (o : Option Column) (at : ℕ) → percentile_faults o at ≡ []
     → option_and_then (λ (c : Column). percentile_width c.of c.cell_bits) o ≡ Some NUMBER_BITS
@@ -88,8 +90,8 @@ width_same columns lawful (tree.Column name) literal none w is = column_width (c
 width_same columns lawful (tree.Number at z) literal none w is =
     ap (λ (v : Width). Some v.cell) (same_item point_width w is)
 width_same columns lawful (tree.Plus left right) literal none w is =
-    let first = no_faults (operand_faults columns left) _ none in
-    let second = no_faults (operand_faults columns right) _ first.1 in
+    let first = both_none (operand_faults columns left) _ none in
+    let second = both_none (operand_faults columns right) _ first.1 in
     together (sum_width columns left) (sum_width columns right) (asked.sum_bits left columns)
     (asked.sum_bits right columns) w _ is second.1
     (λ v e. (
@@ -103,8 +105,8 @@ width_same columns lawful (tree.Plus left right) literal none w is =
           second.0 v e,
     ))
 width_same columns lawful (tree.Minus left right) literal none w is =
-    let first = no_faults (operand_faults columns left) _ none in
-    let second = no_faults (operand_faults columns right) _ first.1 in
+    let first = both_none (operand_faults columns left) _ none in
+    let second = both_none (operand_faults columns right) _ first.1 in
     together (sum_width columns left) (sum_width columns right) (asked.sum_bits left columns)
     (asked.sum_bits right columns) w _ is second.1
     (λ v e. (
@@ -159,7 +161,7 @@ pub sums_typed : (columns : List Column) → AreLawful columns → (items : List
     → AllByRecursion (λ (item : ItemTree). IsTypedSum item.sum columns × HasShares item.sum) items
 sums_typed columns lawful [] literals shares none = tt
 sums_typed columns lawful (item ∷ items) literals shares none =
-    let parts = no_faults (item_sum_faults columns item) (flat_map (item_sum_faults columns) items) none in (
+    let parts = both_none (item_sum_faults columns item) (flat_map (item_sum_faults columns) items) none in (
       (sum_typed columns lawful item.name item.sum literals.0 parts.0, shares.0),
       sums_typed columns lawful items
           literals.1 shares.1 parts.1,

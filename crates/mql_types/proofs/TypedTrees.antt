@@ -17,7 +17,6 @@ use Rattle.mon_value.specs.declared.schemas.TargetSchema.{TargetSchema}
 use Rattle.mon_value.specs.declared.tables.TimedRow.{TimedRow}
 use Rattle.mon_value.specs.declared.values.ValueType.{ValueType}
 use Rattle.mon_value.specs.declared.values.ValueType.TheVariants as type
-use Rattle.mon_value.proofs.SameLemmas.{both}
 use Rattle.mon_schema.specs.Faults.{is_bounded}
 use Rattle.mon_schema.specs.Names.{SchemaLists}
 use Rattle.mql_ast.specs.Rows.{column_named, CanCompute, FitWidths, HasBound, HasShares, predicate_truth}
@@ -40,14 +39,15 @@ use Rattle.mql_types.proofs.AlignedRows.{FitTable-align, aligned_lawful, can_ali
 use Rattle.mql_types.proofs.AlignedValues.{Takes}
 use Rattle.mql_types.proofs.FetchedTrees.{AllFit, ArePoints, columns_fetched_are, points_few, points_of_schemas}
 use Rattle.mql_types.proofs.GroupedRows.{FitTable-group_by, can_group, group_lawful}
-use Rattle.mql_types.proofs.JoinedRows.{FitTable-join, IsNarrow, all-both, all-front, all-made, all-map}
-use Rattle.mql_types.proofs.KeptRows.{FitTable-filter, FitTable-top, all-append, all-filter}
+use Rattle.mql_types.proofs.JoinedRows.{FitTable-join, IsNarrow, all-front, all-made, all-map}
+use Rattle.mql_types.proofs.KeptRows.{FitTable-filter, FitTable-top, all-filter}
 use Rattle.mql_types.proofs.MadeCells.{length_fit}
 use Rattle.mql_types.proofs.RowCounts.{rows_within_load}
 use Rattle.mql_types.proofs.SumBounds.{AreLawful, IsSound}
 use Rattle.mql_types.proofs.TypedSums.{sums_typed}
 use Rattle.mql_types.proofs.UnitedRows.{FitTable-union}
 use Rattle.mql_types.proofs.ValueRows.{FitTable-value, value_lawful}
+use Rattle.mon_value.proofs.PlainLemmas.{all_both, and_both, all_append, all_unmapped}
 
 -- ---- nodes of the rules
 
@@ -100,11 +100,6 @@ AreRows held (node.Union info left right) =
 
 -- ---- their columns
 
-made_all : {A B : Type 0} (P : B → Type 0) (f : A → B) (xs : List A) → AllByRecursion P (map f xs)
-    → AllByRecursion (λ x. P (f x)) xs
-made_all P f [] all = tt
-made_all P f (x ∷ xs) all = (all.0, made_all P f xs all.1)
-
 joined_sound : (c : Column) → IsSound c → IsNarrow (as_joined c) → IsSound (as_joined c)
 joined_sound c sound narrow = record {
   width = record { ordered = omega (arith, narrow); narrow = narrow };
@@ -129,17 +124,17 @@ join_lawful : (held : SchemaLists) (lefts rights : List Column) → AreLawful le
 join_lawful held lefts rights left right narrow =
     let parts = all-front IsNarrow (map (left_column held rights) lefts)
     (map as_joined (right_columns lefts rights)) narrow in
-    all-append IsSound (map (left_column held rights) lefts) (map as_joined (right_columns lefts rights))
+    all_append IsSound (map (left_column held rights) lefts) (map as_joined (right_columns lefts rights))
     (all-made (λ (c : Column). IsSound c × IsNarrow (left_column held rights c)) IsSound
     (left_column held rights) lefts
     (λ c p. left_sound held c (column_named c.name rights) p.0 p.1)
-    (all-both IsSound (λ (c : Column). IsNarrow (left_column held rights c)) lefts left
-    (made_all IsNarrow (left_column held rights) lefts parts.0)))
+    (all_both IsSound (λ (c : Column). IsNarrow (left_column held rights c)) lefts left
+    (all_unmapped IsNarrow (left_column held rights) lefts parts.0)))
     (all-made (λ (c : Column). IsSound c × IsNarrow (as_joined c)) IsSound as_joined (right_columns lefts rights)
     (λ c p. joined_sound c p.0 p.1)
-    (all-both IsSound (λ (c : Column). IsNarrow (as_joined c)) (right_columns lefts rights)
+    (all_both IsSound (λ (c : Column). IsNarrow (as_joined c)) (right_columns lefts rights)
     (all-filter IsSound _ rights right)
-    (made_all IsNarrow as_joined (right_columns lefts rights) parts.1)))
+    (all_unmapped IsNarrow as_joined (right_columns lefts rights) parts.1)))
 
 united_sound : (held : SchemaLists) (l r : Column) → IsSound l → IsSound r → IsNarrow (united_column held l r)
     → IsSound (united_column held l r)
@@ -160,7 +155,7 @@ some_bound : (of : ValueType) → is_bounded of ≡ true → HasBound of
 some_bound type.Int e = tt
 some_bound type.Bool e = tt
 some_bound type.Text e = tt
-some_bound (type.Dist bounds) e = leb-true 1 (length bounds) (both _ _ (both _ _ e).0).0
+some_bound (type.Dist bounds) e = leb-true 1 (length bounds) (and_both _ _ (and_both _ _ e).0).0
 
 pub lawful_columns : (held : SchemaLists) (tree : NodeTree) → AreRows held tree → AreLawful (columns_of tree)
 lawful_columns held (node.Fetch info schema metric) own = own
@@ -289,7 +284,7 @@ computable columns lawful rows fit =
     all-map (λ (row : TimedRow). FitColumns columns row.cells × FitWidths columns row.cells)
     (λ (row : TimedRow). CanCompute columns row.cells) rows
     (λ row p. record { bounded = bounds; shaped = p.0; widths = p.1 })
-    (all-both (λ (row : TimedRow). FitColumns columns row.cells)
+    (all_both (λ (row : TimedRow). FitColumns columns row.cells)
     (λ (row : TimedRow). FitWidths columns row.cells) rows fit.shaped fit.widths)
 
 groupable : (info : NodeInfo) (by : List ℕ) (with : List folds.Aggregate) (columns : List Column)

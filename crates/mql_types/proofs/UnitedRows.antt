@@ -17,15 +17,13 @@ use Rattle.mon_value.specs.declared.values.Value.{Value}
 use Rattle.mon_value.specs.declared.values.Value.TheVariants as value
 use Rattle.mon_value.specs.declared.values.ValueType.{ValueType}
 use Rattle.mon_value.specs.declared.values.ValueType.TheVariants as type
-use Rattle.mon_value.proofs.SameLemmas.{both}
 use Rattle.mon_schema.specs.Names.{SchemaLists}
 use Rattle.mql_ast.specs.Rows.{FitWidths}
 use Rattle.mql_types.specs.Branches.{same_column, same_columns, same_type, union_columns, united_column}
 use Rattle.mql_types.specs.Soundness.{FitTable}
-use Rattle.mql_types.proofs.KeptRows.{all-append}
 use Rattle.mql_types.proofs.Totals.{counted, total_at, totals_from}
 use Rattle.mql_types.proofs.JoinedRows.{IsNarrow, all-map, column_of_all, place_bound}
-use Rattle.mql_types.proofs.MadeCells.{nothing_is, same_item}
+use Rattle.mon_value.proofs.PlainLemmas.{nothing_is, and_both, all_append, same_item}
 
 -- ---- types
 
@@ -34,7 +32,7 @@ same_length [] [] same = refl
 same_length [] (y ∷ ys) same = absurd cc
 same_length (x ∷ xs) [] same = absurd cc
 same_length (x ∷ xs) (y ∷ ys) same =
-    ap (λ n. suc n) (same_length xs ys (both (int_eq x y) (pointwise int_eq xs ys) same).1)
+    ap (λ n. suc n) (same_length xs ys (and_both (int_eq x y) (pointwise int_eq xs ys) same).1)
 
 -- a value of a type is of the same type
 pub same_type-HasType : (a b : ValueType) (x : Value) → same_type a b ≡ true → HasType b x → HasType a x
@@ -61,8 +59,8 @@ same_type-HasType (type.Dist bounds) type.Text x same has = absurd cc
 
 types_same : (left right : Column) → same_column left right ≡ true → same_type left.of right.of ≡ true
 types_same left right same =
-    (both (same_type left.of right.of) (same_truth left.key right.key)
-    (both (same_text left.name right.name) (same_type left.of right.of && same_truth left.key right.key)
+    (and_both (same_type left.of right.of) (same_truth left.key right.key)
+    (and_both (same_text left.name right.name) (same_type left.of right.of && same_truth left.key right.key)
     same).1).0
 
 pub left_fits : (held : SchemaLists) (lefts rights : List Column) (xs : List Value) → same_columns lefts rights ≡ true
@@ -72,7 +70,7 @@ left_fits held [] rights (x ∷ xs) same fit = absurd fit
 left_fits held (l ∷ ls) [] xs same fit = absurd cc
 left_fits held (l ∷ ls) (r ∷ rs) [] same fit = absurd fit
 left_fits held (l ∷ ls) (r ∷ rs) (x ∷ xs) same fit =
-    (fit.0, left_fits held ls rs xs (both (same_column l r) (same_columns ls rs) same).1 fit.1)
+    (fit.0, left_fits held ls rs xs (and_both (same_column l r) (same_columns ls rs) same).1 fit.1)
 
 pub right_fits : (held : SchemaLists) (lefts rights : List Column) (xs : List Value) → same_columns lefts rights ≡ true
     → FitColumns rights xs → FitColumns (union_columns held lefts rights) xs
@@ -82,8 +80,8 @@ right_fits held [] (r ∷ rs) xs same fit = absurd cc
 right_fits held (l ∷ ls) [] xs same fit = absurd cc
 right_fits held (l ∷ ls) (r ∷ rs) [] same fit = absurd fit
 right_fits held (l ∷ ls) (r ∷ rs) (x ∷ xs) same fit = (
-  same_type-HasType l.of r.of x (types_same l r (both (same_column l r) (same_columns ls rs) same).0) fit.0,
-  right_fits held ls rs xs (both (same_column l r) (same_columns ls rs) same).1 fit.1,
+  same_type-HasType l.of r.of x (types_same l r (and_both (same_column l r) (same_columns ls rs) same).0) fit.0,
+  right_fits held ls rs xs (and_both (same_column l r) (same_columns ls rs) same).1 fit.1,
 )
 
 -- ---- widths of cells
@@ -171,13 +169,13 @@ pub FitTable-union : (held : SchemaLists) (lefts rights : List Column) (rows oth
 FitTable-union held lefts rights rows others fit other same narrow few =
     let columns = union_columns held lefts rights in
     let shaped : AllByRecursion (λ row. FitColumns columns row.cells) (rows ++ others) =
-    all-append (λ row. FitColumns columns row.cells) rows others
+    all_append (λ row. FitColumns columns row.cells) rows others
     (all-map (λ row. FitColumns lefts row.cells) (λ row. FitColumns columns row.cells) rows
     (λ row f. left_fits held lefts rights row.cells same f) fit.shaped)
     (all-map (λ row. FitColumns rights row.cells) (λ row. FitColumns columns row.cells) others
     (λ row f. right_fits held lefts rights row.cells same f) other.shaped) in
     let widths : AllByRecursion (λ row. FitWidths columns row.cells) (rows ++ others) =
-    all-append (λ row. FitWidths columns row.cells) rows others
+    all_append (λ row. FitWidths columns row.cells) rows others
     (all-map (λ row. FitWidths lefts row.cells) (λ row. FitWidths columns row.cells) rows
     (λ row f. left_widths held lefts rights row.cells f) fit.widths)
     (all-map (λ row. FitWidths rights row.cells) (λ row. FitWidths columns row.cells) others

@@ -25,15 +25,17 @@ use Rattle.mql_types.specs.Items.{item_column, item_name, item_sum_faults, key_c
 use Rattle.mql_types.specs.Items.{renamed_column, sum_width, value_columns}
 use Rattle.mql_types.specs.Meaning.{key_cells, value_row}
 use Rattle.mql_types.specs.Soundness.{FitTable, HasLiterals, TotalsFit}
-use Rattle.mql_types.proofs.JoinedRows.{FitColumns-append, FitWidths-append, all-both, all-map, column_of_all}
-use Rattle.mql_types.proofs.KeptRows.{all-append, all-filter}
+use Rattle.mql_types.proofs.JoinedRows.{FitColumns-append, FitWidths-append, all-map, column_of_all}
+use Rattle.mql_types.proofs.KeptRows.{all-filter}
 use Rattle.mql_types.proofs.KnownSums.{KnownNumber, cell_of, number_known, width_known}
-use Rattle.mql_types.proofs.MadeCells.{IsThere, MadeCell, all-filter_map, cell_there, from_item, get_back, get_front}
+use Rattle.mql_types.proofs.MadeCells.{IsThere, MadeCell, all-filter_map, cell_there, from_item}
 use Rattle.mql_types.proofs.MadeCells.{get_made, is_there, kept_at, kept_shaped, kept_within, length_fit, made_shaped}
-use Rattle.mql_types.proofs.MadeCells.{made_sums, made_within, nothing_is, same_item, Side, side_of, front, back}
-use Rattle.mql_types.proofs.SumBounds.{AreLawful, IsLawful, IsSound, amount, no_faults, sum_within}
+use Rattle.mql_types.proofs.MadeCells.{made_sums, made_within, Side, side_of, front, back}
+use Rattle.mql_types.proofs.SumBounds.{AreLawful, IsLawful, IsSound, amount, sum_within}
 use Rattle.mql_types.proofs.SumTotals.{summed, total_within}
 use Rattle.mql_types.proofs.Totals.{cell_within, counted, total_at, totals_from}
+use Rattle.mon_value.proofs.PlainLemmas.{get_back, get_front, nothing_is, all_both, all_append, same_item}
+use Rattle.mql_types.proofs.FetchColumnLemmas.{both_none}
 
 -- ---- one item
 
@@ -156,7 +158,7 @@ pub items_made : (columns : List Column) → AreLawful columns → (items : List
     → AllByRecursion (ItemMade columns) items
 items_made columns lawful [] literals none = tt
 items_made columns lawful (item ∷ items) literals none =
-    let parts = no_faults (item_sum_faults columns item) (flat_map (item_sum_faults columns) items) none in (
+    let parts = both_none (item_sum_faults columns item) (flat_map (item_sum_faults columns) items) none in (
       sum_made columns lawful item.name item.sum literals.0 parts.0,
       items_made columns lawful items literals.1
           parts.1,
@@ -216,7 +218,7 @@ record RowMade (columns : List Column) (items : List ItemTree) (row made : Timed
   some : list_any (misses columns row.cells) items ≡ false
   is : row_made columns items row ≡ made
 
-row_by : (b : Bool) (x y : TimedRow) → cond b None (Some x) ≡ Some y → (b ≡ false) × (x ≡ y)
+pub row_by : (b : Bool) (x y : TimedRow) → cond b None (Some x) ≡ Some y → (b ≡ false) × (x ≡ y)
 row_by true x y e = absurd cc
 row_by false x y e = (refl, same_item x y e)
 
@@ -347,7 +349,7 @@ pub FitTable-value : (columns : List Column) (items : List ItemTree) (rows : Lis
 FitTable-value columns items rows fit lawful literals none few =
     let all = items_made columns lawful items literals none in
     let both : AllByRecursion (FitsBoth columns) rows =
-    all-both (λ row. FitColumns columns row.cells) (λ row. FitWidths columns row.cells) rows fit.shaped
+    all_both (λ row. FitColumns columns row.cells) (λ row. FitWidths columns row.cells) rows fit.shaped
     fit.widths in
     let made : AllByRecursion (FitsBoth (value_columns columns items)) (filter_map (value_row columns items) rows) =
     all-filter_map (FitsBoth columns) (FitsBoth (value_columns columns items)) (value_row columns items) rows
@@ -381,7 +383,7 @@ pub value_lawful : (columns : List Column) (items : List ItemTree) → AreLawful
     → AllByRecursion (λ (item : ItemTree). HasLiterals item.sum) items → flat_map (item_sum_faults columns) items ≡ []
     → AreLawful (value_columns columns items)
 value_lawful columns items lawful literals none =
-    all-append IsSound (key_columns columns) (filter_map (item_column columns) items)
+    all_append IsSound (key_columns columns) (filter_map (item_column columns) items)
     (all-filter IsSound (λ (column : Column). column.key) columns lawful)
     (all-filter_map (λ (item : ItemTree). (c : Column) → item_column columns item ≡ Some c → IsSound c) IsSound
     (item_column columns) items

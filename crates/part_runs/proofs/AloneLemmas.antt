@@ -25,7 +25,8 @@ use Rattle.mon_script.specs.declared.forms.LineForm.{LineForm}
 use Rattle.part_runs.specs.PartsDone.{PartDid}
 use Rattle.part_runs.proofs.ListLemmas.{all_mapped, first_of}
 use Rattle.part_runs.proofs.NumberLemmas.{kept_every}
-use Rattle.part_runs.proofs.PassLemmas.{own_kept, own_of, seen_kept, under_kept}
+use Rattle.part_runs.proofs.PassLemmas.{own_kept, seen_kept, under_kept}
+use Rattle.mon_store.proofs.WriteLemmas.{own_is}
 
 abbrev own_entries_of : Knowledge → History → List BookEntry
 own_entries_of know = own_entries know.purse.own
@@ -56,14 +57,14 @@ module _ (setting : Setting) (config : Config) (line : RanLine) (text : List ℕ
   first h =
       let own = own_kept before.purse.own (pass_of before) begun.number in
       seen_kept before (pass_of before) h own.kept begun.exact (contains_own before own.kept own.is) own.numbered
-      ∙ sym (own_of before.purse.own own.kept h own.is)
+      ∙ sym (own_is before.purse.own own.kept h own.is)
 
   then : (h : History) → filter (λ e. nat_eq (book_entry_pass e) (pass_of before)) (entries after.seen h)
       ≡ own_entries_of before h ++ wrote.made h
   then h =
       let own = own_kept after.purse.own (pass_of before) (wrote.keeps.number ∙ begun.number) in
       seen_kept after (pass_of before) h own.kept ended.exact (contains_own after own.kept own.is) own.numbered
-      ∙ sym (own_of after.purse.own own.kept h own.is) ∙ wrote.own h
+      ∙ sym (own_is after.purse.own own.kept h own.is) ∙ wrote.own h
 
   met_same : (h : History)
       → AllByRecursion (λ n. filter (λ e. nat_eq (book_entry_pass e) n) (entries after.seen h)

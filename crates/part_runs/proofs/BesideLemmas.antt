@@ -34,8 +34,9 @@ use Rattle.part_runs.specs.Courses.{BlockRan, EachHasRun, HasRun, HaveMet, Way, 
 use Rattle.part_runs.specs.PartsDone.{CanSplit, PartDid, ran_beside}
 use Rattle.part_runs.proofs.ListLemmas.{all_mapped, first_of, on_apart}
 use Rattle.part_runs.proofs.NumberLemmas.{every_number, kept_times, times_in}
-use Rattle.part_runs.proofs.PassLemmas.{OwnKept, have_grown, own_kept, own_of, seen_kept, under_kept}
+use Rattle.part_runs.proofs.PassLemmas.{OwnKept, have_grown, own_kept, seen_kept, under_kept}
 use Rattle.running_query.proofs.GoingLemmas.{fronts_through, same_fronts}
+use Rattle.mon_store.proofs.WriteLemmas.{own_is}
 
 -- ---- what lines came to
 
@@ -173,7 +174,7 @@ module _ (later : (config : Config) (seen more : Histories) (from : History → 
       made = wrote.made;
       makes = wrote.makes;
       first = λ h. run.began.exact (new_number number) h (first_of (new_number number) []);
-      then = λ h. seen_last h ∙ sym (own_of way.know.purse.own own.kept h own.is) ∙ wrote.own h;
+      then = λ h. seen_last h ∙ sym (own_is way.know.purse.own own.kept h own.is) ∙ wrote.own h;
       found = later config way.know.seen last.seen (λ h. length (entries know.seen h)) number
           (ran_line what content ran.trace) wrote.made grown (λ h. seen_last h ∙ sym (seen_then h)) wrote.makes
           wrote.found;

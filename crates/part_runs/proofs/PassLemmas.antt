@@ -1,6 +1,6 @@
 -- What a caller that has seen just its own entries has seen under each number that it keeps.
 use Rattle.std.proofs.lemmas.Bool.{eq-eqb}
-use Rattle.std.proofs.Common.{◌≡◌, ℕ, nat_eq, true, map, filter, Some, None, refl, sym, ap}
+use Rattle.std.proofs.Common.{◌≡◌, ℕ, nat_eq, true, map, filter, Some, None, refl, sym}
 use Rattle.std.proofs.Common.{◌∙◌, subst}
 use Rattle.std.specs.Prelude.{Option, option_map}
 use Rattle.std.specs.List.{AllByRecursion, Contains, list_any}
@@ -10,7 +10,6 @@ use Rattle.history_book.specs.declared.views.History.{History}
 use Rattle.history_book.specs.declared.views.Kept.{Kept}
 use Rattle.know.specs.Knowledge.{Knowledge}
 use Rattle.mon_store.specs.Passes.{HasSeenItsOwn}
-use Rattle.mon_store.specs.Writes.{own_entries}
 use Rattle.mon_store.proofs.OwnLemmas.{within_front}
 use Rattle.mon_topo.specs.HeldHistories.{AreHeld}
 use Rattle.mon_topo.specs.Settings.{Setting}
@@ -49,10 +48,6 @@ pub seen_kept : (know : Knowledge) (number : ℕ) (history : History) (kept : Ke
 seen_kept know number history kept exact has numbered =
     subst (λ n. filter (λ e. nat_eq (book_entry_pass e) n) (entries know.seen history) ≡ entries kept.own history)
     numbered (exact kept history has)
-
-pub own_of : (own : Option Kept) (kept : Kept) (history : History) → own ≡ Some kept
-    → own_entries own history ≡ entries kept.own history
-own_of own kept history e = ap (λ (o : Option Kept). own_entries o history) e
 
 -- ---- who has every number
 

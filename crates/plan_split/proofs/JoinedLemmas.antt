@@ -1,11 +1,12 @@
 -- What joined formulas hold of, and how their lists lie in memory.
-use Rattle.std.proofs.Common.{◌≡◌, ◌∙◌, ℕ, Bool, true, false, ◌&&◌, ◌||◌, List, [], ◌∷◌, ◌++◌, map, refl, ap, sym}
+use Rattle.std.proofs.Common.{◌≡◌, ◌∙◌, ℕ, Bool, ◌&&◌, ◌||◌, List, [], ◌∷◌, ◌++◌, map, refl, ap, sym}
 use Rattle.std.specs.List.{list_all, list_any}
 use Rattle.std.specs.declared.alloc.Global.{Global}
 use Rattle.std.specs.declared.vec.Vec.{Vec}
 use Rattle.std.proofs.lemmas.List.{map-append}
 use Rattle.std.proofs.lemmas.List.Folds.{list_all-append, list_any-append}
 use Rattle.mon_hints.proofs.FormulaLemmas.{and_tree, or_tree}
+use Rattle.mon_value.proofs.PlainLemmas.{and_true, or_false}
 use Rattle.mon_hints.specs.Formulas.{FormulaTree, All, Bucket, And, Or, FormulaTrees, NoFormula, Then, all_hold}
 use Rattle.mon_hints.specs.Formulas.{any_holds, formulas, formula_tree, holds}
 use Rattle.mon_hints.specs.declared.formulas.Formula.{Formula}
@@ -23,14 +24,6 @@ each_holds buckets trees = list_all (λ tree. holds tree buckets) trees
 
 abbrev pub some_holds : List ℕ → List FormulaTree → Bool
 some_holds buckets trees = list_any (λ tree. holds tree buckets) trees
-
-and_true : (b : Bool) → (b && true) ≡ b
-and_true true = refl
-and_true false = refl
-
-or_false : (b : Bool) → (b || false) ≡ b
-or_false true = refl
-or_false false = refl
 
 each_listed : (buckets : List ℕ) (trees : FormulaTrees) → each_holds buckets (formula_list trees)
     ≡ all_hold trees buckets

@@ -4,6 +4,7 @@ use Rattle.std.proofs.Common.{length, map, get_or, inl, inr, sym, subst, arith}
 use Rattle.std.specs.List.{AllByRecursion as All}
 use Rattle.std.proofs.lemmas.Bool.{eqb-true, or_cases}
 use Rattle.mon_hints.proofs.ListingLemmas.{place_among}
+use Rattle.mon_value.proofs.PlainLemmas.{all_append}
 use Rattle.mon_hints.specs.Hints.{bucket_of, pattern_excerpts, value_excerpts}
 use Rattle.mon_hints.specs.Formulas.{All as Always, And, Bucket, FormulaTree, FormulaTrees, NoFormula, Or, Then}
 use Rattle.mon_hints.specs.Formulas.{all_named, formulas, named_buckets, IsListing, is_among}
@@ -12,7 +13,6 @@ use Rattle.mql_ast.specs.Trees as tree
 use Rattle.mql_ast.specs.Trees.{PredicateTree}
 use Rattle.mql_ast.specs.declared.predicates.Comparison.{Comparison}
 use Rattle.mql_ast.specs.declared.predicates.Comparison.TheVariants as comparison
-use Rattle.mql_types.proofs.DurationLemmas.{all_append}
 use Rattle.mql_types.specs.Meaning.{names_keys}
 use Rattle.mql_types.specs.Nodes as node
 use Rattle.mql_types.specs.Nodes.{NodeTree}

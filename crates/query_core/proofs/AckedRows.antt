@@ -4,11 +4,11 @@ use Rattle.std.proofs.Common.{[], ◌∷◌, ◌++◌, length, map, take, slice_
 use Rattle.std.proofs.Common.{append-nil, append_assoc, length-append, arith}
 use Rattle.std.specs.Prelude.{filter, Contains}
 use Rattle.std.specs.List.{AllByRecursion as All, flat_map}
-use Rattle.std.proofs.lemmas.Bool.{and_from, cases_lt, eq-eqb, or_parts}
+use Rattle.std.proofs.lemmas.Bool.{cases_lt, eq-eqb, or_parts}
 use Rattle.std.proofs.lemmas.Bool.Decides.{nat_tests}
 use Rattle.std.proofs.lemmas.List.{get_or_at, take_at}
 use Rattle.std.proofs.lemmas.List.Concat.{flat_map-append}
-use Rattle.std.proofs.lemmas.List.Elements.{Contains-append_left, Contains-append_right}
+use Rattle.std.proofs.lemmas.List.Elements.{Contains-append_right}
 use Rattle.std.proofs.lemmas.List.Sums.{sum_by-append, sum_by-cons}
 use Rattle.mon_value.specs.LeafHistories.{entry_rows, is_opened, replica_rows, same_replica}
 use Rattle.mon_value.specs.declared.histories.Ack.{Ack}
@@ -24,6 +24,9 @@ use Rattle.mon_value.specs.declared.positions.SlotLeaf.{SlotLeaf}
 use Rattle.mon_value.specs.declared.rows.Row.{Row}
 use Rattle.mon_schema.specs.Names.{SchemaLists}
 use Rattle.mon_topo.proofs.RangeHistoryLemmas.{AreNumbered, IsLegal-push, all_append, all_on, get_there, numbered}
+use Rattle.mon_value.proofs.LeafHistoryLemmas.{same_replica-itself}
+use Rattle.mon_value.proofs.PlainLemmas.{in_flat_map}
+use Rattle.mon_topo.proofs.ServingLemmas.{slot_is}
 use Rattle.mon_value.specs.Histories.{leaf_history, same_slot}
 use Rattle.mon_value.specs.declared.histories.Histories.{Histories}
 use Rattle.mon_topo.specs.HeldHistories.{IsBorneOut}
@@ -35,14 +38,6 @@ use Rattle.mon_topo.specs.Zones.{first_replicas}
 use Rattle.mon_topo.specs.declared.zones.ZoneSpec.{ZoneSpec}
 
 -- ---- lists
-
-pub in_flat_map : {X Y : Type 0} (f : X → List Y) (xs : List X) (x : X) (y : Y) → Contains xs x → Contains (f x) y
-    → Contains (flat_map f xs) y
-in_flat_map f [] x y there here = absurd (omega (arith, there.1))
-in_flat_map f (first ∷ xs) x y (zero, l, e) here =
-    Contains-append_left (f first) (flat_map f xs) y (subst (λ z. Contains (f z) y) (sym e) here)
-in_flat_map f (first ∷ xs) x y (suc k, l, e) here =
-    Contains-append_right (f first) (flat_map f xs) y (in_flat_map f xs x y (k, omega (arith, l), e) here)
 
 all_in_flat_map : {X Y : Type 0} (f : X → List Y) (xs : List X) (x : X) (ys : List Y) → Contains xs x
     → All (Contains (f x)) ys → All (Contains (flat_map f xs)) ys
@@ -62,9 +57,6 @@ at_place P (y ∷ xs) zero x all e = let same : y ≡ x = cc in subst P same all
 at_place P (y ∷ xs) (suc k) x all e = at_place P xs k x all.1 e
 
 -- ---- a leaf's history
-
-same_itself : (r : Range) (slot : Slot) → same_replica r slot r slot ≡ true
-same_itself r slot = and_from (nat_eq r.0 r.0) (nat_eq slot.0 slot.0) (eq-eqb r.0 r.0 refl) (eq-eqb slot.0 slot.0 refl)
 
 opened_at : (r other : Range) (slot place : Slot) (pass : ℕ) (rows : List Row) (history : List Entry)
     → is_opened r slot history ≡ true → is_opened r slot (entry.Opened pass other place rows ∷ history) ≡ true
@@ -87,7 +79,7 @@ pub opened_there : (r : Range) (slot : Slot) (pass : ℕ) (rows : List Row) (his
 opened_there r slot pass rows [] there = absurd (omega (arith, there.1))
 opened_there r slot pass rows (first ∷ history) (zero, l, e) =
     subst (λ (one : Entry). is_opened r slot (one ∷ history) ≡ true) (sym e)
-    (ap (λ b. b || is_opened r slot history) (same_itself r slot))
+    (ap (λ b. b || is_opened r slot history) (same_replica-itself r slot))
 opened_there r slot pass rows (first ∷ history) (suc k, l, e) =
     opened_behind r slot first history (opened_there r slot pass rows history (k, omega (arith, l), e))
 
@@ -95,25 +87,20 @@ rows_opened : (r : Range) (slot : Slot) (pass : ℕ) (rows : List Row) (history 
     → Contains history (entry.Opened pass r slot rows) → All (Contains (replica_rows r slot history)) rows
 rows_opened r slot pass rows history there =
     all_in_flat_map (entry_rows r slot) history (entry.Opened pass r slot rows) rows there
-    (subst (λ (own : List Row). All (Contains own) rows) (sym (ap (λ b. cond b rows []) (same_itself r slot)))
+    (subst (λ (own : List Row). All (Contains own) rows) (sym (ap (λ b. cond b rows []) (same_replica-itself r slot)))
     (all_of_itself rows))
 
 row_put : (r : Range) (slot : Slot) (pass : ℕ) (row : Row) (history : List Entry)
     → Contains history (entry.Put pass r slot row) → Contains (replica_rows r slot history) row
 row_put r slot pass row history there =
     in_flat_map (entry_rows r slot) history (entry.Put pass r slot row) row there
-    (subst (λ (own : List Row). Contains own row) (sym (ap (λ b. cond b (row ∷ []) []) (same_itself r slot)))
+    (subst (λ (own : List Row). Contains own row) (sym (ap (λ b. cond b (row ∷ []) []) (same_replica-itself r slot)))
     (zero, omega arith, refl))
 
 -- ---- slots that took a row
 
 abbrev slot_numbered : ℕ → Slot
 slot_numbered n = record { 0 = n }
-
-slot_same : (a b : Slot) → same_slot a b ≡ true → a ≡ b
-slot_same a b e =
-    let same : a.0 ≡ b.0 = grind (arith, nat_tests) in
-    ap slot_numbered same
 
 abbrev one_if : Bool → ℕ
 one_if b = cond b 1 0
@@ -133,7 +120,7 @@ counted slot (x ∷ xs) (suc k, l, e) =
 
 found_by : (slot x : Slot) (xs : List Slot) (b : Bool) → same_slot slot x ≡ b → (0 < times slot xs → Contains xs slot)
     → 0 < one_if b + times slot xs → Contains (x ∷ xs) slot
-found_by slot x xs true e rest some = (zero, omega arith, sym (slot_same slot x e))
+found_by slot x xs true e rest some = (zero, omega arith, sym (slot_is slot x e))
 found_by slot x xs false e rest some =
     Contains-append_right (x ∷ []) xs slot (rest (omega (arith, some)))
 

@@ -30,10 +30,11 @@ use Rattle.mixer.specs.Divisions.{ShareNoLocation, all_rows, has_location}
 use Rattle.mon_meaning.specs.ReadableSlots.{AreApart, ShareNoTarget}
 use Rattle.mixer.specs.Divisions.{together}
 use Rattle.mql_types.proofs.JoinedRows.{all-map}
-use Rattle.mql_types.proofs.KeptRows.{all-append, all-filter}
+use Rattle.mql_types.proofs.KeptRows.{all-filter}
 use Rattle.query_core.specs.declared.answers.Resolved.{Resolved}
 use Rattle.mon_topo.proofs.PlacedRangeLemmas.{is_placed}
 use Rattle.query_core.proofs.LeafLemmas.{same_leaves}
+use Rattle.mon_value.proofs.PlainLemmas.{equal_itself, all_append}
 
 -- ---- ranges, each of which stands once
 
@@ -48,9 +49,6 @@ AreOthers (one ∷ rest) = AllByRecursion (IsOther one) rest × AreOthers rest
 abbrev pub leaf_for : List Resolved → Range → Option Leaf
 leaf_for [] range = None
 leaf_for (one ∷ rest) range = cond (nat_eq one.range.0 range.0) (Some one.leaf) (leaf_for rest range)
-
-pub itself : (n : ℕ) → nat_eq n n ≡ true
-itself n = grind (arith, nat_tests)
 
 later : (one other : Resolved) (rest : List Resolved) → IsOther one other → leaf_for rest other.range ≡ Some other.leaf
     → leaf_for (one ∷ rest) other.range ≡ Some other.leaf
@@ -68,7 +66,7 @@ pub found : (resolved : List Resolved) → AreOthers resolved
     → AllByRecursion (λ one. leaf_for resolved one.range ≡ Some one.leaf) resolved
 found [] apart = tt
 found (one ∷ rest) apart = (
-  ap (λ b. cond b (Some one.leaf) (leaf_for rest one.range)) (itself one.range.0),
+  ap (λ b. cond b (Some one.leaf) (leaf_for rest one.range)) (equal_itself one.range.0),
   all_later one rest rest apart.0 (found rest apart.1),
 )
 
@@ -77,12 +75,7 @@ found (one ∷ rest) apart = (
 pub all_together : (P : Row → Type 0) (lists : List (List Row)) → AllByRecursion (AllByRecursion P) lists
     → AllByRecursion P (together lists)
 all_together P [] all = tt
-all_together P (rows ∷ lists) all = all-append P rows (together lists) all.0 (all_together P lists all.1)
-
-pub all_flat : {A B : Type 0} (P : B → Type 0) (f : A → List B) (xs : List A)
-    → AllByRecursion (λ x. AllByRecursion P (f x)) xs → AllByRecursion P (flat_map f xs)
-all_flat P f [] all = tt
-all_flat P f (x ∷ xs) all = all-append P (f x) (flat_map f xs) all.0 (all_flat P f xs all.1)
+all_together P (rows ∷ lists) all = all_append P rows (together lists) all.0 (all_together P lists all.1)
 
 pub all_both : {A : Type 0} (P Q R : A → Type 0) (xs : List A) → ((x : A) → P x → Q x → R x) → AllByRecursion P xs
     → AllByRecursion Q xs → AllByRecursion R xs
@@ -184,7 +177,7 @@ module _ (held : SchemaLists) (zones : List ZoneSpec) (own : Resolved → List R
   lie_if : (leaf : Leaf) (one : Resolved) (rest : List Resolved) (b : Bool)
       → (b ≡ true → AllByRecursion (LiesOn leaf) (own one)) → AllByRecursion (LiesOn leaf) (flat_map own rest)
       → AllByRecursion (LiesOn leaf) (flat_map own (cond b (one ∷ rest) rest))
-  lie_if leaf one rest true here more = all-append (LiesOn leaf) (own one) (flat_map own rest) (here refl) more
+  lie_if leaf one rest true here more = all_append (LiesOn leaf) (own one) (flat_map own rest) (here refl) more
   lie_if leaf one rest false here more = more
 
   lie_among : (leaf : Leaf) (some : List Resolved) → AllByRecursion (λ one. leaf_for resolved one.range
@@ -231,7 +224,7 @@ module _ (held : SchemaLists) (zones : List ZoneSpec) (own : Resolved → List R
     one_leaf range one two =
         let same : Some leaf ≡ Some other_leaf = sym one ∙ two in
         let is : leaf ≡ other_leaf = cc in
-        let test : same_leaf leaf other_leaf ≡ true = ap (same_leaf leaf) (sym is) ∙ itself leaf.0 in
+        let test : same_leaf leaf other_leaf ≡ true = ap (same_leaf leaf) (sym is) ∙ equal_itself leaf.0 in
         absurd cc
 
     lie_apart : (row other : Row) → other.key.target ≡ row.key.target → LiesOn leaf row → LiesOn other_leaf other
@@ -299,7 +292,7 @@ module _ (held : SchemaLists) (zones : List ZoneSpec) (own : Resolved → List R
     text_by location other true same one two =
         let alike : location ≡ other = (same_text-Decides location other).0 same in
         let number : z ≡ y = one_zone z y (sym one ∙ ap (zone_of zones) alike ∙ two) in
-        let test : nat_eq z y ≡ true = ap (nat_eq z) (sym number) ∙ itself z in
+        let test : nat_eq z y ≡ true = ap (nat_eq z) (sym number) ∙ equal_itself z in
         absurd cc
     text_by location other false same one two = refl
 
@@ -390,7 +383,7 @@ module _ (held : SchemaLists) (zones : List ZoneSpec) (own : Resolved → List R
     other_range (Some range) one out is =
         let same : range ≡ one.range = cc in
         let test : nat_eq one.range.0 range.0 ≡ true =
-        ap (λ (r : Range). nat_eq one.range.0 r.0) same ∙ itself one.range.0 in
+        ap (λ (r : Range). nat_eq one.range.0 r.0) same ∙ equal_itself one.range.0 in
         absurd cc
 
     no_points : (one : Resolved) → is_of home one ≡ false → AllByRecursion (IsAtHome held zones one.range) (own one)

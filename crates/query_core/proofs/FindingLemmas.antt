@@ -27,6 +27,7 @@ use Rattle.query_core.specs.Sessions.{IsFoundSo, IsResolvedSo}
 use Rattle.mon_topo.specs.Views.{View}
 use Rattle.query_core.specs.Traces.{found_leaves}
 use Rattle.query_core.proofs.LeafLemmas.{same_leaves}
+use Rattle.mon_value.proofs.PlainLemmas.{some_not_none}
 
 -- ---- what stays as histories grow
 
@@ -54,9 +55,6 @@ free avoided replicas = filter (λ replica. not (is_avoided avoided replica)) re
 
 abbrev AllDown : List Leaf → List SlotLeaf → Type 0
 AllDown avoided replicas = AllByRecursion (λ replica. is_avoided avoided replica ≡ true) replicas
-
-some_not_none : {X : Type 0} (x : X) → Some x ≡ None → ⊥
-some_not_none x e = absurd (cc)
 
 free_at : (avoided : List Leaf) (replica : SlotLeaf) (replicas : List SlotLeaf) (b : Bool) → is_avoided avoided replica
     ≡ b

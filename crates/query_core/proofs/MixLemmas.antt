@@ -29,26 +29,15 @@ use Rattle.query_core.specs.Loadings.{no_word}
 use Rattle.query_core.specs.Mixtures.{HasParts, IsRootMixed, IsZoneMixed, MayMixRoot, TurnSettles, root_stage, typed_of}
 use Rattle.query_core.specs.Program.{next_zone, stopped_stage}
 use Rattle.query_core.specs.Rounds.{round_of, QuerySetting}
+use Rattle.mon_value.proofs.PlainLemmas.{all_front, all_back, all_last}
 
 -- ---- the last zone of several
 
-front_of : {X : Type 0} (P : X → Type 0) (xs ys : List X) → AllByRecursion P (xs ++ ys) → AllByRecursion P xs
-front_of P [] ys all = record {}
-front_of P (x ∷ xs) ys all = (all.0, front_of P xs ys all.1)
-
-back_of : {X : Type 0} (P : X → Type 0) (xs ys : List X) → AllByRecursion P (xs ++ ys) → AllByRecursion P ys
-back_of P [] ys all = all
-back_of P (x ∷ xs) ys all = back_of P xs ys all.1
-
 last_rows : (P : Row → Type 0) (zones : List (List (List Row))) (leaves : List (List Row))
     → AllByRecursion P (all_rows (zones ++ leaves ∷ [])) → AllByRecursion P (together leaves)
-last_rows P [] leaves all = front_of P (together leaves) [] all
+last_rows P [] leaves all = all_front P (together leaves) [] all
 last_rows P (zone ∷ zones) leaves all =
-    last_rows P zones leaves (back_of P (together zone) (all_rows (zones ++ leaves ∷ [])) all)
-
-last_one : {X : Type 0} (P : X → Type 0) (xs : List X) (x : X) → AllByRecursion P (xs ++ x ∷ []) → P x
-last_one P [] x all = all.0
-last_one P (y ∷ xs) x all = last_one P xs x all.1
+    last_rows P zones leaves (all_back P (together zone) (all_rows (zones ++ leaves ∷ [])) all)
 
 module _ (setting : QuerySetting) where
   -- the answers of its leaves can be mixed
@@ -67,7 +56,7 @@ module _ (setting : QuerySetting) where
           is = of.is;
           fit = last_rows (λ (row : Row). fits of.held row ≡ true) has.zones has.leaves of.fit;
         };
-        apart = last_one (AreApart ShareNoTarget) has.zones has.leaves has.divided.leaves_apart;
+        apart = all_last (AreApart ShareNoTarget) has.zones has.leaves has.divided.leaves_apart;
         each = has.of_leaves;
       }
 

@@ -18,16 +18,12 @@ use Rattle.mql_types.proofs.KeptRows.{all-filter}
 use Rattle.query_core.specs.declared.answers.Resolved.{Resolved}
 use Rattle.query_core.specs.Traces.{IsFirstServing, replica_of}
 use Rattle.query_core.proofs.AckedRows.{HasRows, serve_at}
+use Rattle.mon_value.proofs.PlainLemmas.{take_nothing}
 
 nothing_past : {X : Type 0} (lists : List (List X)) (n : ℕ) → length lists ≤ n → get_or lists n [] ≡ []
 nothing_past [] n past = refl
 nothing_past (xs ∷ lists) zero past = absurd (omega (arith, past))
 nothing_past (xs ∷ lists) (suc n) past = nothing_past lists n (omega (arith, past))
-
-take_nothing : {X : Type 0} (n : ℕ) (xs : List X) → xs ≡ [] → take n xs ≡ []
-take_nothing zero xs none = refl
-take_nothing (suc n) [] none = refl
-take_nothing (suc n) (x ∷ xs) none = absurd cc
 
 module _ (held : SchemaLists) (zones : List ZoneSpec) (points : ℕ)
     (replicas : (range : ℕ) → range < length (ranges_in zones) → HasReplicas zones (range_numbered range))

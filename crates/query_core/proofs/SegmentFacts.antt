@@ -19,7 +19,6 @@ use Rattle.mon_value.specs.declared.histories.Entry.{Entry}
 use Rattle.mon_value.specs.declared.positions.Range.{Range}
 use Rattle.mon_value.specs.declared.rows.Row.{Row}
 use Rattle.mql_types.proofs.JoinedRows.{all-map}
-use Rattle.mql_types.proofs.KeptRows.{all-append}
 use Rattle.mql_types.specs.Levels.{sent_amount}
 use Rattle.query_core.specs.declared.answers.Resolved.{Resolved}
 use Rattle.query_core.specs.declared.areas.Area.{Area}
@@ -34,6 +33,7 @@ use Rattle.mon_meaning.specs.ReadableSlots.{slot_rows}
 use Rattle.mon_topo.proofs.SizeLemmas.{parts_so_far}
 use Rattle.query_core.proofs.DividedRows.{all_both}
 use Rattle.query_core.proofs.ReadLeaves.{IsUnread, LeafRead, SendsNothing, reads_from}
+use Rattle.mon_value.proofs.PlainLemmas.{all_append}
 
 -- ---- ranges in their order
 
@@ -282,7 +282,7 @@ module _ (setting : QuerySetting) (moment : ℤ) where
         answers = is.more_answers ∙ ap (λ front. front ++ answers_in one) behind.answers ∙ flat_push answers_in
             segments one;
         areas = areas_push zones 0 segments one behind.areas (area ∙ ap (area_of zones) (sym number));
-        each = all-append (SegmentSo now) segments (one ∷ []) behind.each (so, tt);
+        each = all_append (SegmentSo now) segments (one ∷ []) behind.each (so, tt);
         seen = subst (SeenSo zones) (sym is.same_seen) behind.seen;
       }
 

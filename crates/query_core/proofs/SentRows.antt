@@ -12,7 +12,6 @@ use Rattle.mon_topo.specs.Zones.{first_leaf}
 use Rattle.mon_value.specs.declared.positions.Leaf.{Leaf}
 use Rattle.mon_value.specs.declared.rows.Row.{Row}
 use Rattle.mon_fold.specs.declared.answers.LeafAnswer.{LeafAnswer}
-use Rattle.mql_types.proofs.KeptRows.{all-append}
 use Rattle.mql_types.specs.Levels.{sent_amount}
 use Rattle.query_core.specs.Askings.{IsAskedOf}
 use Rattle.query_core.specs.declared.answers.Resolved.{Resolved}
@@ -34,8 +33,9 @@ use Rattle.query_core.proofs.SegmentFacts.{SegmentSo, area_in, looks_in, read_ro
 use Rattle.query_core.proofs.StoppedTraces.{before_so, ranges_of, stands_so}
 use Rattle.query_core.proofs.ThroughZones.{none_first}
 use Rattle.query_core.proofs.WholeTraces.{AllStand, first_stands, others_stand, ranges_all, stand}
-use Rattle.query_core.proofs.ZoneRows.{AllZoned, Stands, get_back, get_front, rows_on_each}
+use Rattle.query_core.proofs.ZoneRows.{AllZoned, Stands, get_back, rows_on_each}
 use Rattle.query_core.proofs.ZoneFacts.{leaves_next}
+use Rattle.mon_value.proofs.PlainLemmas.{all_append, get_or-front}
 
 abbrev sents_of : List Look → List ℕ
 sents_of looks = map (λ (look : Look). look.sent) looks
@@ -109,12 +109,12 @@ module _ (most : Leaf → ℕ) where
     by_place (inl there) =
         let number : 0 + leaf.0 ≡ leaf.0 = omega arith in
         ap (λ sents. get_or sents leaf.0 0) sents_are
-        ∙ get_front (sents_of course.looks) (sents_of (map unread_look rest)) leaf.0 0
+        ∙ get_or-front (sents_of course.looks) (sents_of (map unread_look rest)) leaf.0 0
         (omega (arith, there, sents_long course.looks))
         ∙ sent_at 0 course.looks all silent leaf.0 there
         ∙ ap (λ n. sent_if (get_or (flags_of course.looks) leaf.0 false) (most (leaf_numbered n))) number
         ∙ sym (ap (λ b. sent_if b (most leaf)) (ap (λ flags. get_or flags leaf.0 false) flags_are
-        ∙ get_front (flags_of course.looks) (flags_of (map unread_look rest)) leaf.0 false
+        ∙ get_or-front (flags_of course.looks) (flags_of (map unread_look rest)) leaf.0 false
         (omega (arith, there, flags_long course.looks))))
     by_place (inr past) =
         let i : ℕ = leaf.0 - length course.looks in
@@ -174,7 +174,7 @@ module _ (store : Setting) (setting : QuerySetting) (asked : IsAskedOf store set
         omega (arith, ap (first_leaf store.zones) next, leaves_next store.zones k there, own.looks_count) in
         subst (AllByRecursion (SendsSo (most_of of)))
         (sym (reads_append (first_leaf store.zones k) (looks_in one) (flat_map looks_in segments)))
-        (all-append (SendsSo (most_of of)) (reads_from (first_leaf store.zones k) (looks_in one))
+        (all_append (SendsSo (most_of of)) (reads_from (first_leaf store.zones k) (looks_in one))
         (reads_from (first_leaf store.zones k + length (looks_in one)) (flat_map looks_in segments))
         (segment_sent k one areas.0 each.0 own)
         (subst (λ (n : ℕ). AllByRecursion (SendsSo (most_of of)) (reads_from n (flat_map looks_in segments))) after
@@ -188,7 +188,7 @@ module _ (store : Setting) (setting : QuerySetting) (asked : IsAskedOf store set
       → AllByRecursion SendsNothing (flat_map looks_in segments)
   all_silent [] each = tt
   all_silent (one ∷ segments) each =
-      all-append SendsNothing (looks_in one) (flat_map looks_in segments) (silent_in one each.0)
+      all_append SendsNothing (looks_in one) (flat_map looks_in segments) (silent_in one each.0)
       (all_silent segments each.1)
 
   -- each leaf sent as much as it was to send
@@ -243,7 +243,7 @@ module _ (store : Setting) (setting : QuerySetting) (asked : IsAskedOf store set
         (subst (λ (a : Area). PartsSo setting moment exit resolved a.first_leaf.0 looks parts) inside.here so) in
         sent_so (most_of of_course) course
         (subst (AllByRecursion (SendsSo (most_of of_course))) (sym (reads_append 0 before.looks looks))
-        (all-append (SendsSo (most_of of_course)) (reads_from 0 before.looks) (reads_from (0 + length before.looks)
+        (all_append (SendsSo (most_of of_course)) (reads_from 0 before.looks) (reads_from (0 + length before.looks)
         looks)
         (subst (λ (some : List Look). AllByRecursion (SendsSo (most_of of_course)) (reads_from 0 some))
         (sym inside.behind.looks)
@@ -251,7 +251,7 @@ module _ (store : Setting) (setting : QuerySetting) (asked : IsAskedOf store set
         (reads_from n (flat_map looks_in inside.segments))) none.1
         earlier))
         (subst (λ (n : ℕ). AllByRecursion (SendsSo (most_of of_course)) (reads_from n looks)) (sym number) own)))
-        (all-append SendsNothing before.looks looks
+        (all_append SendsNothing before.looks looks
         (subst (AllByRecursion SendsNothing) (sym inside.behind.looks) (all_silent inside.segments inside.behind.each))
         so.silent)
         leaf

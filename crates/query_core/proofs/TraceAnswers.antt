@@ -31,11 +31,11 @@ use Rattle.mql_types.specs.Levels.{sent_amount}
 use Rattle.mql_types.specs.Plans.{fetches}
 use Rattle.plan_split.proofs.FitLemmas.{fields_of_fitting}
 use Rattle.plan_split.specs.Meeting.{AllHoldWhereMet, is_plan_met}
-use Rattle.query_core.proofs.AckedRows.{in_flat_map}
 use Rattle.query_core.proofs.HintFacts.{none_wanted}
 use Rattle.query_core.proofs.Spans.{ResolvedSo, StandsAt, look_at, range_of, up_to}
 use Rattle.query_core.proofs.TraceClaims as claim
 use Rattle.query_core.proofs.ZoneFacts.{all_leaves, all_ranges}
+use Rattle.mon_value.proofs.PlainLemmas.{in_flat_map}
 use Rattle.query_core.specs.Askings.{IsAskedOf}
 use Rattle.query_core.specs.Courses.{IsFoundThen}
 use Rattle.query_core.specs.Rounds.{unread_look, slots_on, QuerySetting}

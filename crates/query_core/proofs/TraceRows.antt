@@ -45,13 +45,14 @@ use Rattle.query_core.specs.Traces as trace
 use Rattle.query_core.specs.Traces.{is_wanted, looked_at, rows_on, source_of}
 use Rattle.mon_meaning.specs.ReadableSlots.{slot_rows}
 use Rattle.query_core.proofs.DividedRows.{AreLeavesOf, AreOtherLeaves, AreOthers, AreResolvedIn, IsOther, SomeLeaves}
-use Rattle.query_core.proofs.DividedRows.{all_flat, all_leaves, all_leaves_apart, divided_points, divided_rows}
+use Rattle.query_core.proofs.DividedRows.{all_leaves, all_leaves_apart, divided_points, divided_rows}
 use Rattle.query_core.proofs.DividedRows.{fit_in_all, rows_at, zones_apart}
 use Rattle.mon_meaning.proofs.MeaningOrderLemmas.{load_in_order, meaning_in_order}
 use Rattle.query_core.proofs.SegmentFacts.{RangesFrom}
 use Rattle.mon_meaning.proofs.SeriesOrderLemmas.{series_in_order}
 use Rattle.query_core.proofs.WantedRows.{filter_alike, filter_empty, load_of_wanted, meaning_of_wanted, wanted}
 use Rattle.query_core.proofs.LeafLemmas.{same_leaves}
+use Rattle.mon_value.proofs.PlainLemmas.{all_flat}
 
 -- ---- ranges in their order stand once
 

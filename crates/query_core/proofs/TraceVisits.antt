@@ -38,6 +38,7 @@ use Rattle.query_core.proofs.TraceClaims.{Anybody}
 use Rattle.query_core.proofs.TraceSteps.{resolving_so}
 use Rattle.query_core.proofs.TraceWords.{zone_seen, zone_shut}
 use Rattle.query_core.proofs.ZoneFacts.{leaves_next, ranges_next, zone_of_range_at}
+use Rattle.mon_value.proofs.PlainLemmas.{contains_kept, in_map}
 use Rattle.query_core.specs.Rounds.{area_of, has_leaf, leaf_at, unread_look, Round, is_none, is_to_visit}
 use Rattle.query_core.specs.Rounds.{leaves_to_visit, resolution, round_of, slots_by_leaf, slots_on, with_slot}
 use Rattle.query_core.specs.Rounds.{QuerySetting}
@@ -57,12 +58,6 @@ use Rattle.query_core.specs.declared.looks.Look.{Look}
 
 -- ---- lists
 
-in_map : {X Y : Type 0} (f : X → Y) (xs : List X) (x : X) → Contains xs x → Contains (map f xs) (f x)
-in_map f [] x there = absurd (omega (arith, there.1))
-in_map f (first ∷ xs) x (zero, l, e) = (zero, omega arith, ap f e)
-in_map f (first ∷ xs) x (suc k, l, e) = Contains-append_right (f first ∷ []) (map f xs) (f x)
-    (in_map f xs x (k, omega (arith, l), e))
-
 in_filter_by : {X : Type 0} (p : X → Bool) (first x : X) (xs : List X) (b : Bool) → p first ≡ b → (first ≡ x)
     ⊎ Contains (filter p xs) x
     → p x ≡ true → Contains (cond b (first ∷ filter p xs) (filter p xs)) x
@@ -70,12 +65,6 @@ in_filter_by p first x xs true e (inl same) h = (zero, omega arith, same)
 in_filter_by p first x xs true e (inr there) h = Contains-append_right (first ∷ []) (filter p xs) x there
 in_filter_by p first x xs false e (inl same) h = absurd (let no : p x ≡ false = sym (ap p same) ∙ e in cc)
 in_filter_by p first x xs false e (inr there) h = there
-
-in_filter : {X : Type 0} (p : X → Bool) (xs : List X) (x : X) → Contains xs x → p x ≡ true → Contains (filter p xs) x
-in_filter p [] x there h = absurd (omega (arith, there.1))
-in_filter p (first ∷ xs) x (zero, l, e) h = in_filter_by p first x xs (p first) refl (inl e) h
-in_filter p (first ∷ xs) x (suc k, l, e) h =
-    in_filter_by p first x xs (p first) refl (inr (in_filter p xs x (k, omega (arith, l), e) h)) h
 
 in_numbers : (base n i : ℕ) → i < n → Contains (range_with_len base n) (base + i)
 in_numbers base zero i lt = absurd (omega (arith, lt))
@@ -366,7 +355,7 @@ module _ (store : Setting) (setting : QuerySetting) (at_entry : Histories)
           (in_numbers 0 area.leaves j within) in
           inl (subst (Contains pending) leaf_is
           (in_map (leaf_at area) (filter (is_to_visit own flags) (range_with_len 0 area.leaves)) j
-          (in_filter (is_to_visit own flags) (range_with_len 0 area.leaves) j number e)))
+          (contains_kept (is_to_visit own flags) (range_with_len 0 area.leaves) j number e)))
       told_by false e =
           elim (and_cases (not (is_none (get_or (slots_by_leaf area resolved) j []))) (flag_at flags j) e) [
             | inl none ↦ inr (then_told

@@ -25,8 +25,9 @@ use Rattle.query_core.proofs.DividedRows.{SomeLeaves, all_both, all_leaves, rows
 use Rattle.query_core.proofs.ReadLeaves.{cuts_of, flags_of}
 use Rattle.query_core.proofs.TraceRows.{IsLeftOut, on_leaf, own_rows}
 use Rattle.query_core.proofs.ThroughZones.{IsThrough, trace_ranges}
-use Rattle.query_core.proofs.ZoneRows.{AllZoned, IsZoned, get_front, no_slots, none_behind, ranges_above, ranges_later}
+use Rattle.query_core.proofs.ZoneRows.{AllZoned, IsZoned, no_slots, none_behind, ranges_above, ranges_later}
 use Rattle.query_core.proofs.ZoneRows.{slots_append}
+use Rattle.mon_value.proofs.PlainLemmas.{get_or-front}
 
 -- ---- rows that are not wanted
 
@@ -97,7 +98,7 @@ module _ (store : Setting) (setting : QuerySetting) (moment : ℤ) (exit : Histo
       let rest = map unread_look (drop (length course.looks) course.seen.cuts) in
       let cut : get_or (cuts_of course.looks) leaf.0 0 ≡ cut_of of leaf =
       sym (ap (λ cuts. get_or cuts leaf.0 0) (map-append (λ (look : Look). look.cut) course.looks rest)
-      ∙ get_front (cuts_of course.looks) (cuts_of rest) leaf.0 0 within) in
+      ∙ get_or-front (cuts_of course.looks) (cuts_of rest) leaf.0 0 within) in
       let rows : slot_rows (take (get_or (cuts_of course.looks) leaf.0 0) (leaf_history exit leaf))
       (slots_on leaf course.resolved)
       ≡ rows_at (own_rows exit of) of.resolved leaf =

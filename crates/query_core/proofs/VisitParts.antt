@@ -14,7 +14,6 @@ use Rattle.mon_topo.specs.Settings.{Setting}
 use Rattle.mon_value.specs.declared.positions.Leaf.{Leaf}
 use Rattle.mon_value.specs.declared.positions.RangeSlot.{RangeSlot}
 use Rattle.mon_value.specs.declared.rows.Row.{Row}
-use Rattle.mql_types.proofs.KeptRows.{all-append}
 use Rattle.query_core.specs.declared.areas.Area.{Area}
 use Rattle.query_core.specs.declared.courses.Course.{Course}
 use Rattle.query_core.specs.declared.loadings.Loading.{Loading}
@@ -37,6 +36,7 @@ use Rattle.query_core.proofs.SegmentFacts.{PartsSo, SeenSo, IsSent, IsWithin, be
 use Rattle.query_core.proofs.StageLemmas.{slots_here}
 use Rattle.query_core.proofs.PartClaims.{CourseIn, LoadedSo, RoundWhole, StepParts, VisitSo, VisitsSo}
 use Rattle.query_core.proofs.NextPlaces.{IsNextPlace, MaybePlace, next_place}
+use Rattle.mon_value.proofs.PlainLemmas.{all_append}
 
 module _ (store : Setting) (setting : QuerySetting) (moment : ℤ) where
   -- ---- a leaf is looked at
@@ -136,7 +136,7 @@ module _ (store : Setting) (setting : QuerySetting) (moment : ℤ) where
         let reads = reads_from round.area.first_leaf.0 visits.looks in
         record {
           within = subst (λ (reads : List LeafRead). AllByRecursion (IsWithin setting moment now) reads) reads_more
-              (all-append (IsWithin setting moment now) reads (one ∷ []) before.within
+              (all_append (IsWithin setting moment now) reads (one ∷ []) before.within
               (subst (λ (l : Leaf). cut ≤ length (leaf_history now l)) leaf_is within, tt));
           each = subst (λ (reads : List LeafRead). AllLeafParts (typed_of setting)
               (map (read_rows setting moment now round.resolved) reads) moment setting.limit (visits.answers
@@ -149,7 +149,7 @@ module _ (store : Setting) (setting : QuerySetting) (moment : ℤ) where
               (read_rows setting moment now round.resolved one) answer before.each own_part));
           sends = subst (λ (reads : List LeafRead). AllByRecursion (IsSent setting moment now round.resolved) reads)
               reads_more
-              (all-append (IsSent setting moment now round.resolved) reads (one ∷ []) before.sends
+              (all_append (IsSent setting moment now round.resolved) reads (one ∷ []) before.sends
               (own_part.sent_is, tt));
           silent = all_set SendsNothing visits.looks so.place (read_at cut answer.sent) before.silent (λ e. absurd cc);
         }

@@ -26,11 +26,12 @@ use Rattle.query_core.specs.declared.looks.Look.{Look}
 use Rattle.query_core.specs.Mixtures.{typed_of}
 use Rattle.query_core.specs.Rounds.{slot_of, slots_on, QuerySetting}
 use Rattle.query_core.specs.Traces.{IsBetween}
-use Rattle.query_core.proofs.DividedRows.{AreOthers, IsOther, all_flat, itself}
+use Rattle.query_core.proofs.DividedRows.{AreOthers, IsOther}
 use Rattle.query_core.proofs.Spans.{IsLookedAt, StandsAt, StandsIn, look_at, stands_on, up_to}
 use Rattle.query_core.proofs.TraceRows.{replica_at_home, typed_for}
 use Rattle.query_core.proofs.TraceVisits.{fronts_begin}
 use Rattle.query_core.proofs.LeafLemmas.{same_leaves}
+use Rattle.mon_value.proofs.PlainLemmas.{equal_itself, all_flat}
 
 -- ---- ranges that differ share no target
 
@@ -42,7 +43,7 @@ module _ (store : Setting) (a b : Range) (apart : nat_eq a.0 b.0 ≡ false) wher
   ranges_apart row other alike here there =
       let both : Some b ≡ Some a = sym there.1 ∙ ap (range_for store.held store.zones) alike ∙ here.1 in
       let range : b ≡ a = cc in
-      let test : nat_eq a.0 b.0 ≡ true = ap (λ (r : Range). nat_eq a.0 r.0) range ∙ itself a.0 in
+      let test : nat_eq a.0 b.0 ≡ true = ap (λ (r : Range). nat_eq a.0 r.0) range ∙ equal_itself a.0 in
       cc
 
   no_targets : (rows others : List Row) → AllByRecursion (LiesIn a) rows → AllByRecursion (LiesIn b) others

@@ -28,6 +28,7 @@ use Rattle.mql_types.proofs.FetchedPoints.{kept_let_in, row_of_schemas}
 use Rattle.mql_types.proofs.FetchedTrees.{AllFit}
 use Rattle.mql_types.proofs.JoinedRows.{all-front, all-map}
 use Rattle.mon_meaning.proofs.FilterLemmas.{filter_none, filter_twice}
+use Rattle.mon_value.proofs.PlainLemmas.{and_implied}
 use Rattle.query_core.specs.Traces.{is_wanted}
 
 -- ---- lists
@@ -141,10 +142,6 @@ flows_met held row has (node.Union info left right) named flow = absurd (false�
 
 -- ---- rows that are kept are all that count
 
-both_if : (b k : Bool) → (b ≡ true → k ≡ true) → (b && k) ≡ b
-both_if true k h = h refl
-both_if false k h = refl
-
 reached_if : (r m k : Bool) → (m ≡ true → k ≡ true) → ((r && m) && k) ≡ (r && m)
 reached_if true true k h = h refl
 reached_if true false k h = refl
@@ -163,7 +160,7 @@ module _ (held : SchemaLists) (keep : Row → Bool) (rows : List Row) (fit : All
       ∙ filter_alike (λ row. flows input row && keep row) (flows input) rows
       (all-map (λ (row : Row). fits held row ≡ true) (λ (row : Row). (flows input row && keep row) ≡ flows input row)
       rows
-      (λ row fit. both_if (flows input row) (keep row)
+      (λ row fit. and_implied (flows input row) (keep row)
       (λ flow. keeps row (flows_met held row (schemas held row fit) input named flow))) fit)
       ∙ sym (points_flow input rows)
 

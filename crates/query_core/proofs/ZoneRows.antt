@@ -28,18 +28,9 @@ use Rattle.query_core.proofs.TraceRows.{on_leaf, own_rows}
 use Rattle.query_core.proofs.WantedRows.{filter_empty}
 use Rattle.query_core.proofs.ZoneFacts as zone_facts
 use Rattle.query_core.proofs.ZoneFacts.{leaves_next, ranges_next}
+use Rattle.mon_value.proofs.PlainLemmas.{all_unmapped, get_or-front}
 
 -- ---- lists
-
-all_unmapped : {A B : Type 0} (P : B → Type 0) (f : A → B) (xs : List A) → AllByRecursion P (map f xs)
-    → AllByRecursion (λ x. P (f x)) xs
-all_unmapped P f [] all = tt
-all_unmapped P f (x ∷ xs) all = (all.0, all_unmapped P f xs all.1)
-
-pub get_front : {A : Type 0} (xs ys : List A) (i : ℕ) (d : A) → i < length xs → get_or (xs ++ ys) i d ≡ get_or xs i d
-get_front [] ys i d there = absurd (omega (arith, there))
-get_front (x ∷ xs) ys zero d there = refl
-get_front (x ∷ xs) ys (suc i) d there = get_front xs ys i d (omega (arith, there))
 
 pub get_back : {A : Type 0} (xs ys : List A) (n i : ℕ) (d : A) → n ≡ length xs + i → get_or (xs ++ ys) n d
     ≡ get_or ys i d
@@ -179,7 +170,7 @@ module _ (zones : List ZoneSpec) where
         ∙ get_back (cuts_of stands.looks_front) (cuts_of (looks ++ stands.looks_back)) (first_leaf zones k + place)
         place 0 number
         ∙ ap (λ cuts. get_or cuts place 0) (map-append (λ (look : Look). look.cut) looks stands.looks_back)
-        ∙ get_front (cuts_of looks) (cuts_of stands.looks_back) place 0
+        ∙ get_or-front (cuts_of looks) (cuts_of stands.looks_back) place 0
         (omega (arith, within, stands.looks_count, length_cuts looks))
       where
         length_cuts : (looks : List Look) → length (cuts_of looks) ≡ length looks

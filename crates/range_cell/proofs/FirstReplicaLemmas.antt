@@ -9,7 +9,7 @@ use Rattle.history_book.specs.declared.views.History.TheVariants as of
 use Rattle.history_book.specs.Histories.{with_book_entry}
 use Rattle.history_book.specs.Seats.{Owner}
 use Rattle.know.specs.Sound.{IsSound}
-use Rattle.mon_topo.proofs.FirstLemmas.{no_acks, no_acks_yet}
+use Rattle.mon_topo.proofs.FirstLemmas.{no_acks, no_acks_yet, opened_count}
 use Rattle.mon_topo.proofs.HeldLemmas.{range_entry_held}
 use Rattle.mon_topo.specs.HeldHistories.{openings_from, slot_numbered, AreHeld, BeginsWith, IsBorneOut, IsHeldBy}
 use Rattle.mon_topo.specs.HeldHistories.{IsOpened}
@@ -37,10 +37,6 @@ use Rattle.range_cell.specs.NewRanges.{after_entries, with_entries}
 pub length-openings : (slot : ℕ) (leaves : List Leaf) → length (openings_from slot leaves) ≡ length leaves
 length-openings slot [] = refl
 length-openings slot (leaf ∷ leaves) = ap suc (length-openings (slot + 1) leaves)
-
-pub opened_count : (slot : ℕ) (leaves : List Leaf) → length (opened_slots (openings_from slot leaves)) ≡ length leaves
-opened_count slot [] = refl
-opened_count slot (leaf ∷ leaves) = ap suc (opened_count (slot + 1) leaves)
 
 opening_there : (leaves : List Leaf) (slot k : ℕ) (leaf : Leaf) → slice_get leaves k ≡ Some leaf
     → slice_get (openings_from slot leaves) k ≡ Some (range_entry.Opened 0 (slot_numbered (slot + k)) leaf)

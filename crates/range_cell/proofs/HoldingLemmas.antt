@@ -9,7 +9,7 @@ use Rattle.know.specs.Knowledge.{Knowledge}
 use Rattle.mon_topo.proofs.FrontLemmas.{begins_to, behind}
 use Rattle.mon_topo.proofs.PartLemmas.{length-zones_of}
 use Rattle.mon_topo.proofs.RangeHistoryLemmas.{all_from}
-use Rattle.mon_topo.specs.HeldHistories.{first_range_history, openings_from, AreHeld, BeginsWith, IsAtHome}
+use Rattle.mon_topo.specs.HeldHistories.{first_range_history, AreHeld, BeginsWith, IsAtHome}
 use Rattle.mon_topo.specs.RangeHistories as range_spec
 use Rattle.mon_topo.specs.RangeHistories.{IsInZoneOf, IsLegal, acknowledged_rows, opened_slots, serving}
 use Rattle.mon_topo.specs.Settings.{Setting}
@@ -19,7 +19,6 @@ use Rattle.mon_value.proofs.LeafHistoryLemmas.{no_rows}
 use Rattle.mon_value.specs.Histories.{leaf_history, range_history}
 use Rattle.mon_value.specs.LeafHistories.{replica_rows}
 use Rattle.mon_value.specs.declared.histories.RangeEntry.{RangeEntry}
-use Rattle.mon_value.specs.declared.positions.FoundDown.{FoundDown}
 use Rattle.mon_value.specs.declared.positions.Leaf.{Leaf}
 use Rattle.mon_value.specs.declared.positions.Range.{Range}
 use Rattle.mon_value.specs.declared.positions.Slot.{Slot}
@@ -27,16 +26,16 @@ use Rattle.mon_value.specs.declared.positions.SlotLeaf.{SlotLeaf}
 use Rattle.mon_value.specs.declared.rows.Row.{Row}
 use Rattle.owners.specs.Puts.{pass_of}
 use Rattle.range_cell.proofs.BeginLemmas.{placed}
-use Rattle.range_cell.proofs.FirstReplicaLemmas.{opened_count}
 use Rattle.range_cell.specs.Calls.{HasBegun, HasGivenBack, HasMetRange}
 use Rattle.range_cell.specs.Copying.{IsHolding}
 use Rattle.range_cell.specs.Recoveries.{AtItsLeaf, AtLock, Behind, HasEndedSo, HasEndedThere, HasNotCopied}
-use Rattle.range_cell.specs.Recoveries.{HasNotRecovered, HasRecovered, HasTriedTo, IsDeniedAs, IsLooking, NotYet}
+use Rattle.range_cell.specs.Recoveries.{HasNotRecovered, HasRecovered, IsDeniedAs, IsLooking, NotYet}
 use Rattle.range_cell.specs.Recoveries.{Once, OnTheWay, after_copying}
 use Rattle.range_cell.specs.Rest.{HaveJust}
 use Rattle.range_cell.specs.declared.answers.RecoverFault.{RecoverFault}
 use Rattle.range_cell.specs.declared.answers.RecoverFault.TheVariants as fault
 use Rattle.write_core.proofs.OpeningLemmas.{acked_source, replica_at_home}
+use Rattle.mon_topo.proofs.FirstLemmas.{opened_count}
 use Rattle.write_core.specs.CopySteps.{next_slot}
 use Rattle.write_core.specs.Recovering.{denial_of}
 

@@ -18,13 +18,9 @@ none_before : (b : Bool) (m : ℕ) → b ≡ true → (if b then 0 else suc m) �
 none_before true m is = omega arith
 none_before false m is = absurd (false≢true is)
 
-no_farther : (b : Bool) (m k : ℕ) → m ≤ k → (if b then 0 else suc m) ≤ suc k
+pub no_farther : (b : Bool) (m k : ℕ) → m ≤ k → (if b then 0 else suc m) ≤ suc k
 no_farther true m k le = omega arith
 no_farther false m k le = omega arith
-
-within_one : (b : Bool) (m n : ℕ) → m ≤ n → (if b then 0 else suc m) ≤ suc n
-within_one true m n le = omega arith
-within_one false m n le = omega arith
 
 module _ {E : Type 0} where
   -- each entry that passes stands before it
@@ -52,5 +48,5 @@ module _ {E : Type 0} where
   pub first_place_within : (test : ℕ → E → Bool) (history : List E) → first_place test history ≤ length history
   first_place_within test [] = omega arith
   first_place_within test (x ∷ history) =
-      within_one (test 0 x) (first_place (λ k. test (suc k)) history) (length history)
+      no_farther (test 0 x) (first_place (λ k. test (suc k)) history) (length history)
       (first_place_within (λ k. test (suc k)) history)

@@ -136,16 +136,16 @@ module _ (config : Config) where
 
 -- ---- what stands in the histories
 
-not_one_way : (n m : ℕ) → nat_eq n m ≡ true → nat_eq m n ≡ false → ⊥
+pub not_one_way : (n m : ℕ) → nat_eq n m ≡ true → nat_eq m n ≡ false → ⊥
 not_one_way n m is other = grind (arith, nat_tests)
 
-back_by : (n m : ℕ) (b c : Bool) → nat_eq n m ≡ b → nat_eq m n ≡ c → b ≡ c
+pub back_by : (n m : ℕ) (b c : Bool) → nat_eq n m ≡ b → nat_eq m n ≡ c → b ≡ c
 back_by n m true true is back = refl
 back_by n m true false is back = absurd (not_one_way n m is back)
 back_by n m false true is back = absurd (not_one_way m n back is)
 back_by n m false false is back = refl
 
-same_back : (n m : ℕ) → nat_eq n m ≡ nat_eq m n
+pub same_back : (n m : ℕ) → nat_eq n m ≡ nat_eq m n
 same_back n m = back_by n m (nat_eq n m) (nat_eq m n) refl refl
 
 abbrev book_acked : ℕ → BookEntry → List Row

@@ -70,7 +70,7 @@ take_front (suc n) (suc m) (x ∷ xs) le = ap (λ w. x ∷ w) (take_front n m xs
 
 -- ---- tests of lists
 
-or_either : (a b : Bool) (C : Type 0) → (a || b) ≡ true → (a ≡ true → C) → (b ≡ true → C) → C
+pub or_either : (a b : Bool) (C : Type 0) → (a || b) ≡ true → (a ≡ true → C) → (b ≡ true → C) → C
 or_either true b C is here there = here refl
 or_either false b C is here there = there is
 

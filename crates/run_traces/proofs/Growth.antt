@@ -37,9 +37,9 @@ use Rattle.run_traces.specs.declared.traces.LineTrace.TheVariants as came
 use Rattle.run_traces.specs.declared.traces.RowRefusal.{RowRefusal}
 use Rattle.run_traces.proofs.Causes.{line_wider, row_wider, take_front}
 use Rattle.run_traces.proofs.ListFacts.{all_as}
-use Rattle.run_traces.proofs.Owners.{map_front}
 use Rattle.run_traces.proofs.RunFacts.{book_length, range_length}
 use Rattle.run_traces.proofs.Switched.{recovered_wider, switched_wider}
+use Rattle.mon_value.proofs.PlainLemmas.{prefix_map}
 
 -- ---- lists
 
@@ -59,10 +59,10 @@ get_front (y ∷ front) rest zero x there less = there
 get_front (y ∷ front) rest (suc k) x there less = get_front front rest k x there (omega arith)
 
 pub goes_on : (seen more : Histories) → HaveGrown seen more → GoesOn entries seen more
-goes_on seen more grown (of.Leaf leaf) = map_front (λ e. one.Leaf e) (leaf_history seen leaf) (leaf_history more leaf)
+goes_on seen more grown (of.Leaf leaf) = prefix_map (λ e. one.Leaf e) (leaf_history seen leaf) (leaf_history more leaf)
     (front_of (leaf_history seen leaf) (leaf_history more leaf) (grown.within.leaves leaf))
 goes_on seen more grown (of.Range range) =
-    map_front (λ e. one.Range e) (range_history seen range) (range_history more range)
+    prefix_map (λ e. one.Range e) (range_history seen range) (range_history more range)
     (front_of (range_history seen range) (range_history more range) (grown.within.ranges range))
 
 module _ (widen : (typed : TypedTree) (moment : ℤ) (from to earlier later : Lengths) (seen more : Histories)

@@ -4,6 +4,7 @@ use Rattle.std.proofs.Common.{filter, take, slice_get, Some, refl, subst, arith,
 use Rattle.std.specs.List.{AllByRecursion, flat_map, list_any}
 use Rattle.std.proofs.lemmas.Bool.{false≢true}
 use Rattle.run_theory.specs.Parts.{between}
+use Rattle.run_traces.proofs.Causes.{or_either}
 
 module _ {X : Type 0} where
   pub both_all : (P : X → Type 0) (xs ys : List X) → AllByRecursion P xs → AllByRecursion P ys
@@ -79,10 +80,6 @@ module _ {X : Type 0} (P : X → Type 0) where
     all_by_tests passes may xs each.1 (λ t m. rest_kept (passes t) x xs (passes t x) (all t m)),
   )
 
-any_by : (b r : Bool) (C : Type 0) → (b || r) ≡ true → (b ≡ true → C) → (r ≡ true → C) → C
-any_by true r C is here there = here refl
-any_by false r C is here there = there is
-
 abbrev nothing : (X : Type 0) → List X
 nothing X = []
 
@@ -96,5 +93,5 @@ module _ {X : Type 0} where
   pub any_at : (test : X → Bool) (xs : List X) (C : Type 0) → list_any test xs ≡ true
       → ((k : ℕ) (x : X) → slice_get xs k ≡ Some x → test x ≡ true → C) → C
   any_at test [] C is use_it = absurd (false≢true is)
-  any_at test (x ∷ xs) C is use_it = any_by (test x) (list_any test xs) C is (use_it 0 x refl)
+  any_at test (x ∷ xs) C is use_it = or_either (test x) (list_any test xs) C is (use_it 0 x refl)
       (λ rest. any_at test xs C rest (λ k y there passes. use_it (suc k) y there passes))

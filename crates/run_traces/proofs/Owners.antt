@@ -3,7 +3,6 @@ use Rattle.std.proofs.Common.{◌≡◌, ℕ, zero, suc, ◌<◌, ◌≤◌, nat
 use Rattle.std.proofs.Common.{map, filter, slice_get, Some, refl, sym, ap, ◌∙◌, subst, arith, ◌+◌, if◌then◌else◌}
 use Rattle.std.specs.List.{AllByRecursion, flat_map, list_any, range_with_len, slice_index_or}
 use Rattle.std.proofs.lemmas.Bool.{false≢true, and_from}
-use Rattle.std.proofs.lemmas.List.{map-append}
 use mathlib.Core.List.{IsPrefix}
 use Rattle.history_book.specs.Histories.{AreFronts, book_entry_pass, entries}
 use Rattle.history_book.specs.declared.views.BookEntry.{BookEntry}
@@ -38,6 +37,7 @@ use Rattle.run_traces.proofs.ListFacts.{all_at, any_at, both_all, no_item}
 use Rattle.run_traces.proofs.Switched.{IsTheirs, lone_between, not_recovering, not_switching, recovered_there}
 use Rattle.run_traces.proofs.Switched.{switch_pass, switched_entry, switched_leaf, switched_there}
 use Rattle.run_traces.proofs.RowFacts.{fed_pass, fed_row, lies_as, row_joined, row_key, rows_before}
+use Rattle.mon_value.proofs.PlainLemmas.{prefix_map}
 
 -- what a line that neither feeds nor switches nor recovers made is nothing
 none_made : (made : History → List BookEntry) (h : History) (j : ℕ) (e : BookEntry)
@@ -321,16 +321,13 @@ in_front P [] rest k x all there less = absurd (omega arith)
 in_front P (y ∷ front) rest zero x all there less = let same : y ≡ x = cc in subst P same all.0
 in_front P (y ∷ front) rest (suc k) x all there less = in_front P front rest k x all.1 there (omega arith)
 
-pub map_front : {X Y : Type 0} (f : X → Y) (xs ys : List X) → IsPrefix xs ys → IsPrefix (map f xs) (map f ys)
-map_front f xs ys p = (map f p.0, sym (map-append f xs p.0) ∙ ap (map f) p.1)
-
 -- each history begins with its first entries
 pub begins : (zones : List ZoneSpec) (ended : Histories) (h : History) → AreFronts (first_histories zones) ended
     → IsPrefix (entries (first_histories zones) h) (entries ended h)
 begins zones ended (of.Leaf leaf) begun =
-    map_front (λ e. one.Leaf e) (leaf_history (first_histories zones) leaf) (leaf_history ended leaf) (begun.0 leaf)
+    prefix_map (λ e. one.Leaf e) (leaf_history (first_histories zones) leaf) (leaf_history ended leaf) (begun.0 leaf)
 begins zones ended (of.Range range) begun =
-    map_front (λ e. one.Range e) (range_history (first_histories zones) range) (range_history ended range)
+    prefix_map (λ e. one.Range e) (range_history (first_histories zones) range) (range_history ended range)
     (begun.1 range)
 
 -- nothing that stands there at first is a line's

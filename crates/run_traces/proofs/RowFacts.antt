@@ -1,5 +1,5 @@
 -- The rows that a feed accepted, among those that were acknowledged where it ran.
-use Rattle.std.proofs.Common.{◌≡◌, ℕ, zero, suc, ◌≤◌, nat_eq, true, false, List, [], ◌∷◌, ◌++◌}
+use Rattle.std.proofs.Common.{◌≡◌, ℕ, zero, suc, ◌≤◌, nat_eq, true, List, [], ◌∷◌, ◌++◌}
 use Rattle.std.proofs.Common.{map, filter, take, refl, sym, ap, ◌∙◌, subst, arith}
 use Rattle.std.specs.List.{AllByRecursion, flat_map, list_any}
 use Rattle.std.specs.Ordering.{int_eq}
@@ -58,7 +58,7 @@ pub row_key : (row other : Row) → is_row row other ≡ true → row.key ≡ ot
 row_key row other is = (same_series-Decides row.key other.key).0
     (and_parts (same_series row.key other.key) (int_eq row.point.end other.point.end) is).0
 
-row_end : (row other : Row) → is_row row other ≡ true → row.point.end ≡ other.point.end
+pub row_end : (row other : Row) → is_row row other ≡ true → row.point.end ≡ other.point.end
 row_end row other is =
     let e = (and_parts (same_series row.key other.key) (int_eq row.point.end other.point.end) is).1 in
     grind (arith, ints)

@@ -3,7 +3,6 @@ use Rattle.std.proofs.Common.{◌≡◌, ℕ, zero, suc, ◌+◌, ◌<◌, ◌�
 use Rattle.std.proofs.Common.{◌∷◌, ◌++◌, length, map, filter, slice_get, Some, None, refl, sym, ap, ◌∙◌, subst, arith}
 use Rattle.std.specs.List.{slice_index_or}
 use Rattle.std.proofs.lemmas.Bool.{and_parts, false≢true, or_left, or_right}
-use Rattle.std.proofs.lemmas.Bool.Decides.{nat_tests}
 use Rattle.std.proofs.lemmas.List.{length-append}
 use Rattle.std.proofs.lemmas.List.Concat.{flat_map-append}
 use mathlib.Core.List.{IsPrefix}
@@ -16,8 +15,9 @@ use Rattle.mon_config.specs.declared.config.Config.{Config}
 use Rattle.mon_topo.specs.HeldHistories.{AreHeld}
 use Rattle.mon_topo.specs.RangeHistories as range_spec
 use Rattle.mon_topo.specs.RangeHistories.{opened_slot, opened_slots}
-use Rattle.mon_value.proofs.LeafHistoryLemmas.{is_opened-append}
-use Rattle.mon_value.specs.Histories.{leaf_history, range_history, range_numbered, same_leaf, same_range, same_slot}
+use Rattle.mon_value.proofs.LeafHistoryLemmas.{is_opened-append, ranges_same, same_replica-itself}
+use Rattle.mon_value.proofs.PlainLemmas.{equal_means}
+use Rattle.mon_value.specs.Histories.{leaf_history, range_history, same_leaf, same_range, same_slot}
 use Rattle.mon_value.specs.LeafHistories as leaf_spec
 use Rattle.mon_value.specs.LeafHistories.{is_opened, same_replica}
 use Rattle.mon_value.specs.declared.histories.Entry.{Entry}
@@ -31,7 +31,7 @@ use Rattle.mon_value.specs.declared.positions.Slot.{Slot}
 use Rattle.mon_value.specs.declared.rows.Row.{Row}
 use Rattle.mon_script.specs.declared.forms.LineForm.{LineForm}
 use Rattle.run_theory.specs.Parts.{AreBelow, between}
-use Rattle.run_theory.proofs.Stands.{kept_stands, same_to}
+use Rattle.run_theory.proofs.Stands.{kept_stands}
 use Rattle.run_traces.specs.LineSwitches.{is_fed, IsRecoveredBetween, IsSwitchedBetween, Recovery, StandsBetween, goes}
 use Rattle.run_traces.specs.LineSwitches.{opens, recovers, recovery_of, switch_entry, switch_of, switches}
 use Rattle.run_traces.proofs.ListFacts.{no_item}
@@ -39,17 +39,11 @@ use Rattle.query_core.proofs.LeafLemmas.{same_leaves}
 
 -- ---- tests
 
-pub same_number : (n m : ℕ) → nat_eq n m ≡ true → n ≡ m
-same_number n m is = grind (arith, nat_tests)
-
-ranges_same : (a b : Range) → same_range a b ≡ true → a ≡ b
-ranges_same a b is = let number : a.0 ≡ b.0 = same_number a.0 b.0 is in ap range_numbered number
-
 abbrev slot_numbered : ℕ → Slot
 slot_numbered n = record { 0 = n }
 
 slots_same : (a b : Slot) → nat_eq a.0 b.0 ≡ true → a ≡ b
-slots_same a b is = let number : a.0 ≡ b.0 = same_number a.0 b.0 is in ap slot_numbered number
+slots_same a b is = let number : a.0 ≡ b.0 = equal_means a.0 b.0 is in ap slot_numbered number
 
 history_same : (leaf : Leaf) (h : History) → same_history (of.Leaf leaf) h ≡ true → of.Leaf leaf ≡ h
 history_same leaf (of.Leaf other) is = ap (λ (l : Leaf). of.Leaf l) (same_leaves leaf other is)
@@ -161,16 +155,13 @@ module _ (e : RangeEntry) where
 
 -- ---- a replica is opened once
 
-same_itself : (range : Range) (slot : Slot) → same_replica range slot range slot ≡ true
-same_itself range slot = ap (λ b. b && nat_eq slot.0 slot.0) (same_to range.0 range.0 refl) ∙ same_to slot.0 slot.0 refl
-
 module _ (range : Range) (slot : Slot) where
   abbrev opening : ℕ → List Row → Entry
   opening pass rows = entry.Opened pass range slot rows
 
   opened_here : (front : List Entry) (pass : ℕ) (rows : List Row)
       → is_opened range slot (front ++ opening pass rows ∷ []) ≡ true
-  opened_here [] pass rows = or_left (same_replica range slot range slot) false (same_itself range slot)
+  opened_here [] pass rows = or_left (same_replica range slot range slot) false (same_replica-itself range slot)
   opened_here (entry.Opened by other place held ∷ front) pass rows =
       or_right (same_replica range slot other place) _ (opened_here front pass rows)
   opened_here (entry.Put by other place row ∷ front) pass rows = opened_here front pass rows
@@ -300,7 +291,7 @@ module _ (config : Config) (ended : Histories) (from to : History → ℕ) (numb
     switched_there h k e there is =
         let two = and_parts (switches (switch_of what) h e) (nat_eq (k + 1) cut) is in
         let leaf = switched_leaf h e two.0 in
-        let last : k + 1 ≡ cut = same_number (k + 1) cut two.1 in
+        let last : k + 1 ≡ cut = equal_means (k + 1) cut two.1 in
         let stands = found.stands in
         let counted : stands.place + 1 ≡ cut = found.last in
         let place : stands.place ≡ k = omega arith in

@@ -1,5 +1,5 @@
 -- What holds of a whole run.
-use Rattle.std.proofs.Common.{◌≡◌, ℕ, zero, suc, ◌<◌, List, [], ◌∷◌, length, slice_get, Some, refl, arith}
+use Rattle.std.proofs.Common.{◌≡◌, ℕ, ◌<◌, List, [], ◌∷◌, length, refl}
 use Rattle.std.specs.Prelude.{ℤ}
 use Rattle.history_book.specs.Histories.{AreFronts, book_entry_pass, entries}
 use Rattle.history_book.specs.declared.views.History.{History}
@@ -26,14 +26,10 @@ use Rattle.run_traces.specs.RanLines.{RanLine}
 use Rattle.run_traces.proofs.Acks.{acknowledged}
 use Rattle.run_traces.proofs.Causes.{is_caused}
 use Rattle.run_traces.proofs.Controlled.{is_controlled}
-use Rattle.run_traces.proofs.ListFacts.{all_as, no_item}
+use Rattle.run_traces.proofs.ListFacts.{all_as}
 use Rattle.run_traces.proofs.Owners.{are_distinct, are_not_first, are_theirs, are_under}
 use Rattle.run_traces.proofs.RunFacts.{InPlace, each_as, is_fresh, is_read, is_tabled}
-
-in_list : {X : Type 0} (xs : List X) (k : ℕ) (x : X) → slice_get xs k ≡ Some x → k < length xs
-in_list [] k x there = absurd (no_item k x there)
-in_list (y ∷ xs) zero x there = omega arith
-in_list (y ∷ xs) (suc k) x there = let l = in_list xs k x there in omega arith
+use Rattle.mon_value.proofs.PlainLemmas.{get_within}
 
 module _ (widen : (typed : TypedTree) (moment : ℤ) (from to earlier later : Lengths) (seen more : Histories)
     (trace : Trace) → AreWider from to earlier later seen more → IsTraceBetween typed moment from to seen trace
@@ -80,7 +76,7 @@ module _ (widen : (typed : TypedTree) (moment : ℤ) (from to earlier later : Le
       made = λ history place e there low. of_some entries book_entry_pass (Makes config) (Finds config) is_entry_of
           ended
           (are_theirs config ended whole fronts held) (first_length config.topology ended) end parts history place e ran there low
-          (in_list (entries ended history) place e there);
+          (get_within (entries ended history) place e there);
     };
     apart = record {
       later = alone_later entries book_entry_pass (Makes config) (Finds config) is_entry_of ended

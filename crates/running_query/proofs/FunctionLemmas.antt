@@ -1,10 +1,6 @@
 -- Steps of the functions' proofs.
-use Rattle.std.proofs.Common.{◌≡◌, Ok, Err, IfOk, OnOk, subst}
+use Rattle.std.proofs.Common.{◌≡◌, Ok, Err, OnOk, subst}
 use Rattle.std.specs.Prelude.{Result}
-
-pub if_ok_on : {X F : Type 0} (P Q : X → Type 0) → ((x : X) → P x → Q x) → (r : Result X F) → IfOk r P → IfOk r Q
-if_ok_on P Q on (Ok x) h = on x h
-if_ok_on P Q on (Err why) h = tt
 
 pub on_ok_two : {X F : Type 0} (r : Result X F) (A B C : Type 0) → OnOk r A → OnOk r B → (A → B → C) → OnOk r C
 on_ok_two (Ok x) A B C a b both = both a b

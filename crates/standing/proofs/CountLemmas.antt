@@ -1,11 +1,9 @@
 -- How many queries are due.
-use Rattle.std.proofs.Common.{◌≡◌, ◌<◌, ◌+◌, ℕ, nat_lt, true, false, Some, None, cond, ap, arith}
+use Rattle.std.proofs.Common.{◌≡◌, ◌<◌, ◌+◌, ℕ, nat_lt, false, Some, None, cond, ap, arith}
 use Rattle.std.proofs.lemmas.Bool.Decides.{nat_tests}
 use Rattle.standing.specs.DueLists.{too_many}
 use Rattle.standing.specs.declared.faults.DueFault.TheVariants as fault
-
-less : (a b : ℕ) → a < b → nat_lt a b ≡ true
-less a b h = grind (arith, nat_tests)
+use Rattle.mon_value.proofs.PlainLemmas.{less}
 
 not_less : (a b : ℕ) (room : ℕ) → room + b ≡ a → nat_lt a b ≡ false
 not_less a b room h = grind (arith, nat_tests)

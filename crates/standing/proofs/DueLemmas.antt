@@ -1,5 +1,5 @@
 -- The queries of marks, one after another.
-use Rattle.std.proofs.Common.{◌≡◌, ◌∙◌, ◌+◌, ◌<◌, ◌++◌, ◌∷◌, ℕ, List, Option, None, Some, length, drop}
+use Rattle.std.proofs.Common.{◌≡◌, ◌∙◌, ◌+◌, ◌<◌, ◌++◌, ◌∷◌, ℕ, List, Option, length, drop}
 use Rattle.std.proofs.Common.{get_or, append_assoc, refl, sym, ap}
 use Rattle.std.specs.Prelude.{option_to_list}
 use Rattle.std.proofs.lemmas.List.{drop_more}
@@ -7,12 +7,7 @@ use Rattle.std.specs.List.{filter_map}
 use Rattle.standing.specs.DueLists.{Mark, due_of}
 use Rattle.standing.specs.declared.dues.Due.{Due}
 use Rattle.standing.specs.declared.queries.StandingQuery.{StandingQuery}
-
--- what is made of an item, in front of what is made of those behind it
-first_given : {A B : Type 0} (f : A → Option B) (x : A) (xs : List A) (o : Option B) → f x ≡ o
-    → option_to_list o ++ filter_map f xs ≡ filter_map f (x ∷ xs)
-first_given f x xs None e = rw e refl
-first_given f x xs (Some y) e = rw e refl
+use Rattle.mon_value.proofs.PlainLemmas.{first_given}
 
 pub dues_more : (queries : List StandingQuery) (marks : List Mark) (i : ℕ) (d : Mark) (dues : List Due)
     → i < length marks

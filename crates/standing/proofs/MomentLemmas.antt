@@ -1,15 +1,16 @@
 -- Queries are due at moments that are no less than 0.
 use Rattle.std.proofs.Common.{◌≡◌, ℕ, ◌+◌, ◌*◌, ℤ, pos, ◌≤ℤ◌, Bool, true, false, cond, List, [], ◌∷◌, ◌++◌, map, Option}
-use Rattle.std.proofs.Common.{Some, None, slice_get, option_map, Result, Ok, Err, subst, refl, arith}
+use Rattle.std.proofs.Common.{Some, None, slice_get, option_map, Ok, subst, arith}
 use Rattle.std.specs.List.{AllByRecursion, cons_option, filter_map}
 use Rattle.std.specs.Ordering.{is_gt}
 use Rattle.std.proofs.lemmas.Int.{ints}
 use Rattle.mon_value.specs.Order.{sorted_list, sorted_list_with}
-use Rattle.standing.specs.DueLists.{Mark, count_between, due_answer, due_fault, due_list, due_marks, due_of, due_times}
+use Rattle.standing.specs.DueLists.{Mark, due_answer, due_fault, due_list, due_marks, due_of, due_times}
 use Rattle.standing.specs.DueLists.{mark_cmp, marked, marks_from, seconds, unless}
 use Rattle.standing.specs.declared.dues.Due.{Due}
 use Rattle.standing.specs.declared.faults.DueFault.{DueFault}
 use Rattle.standing.specs.declared.queries.StandingQuery.{StandingQuery}
+use Rattle.mon_value.proofs.PlainLemmas.{all_append}
 
 abbrev IsMoment : Mark → Type 0
 IsMoment mark = pos 0 ≤ℤ mark.0
@@ -37,16 +38,11 @@ times_counted : (last : Option ℤ) (moment : ℤ) (period : ℕ)
 times_counted None moment period = (counted _, tt)
 times_counted (Some last) moment period = multiples period _
 
-both_all : {X : Type 0} (P : X → Type 0) (xs ys : List X) → AllByRecursion P xs → AllByRecursion P ys
-    → AllByRecursion P (xs ++ ys)
-both_all P [] ys first second = second
-both_all P (x ∷ xs) ys first second = (first.0, both_all P xs ys first.1 second)
-
 from_counted : (n : ℕ) (last : Option ℤ) (moment : ℤ) (queries : List StandingQuery)
     → AllByRecursion IsMoment (marks_from n last moment queries)
 from_counted n last moment [] = tt
 from_counted n last moment (query ∷ queries) =
-    both_all IsMoment (marked n (due_times last moment (seconds query.period)))
+    all_append IsMoment (marked n (due_times last moment (seconds query.period)))
     (marks_from (n + 1) last moment queries)
     (times_marked n (due_times last moment (seconds query.period)) (times_counted last moment (seconds query.period)))
     (from_counted (n + 1) last moment queries)

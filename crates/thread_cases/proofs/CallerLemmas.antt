@@ -23,6 +23,7 @@ use Rattle.mon_value.specs.declared.histories.Histories.{Histories}
 use Rattle.history_book.specs.Seats.{times_range}
 use Rattle.raise_table.specs.declared.views.Hints.{Hints}
 use Rattle.know.specs.Sound.{IsSound, known_bits}
+use Rattle.mon_value.proofs.PlainLemmas.{contains_none}
 
 -- ---- held ranges
 
@@ -76,9 +77,6 @@ by_two P a b p q r zero = p
 by_two P a b p q r (suc zero) = q
 by_two P a b p q r (suc (suc n)) = r
 
-none_there : {X : Type 0} (x : X) → Contains [] x → ⊥
-none_there x there = let l : there.0 < 0 = there.1 in absurd (omega arith)
-
 only : {X : Type 0} (x y : X) → Contains (x ∷ []) y → x ≡ y
 only x y (zero, low, is) = is
 only x y (suc n, low, is) = absurd (let l : suc n < 1 = low in omega arith)
@@ -93,7 +91,7 @@ module _ (setting : Setting) (hints : Hints) (leaves : length (leaves_in setting
   IsHome history = (e : Entry) → Contains history e → AreAtHome setting.held setting.zones e
 
   none_home : IsHome []
-  none_home e there = absurd (none_there e there)
+  none_home e there = absurd (contains_none e there)
 
   abbrev IsLed : Leaf → List Entry → Type 0
   IsLed leaf history =
@@ -152,7 +150,7 @@ module _ (setting : Setting) (hints : Hints) (leaves : length (leaves_in setting
         formed = λ leaf here. by_two IsWellFormed (opened ∷ []) [] ((refl, refl, tt), tt) tt tt leaf.0;
         at_home = λ leaf. by_two IsHome (opened ∷ []) []
             (λ e there. subst (λ (x : Entry). AreAtHome setting.held setting.zones x) (only opened e there)
-            (λ row within. absurd (none_there row within)))
+            (λ row within. absurd (contains_none row within)))
             none_home none_home leaf.0;
         legal = λ range here.
             first_range (λ n. IsLegal setting.held setting.zones setting.points (range_numbered n)

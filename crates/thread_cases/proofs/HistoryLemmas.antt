@@ -4,7 +4,7 @@ use Rattle.std.proofs.Common.{map, filter, refl, sym, ap, ◌∙◌, subst, arit
 use Rattle.std.specs.Prelude.{None, All, option_map}
 use Rattle.std.proofs.lemmas.Bool.Decides.{nat_tests}
 use Rattle.std.proofs.lemmas.List.{length_push, same_from_push}
-use Rattle.std.proofs.lemmas.List.Sums.{sum_by-append, sum_by-cons}
+use Rattle.std.proofs.lemmas.List.Sums.{sum_by-append}
 use Rattle.std.proofs.lemmas.List.Elements.{All-cons, All-map, All-nil}
 use Rattle.history_book.specs.declared.rooms.RoomMove.TheVariants as move
 use Rattle.history_book.specs.declared.views.BookEntry.{BookEntry}
@@ -21,7 +21,7 @@ use Rattle.history_book.specs.Seats.{HasGuestRoom, HoldsOwn, Owner, Seat, after_
 use Rattle.history_book.specs.Seats.{holds_after, is_own_range, new_owner, guest_seat, purse_with, rooms_after}
 use Rattle.history_book.specs.Seats.{times_range, times_room, with_guest}
 use Rattle.history_book.proofs.HistoryLemmas.{entries_added, no_entries_at}
-use Rattle.history_book.proofs.PurseLemmas.{room_made}
+use Rattle.history_book.proofs.PurseLemmas.{room_made, holds_first}
 
 abbrev pub IsNew : Owner → Type 0
 IsNew owner = (owner.guest ≡ None) × (entries owner.seen owner.history ≡ []) × IsOfLeaf owner.history
@@ -66,17 +66,6 @@ grown_by_one before met after parted other e met_is whole after_is parted_is fit
     ∙ ap (λ g. length (entries met.seen g) + 1) same ∙ ap (λ xs. length xs + 1) whole
 
 -- ---- one leaf and one range
-
--- who holds a range in front of others holds it
-pub holds_first : (range : Range) (holds : List Range) → 0 < times_range range (range ∷ holds)
-holds_first range holds =
-    let all : times_range range (range ∷ holds) ≡ cond (same_range range range) 1 0 + times_range range holds
-    = sum_by-cons (λ other. cond (same_range range other) 1 0) range holds in
-    let n : ℕ = range.0 in
-    let same : same_range range range ≡ true = let e : nat_eq n n ≡ true = grind (arith, nat_tests) in e in
-    let one : times_range range (range ∷ holds) ≡ 1 + times_range range holds
-    = all ∙ ap (λ b. cond b 1 0 + times_range range holds) same in
-    omega arith
 
 pub holds_own : (owner : Owner) (range : Range) → owner.history ≡ of.Range range → owner.held ≡ range ∷ []
     → HoldsOwn owner

@@ -1,6 +1,6 @@
 -- A query that asks: what it asks of is there, and what follows of an answer.
-use Rattle.std.proofs.Common.{◌≡◌, ◌∙◌, ◌≤ℤ◌, ℕ, pos, true, refl, sym, ap, subst}
-use Rattle.std.specs.Prelude.{◌≢◌, is_some, Option, Some, None}
+use Rattle.std.proofs.Common.{◌≡◌, ◌∙◌, ◌≤ℤ◌, ℕ, pos, sym, ap, subst}
+use Rattle.std.specs.Prelude.{◌≢◌, Some}
 use Rattle.mon_config.specs.declared.config.Config.{Config}
 use Rattle.query_core.specs.AskedPlaces.{IsThere}
 use Rattle.query_core.specs.Askings.{IsAskedOf}
@@ -25,11 +25,6 @@ use Rattle.mon_topo.specs.declared.sights.Sight.{Sight}
 use Rattle.weave_core.specs.declared.store.Store.{Store}
 use Rattle.write_core.specs.Invariant.{IsKept}
 use Rattle.write_core.specs.World.{Actor, Stander, Stands, World}
-
--- who holds a seat that is held
-pub some_holder : (holder : Option ℕ) → is_some holder ≡ true → (other : ℕ) × (holder ≡ Some other)
-some_holder None e = absurd cc
-some_holder (Some other) e = (other, refl)
 
 module _ (config : Config) (core : Core (store_of config)) (k : ℕ) (store : Store) (querying : Querying) (sight : Sight)
     (asking : IsAsking config core k store querying sight) where

@@ -35,7 +35,7 @@ use Rattle.write_core.specs.Invariant.{IsRangeSettled}
 use Rattle.mon_topo.specs.Views.{IsSound}
 use Rattle.core_theory.proofs.CoreLemmas.{new_woven}
 use Rattle.mon_topo.proofs.FirstLemmas as begun
-use Rattle.mon_topo.proofs.FirstLemmas.{HasNoRow}
+use Rattle.mon_topo.proofs.FirstLemmas.{HasNoRow, opened_count}
 use Rattle.weave_core.specs.ActorAgreements.{IsActorSo, actor_numbered}
 use Rattle.weave_core.specs.Agreements.{AreShared, IsServed, first_view}
 use Rattle.core_theory.specs.Core.{Reader}
@@ -141,10 +141,6 @@ module _ (range : Range) (slot : Slot) where
       ∙ ranges_apart zones leaf (from + 1) count above
 
 -- ---- what a range has
-
-pub opened_count : (slot : ℕ) (leaves : List Leaf) → length (opened_slots (openings_from slot leaves)) ≡ length leaves
-opened_count slot [] = refl
-opened_count slot (leaf ∷ leaves) = ap suc (opened_count (slot + 1) leaves)
 
 -- a replica in its slot
 record IsPlacedIn (firsts : List Leaf) (replica : SlotLeaf) : Type 0 where

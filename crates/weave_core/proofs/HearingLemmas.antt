@@ -1,6 +1,6 @@
 -- A weave after an actor that has not begun heard from one that has ended.
-use Rattle.std.proofs.Common.{◌≡◌, ◌≢◌, ℕ, zero, suc, ◌<◌, Bool, true, false, not, cond, Option, Some, None, List, []}
-use Rattle.std.proofs.Common.{◌∷◌, get_or, length, set, refl, sym, ap, subst, ◌∙◌, inl, inr, arith}
+use Rattle.std.proofs.Common.{◌≡◌, ◌≢◌, ℕ, ◌<◌, Bool, true, false, not, cond, Option, Some, None, List, []}
+use Rattle.std.proofs.Common.{◌∷◌, get_or, length, set, refl, sym, ap, subst, ◌∙◌, inl, inr}
 use Rattle.std.specs.Prelude.{◌||◌, IfSome, option_map, slice_get}
 use Rattle.std.proofs.lemmas.Bool.{cases_eq}
 use Rattle.std.proofs.lemmas.List.{length-set}
@@ -58,6 +58,7 @@ use Rattle.weave_core.specs.declared.weave.Weave.{Weave}
 use Rattle.weave_core.specs.declared.writes.Writing.{Writing as Write}
 use Rattle.write_core.proofs.KeepsLemmas.{changed_other, changed_same}
 use Rattle.write_core.proofs.ViewLemmas.{joined_first}
+use Rattle.mon_value.proofs.PlainLemmas.{get_within, or_true}
 use Rattle.write_core.specs.Events.{HasNotBegun, Learns}
 use Rattle.write_core.specs.Program.{Acking, Ended, Entering, Inside, Locking, Reserving, Stage}
 use Rattle.write_core.specs.Recovering.{Beginning, Carrying, CopyStage, Copying, Nearing, Over, Telling, Within}
@@ -431,15 +432,6 @@ may_meet true true true d e = absurd cc
 may_meet true false c d e = absurd cc
 may_meet false b c d e = absurd cc
 
-or_true : (b : Bool) → (b || true) ≡ true
-or_true true = refl
-or_true false = refl
-
-got_there : {X : Type 0} (xs : List X) (n : ℕ) (x : X) → slice_get xs n ≡ Some x → n < length xs
-got_there [] n x e = absurd cc
-got_there (y ∷ xs) zero x e = omega arith
-got_there (y ∷ xs) (suc n) x e = let later = got_there xs n x e in omega (arith, later)
-
 pub out_there : (actors left : List (Option Actor)) (j n : ℕ) → left ≡ set actors j None → n < length actors
     → n < length left
 out_there actors left j n is there =
@@ -513,7 +505,7 @@ module _ (old : Weave) (k j : ℕ) (ended : Actor) (taken : Some ended ≡ actor
         numbered_here : actor_numbered new.actors.items k ≡ Some (hearing_of ended.sight own_found.own)
         numbered_here = ap (λ (all : List (Option Actor)). flat (slice_get all k)) items
             ∙ ap flat (set_apart (set (set old.actors.items j None) k heard) j k (Some ended) apart
-            ∙ set_at (set old.actors.items j None) k heard (got_there (set old.actors.items j None) k place got))
+            ∙ set_at (set old.actors.items j None) k heard (get_within (set old.actors.items j None) k place got))
             ∙ heard_own
 
         count : length (set (set old.actors.items j None) k heard) ≡ length old.actors.items

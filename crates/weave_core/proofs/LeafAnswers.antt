@@ -41,7 +41,8 @@ use Rattle.weave_core.specs.declared.store.Store.{Store}
 use Rattle.write_core.proofs.KeepsLemmas.{changed_same}
 use Rattle.mon_topo.specs.Views.{View, joined_view, of_leaf}
 use Rattle.write_core.specs.World.{World}
-use Rattle.weave_core.proofs.AskingLemmas.{answered, asked_of, asks_then, from, not_mine, some_holder, there_at, waits}
+use Rattle.weave_core.proofs.AskingLemmas.{answered, asked_of, asks_then, from, not_mine, there_at, waits}
+use Rattle.weave_core.proofs.WriteTurnLemmas.{some_of}
 
 module _ (config : Config) (core : Core (store_of config)) (k : ℕ) (store : Store) (querying : Querying) (sight : Sight)
     (asking : IsAsking config core k store querying sight) where
@@ -184,7 +185,7 @@ module _ (config : Config) (core : Core (store_of config)) (k : ℕ) (store : St
 
       pub leaf_held : IsHeldFrom seat.holder seat left sight now → QueryWaits config core k new sight now
       leaf_held held =
-          let other = some_holder seat.holder held.held in
+          let other = some_of seat.holder held.held in
           waits config core k store querying sight asking (ask.Visit leaf) e new now other.0 (sym so.holder ∙ other.1)
           (not_mine config core k store querying sight asking (λ actor. HoldsLeaf leaf.0 actor) (λ stander h. h) other.0
           (asking.holders.leaf leaf.0 other.0 (sym so.holder ∙ other.1)))

@@ -27,10 +27,11 @@ use Rattle.mon_value.specs.declared.histories.RangeEntry.TheVariants as range_en
 use Rattle.mon_value.specs.declared.positions.Leaf.{Leaf}
 use Rattle.mon_value.specs.declared.positions.Range.{Range}
 use Rattle.mon_value.specs.declared.positions.SlotLeaf.{SlotLeaf}
-use Rattle.weave_core.proofs.BeginLemmas.{opened_count}
 use Rattle.weave_core.specs.RecoveryEvents.{opening_told, told_by_denial}
 use Rattle.write_core.proofs.CopyAnswers.{may_open}
 use Rattle.write_core.proofs.OpeningLemmas.{opened-acked, opened-opened, serving-opened}
+use Rattle.mon_topo.proofs.FirstLemmas.{opened_count}
+use Rattle.mon_value.proofs.PlainLemmas.{filter-few, at_least}
 use Rattle.write_core.specs.CopySteps.{IsToldOfRange}
 use Rattle.write_core.specs.Recovering.{denied_by}
 use Rattle.write_core.specs.declared.copies.Denial.TheVariants.{ServesFully, SlotsSpent}
@@ -92,15 +93,6 @@ placed_on leaf replicas replica h =
 
 -- ---- how many serve and were opened
 
-filter_few : {X : Type 0} (test : X → Bool) (xs : List X) → length (filter test xs) ≤ length xs
-filter_few test [] = omega arith
-filter_few test (x ∷ xs) = by (test x) (filter_few test xs)
-  where
-    by : (b : Bool) → length (filter test xs) ≤ length xs
-        → length (cond b (x ∷ filter test xs) (filter test xs)) ≤ length (x ∷ xs)
-    by true h = omega arith
-    by false h = omega arith
-
 record AreFew (history : List RangeEntry) : Type 0 where
   pub serve : length (serving history) ≤ MOST_REPLICAS
   pub known : length (serving history) ≤ length (opened_slots history)
@@ -136,8 +128,8 @@ module _ (held : SchemaLists) (zones : List ZoneSpec) (points : ℕ) (range : Ra
           let ltb-true : replica.slot.0 < length (first_replicas zones range.0) = grind (arith, nat_tests) in
           omega (arith, ltb-true, firsts, may.0, h.known, grown)
       placed false is =
-          let beyond : length (first_replicas zones range.0) ≤ replica.slot.0 = grind (arith, nat_tests) in
-          let few = (may.2.1 beyond).few in
+          let at_least : length (first_replicas zones range.0) ≤ replica.slot.0 = grind (arith, nat_tests) in
+          let few = (may.2.1 at_least).few in
           omega (arith, few, grown)
 
   few_acked : (before : List RangeEntry) (e : RangeEntry) (ack : Ack)
@@ -145,7 +137,7 @@ module _ (held : SchemaLists) (zones : List ZoneSpec) (points : ℕ) (range : Ra
       → opened_slots (before ++ e ∷ []) ≡ opened_slots before → AreFew before → AreFew (before ++ e ∷ [])
   few_acked before e ack serves opens h =
       let fewer : length (filter (not_missed ack) (serving before)) ≤ length (serving before)
-      = filter_few (not_missed ack) (serving before) in
+      = filter-few (not_missed ack) (serving before) in
       let serve = ap (λ (xs : List SlotLeaf). length xs) serves in
       let opened = ap (λ (xs : List SlotLeaf). length xs) opens in
       record {
@@ -178,9 +170,6 @@ module _ (held : SchemaLists) (zones : List ZoneSpec) (points : ℕ) (range : Ra
 
 -- ---- what the lock tells
 
-beyond : (a b : ℕ) → nat_lt a b ≡ false → b ≤ a
-beyond a b e = grind (arith, nat_tests)
-
 module _ (setting : Setting) (history : List RangeEntry) (who : Recovery)
     (zoned : IsInZoneOf setting.zones who.range who.leaf)
     (begins : length (first_replicas setting.zones who.range.0) ≤ length (opened_slots history))
@@ -193,7 +182,7 @@ module _ (setting : Setting) (history : List RangeEntry) (who : Recovery)
     by_slots true is some =
         (refl, may_open setting history who zoned begins off some (ltb-true (length (opened_slots history)) MOST_SLOTS is))
     by_slots false is some =
-        let least = beyond (length (opened_slots history)) MOST_SLOTS is in
+        let least = at_least (length (opened_slots history)) MOST_SLOTS is in
         (off, some, omega (arith, least, few.opened), refl)
 
     by_serving : (b : Bool) → nat_lt (length (serving history)) MOST_REPLICAS ≡ b
@@ -204,7 +193,7 @@ module _ (setting : Setting) (history : List RangeEntry) (who : Recovery)
         by_slots (nat_lt (length (opened_slots history)) MOST_SLOTS) refl
         (ltb-true (length (serving history)) MOST_REPLICAS is)
     by_serving false is =
-        let least = beyond (length (serving history)) MOST_REPLICAS is in
+        let least = at_least (length (serving history)) MOST_REPLICAS is in
         (off, omega (arith, least, few.serve))
 
   told_by : (found : Option SlotLeaf) → slice_get (filter (is_on who.leaf) (serving history)) 0 ≡ found

@@ -1,26 +1,13 @@
 -- The plan of a text is asked of a configuration's store.
 use Rattle.std.proofs.Common.{◌≡◌, ℕ, List, Ok, sym, subst, refl}
-use Rattle.std.specs.Prelude.{Some}
-use Rattle.leaf_store.specs.LeafStates.{buckets_by, key_buckets}
 use Rattle.mon_config.specs.declared.config.Config.{Config}
-use Rattle.mon_hints.specs.Hints.{series_buckets}
-use Rattle.mon_schema.specs.Names.{SchemaLists, metric_named, target_named}
-use Rattle.mon_value.specs.declared.rows.SeriesKey.{SeriesKey}
-use Rattle.mon_value.specs.declared.schemas.MetricSchema.{MetricSchema}
-use Rattle.mon_value.specs.declared.schemas.TargetSchema.{TargetSchema}
 use Rattle.mql_types.specs.declared.plans.Plan.{Plan}
 use Rattle.query_core.specs.Rounds.{areas_of, QuerySetting}
 use Rattle.query_core.specs.Machine.{Query, new_query}
 use Rattle.query_texts.specs.TextTypes.{IsPlanOver, plan_type, text_type}
 use Rattle.weave_core.specs.Agreements.{IsServed}
 use Rattle.weave_core.specs.QueryPlans.{IsMachineSo}
-
--- a series whose schemas are held has the buckets by them
-own_buckets : (count : ℕ) (held : SchemaLists) (target : TargetSchema) (metric : MetricSchema) (key : SeriesKey)
-    → target_named key.target.schema held.targets ≡ Some target → metric_named key.metric held.metrics ≡ Some metric
-    → key_buckets count held key ≡ series_buckets count target metric key
-own_buckets count held target metric key target_is metric_is =
-    λ i. buckets_by count (target_is i) (metric_is i) key
+use Rattle.leaf_store.proofs.BucketLemmas.{own_buckets}
 
 module _ (config : Config) (served : IsServed config) (text : List ℕ) (plan : Plan)
     (typed_is : text_type config.schemas text ≡ Ok (plan_type plan))

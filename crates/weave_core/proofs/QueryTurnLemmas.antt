@@ -1,6 +1,6 @@
 -- A query that was told what the core tells it is as in the core after its event.
 use Rattle.std.proofs.Common.{◌≡◌, ◌∙◌, ◌≤ℤ◌, ◌<◌, ℕ, ℤ, pos, List, [], ◌∷◌, ◌++◌, Result, refl, sym, ap, subst}
-use Rattle.std.specs.Prelude.{Option, Some, IfOk, Ok, Err}
+use Rattle.std.specs.Prelude.{Option, Some}
 use Rattle.std.specs.List.{AllByRecursion}
 use Rattle.mon_config.specs.declared.config.Config.{Config}
 use Rattle.mon_topo.proofs.HeldLemmas.{seen_within_through}
@@ -31,11 +31,6 @@ use Rattle.weave_core.specs.declared.queries.Querying.{Querying}
 use Rattle.mon_topo.specs.declared.sights.Sight.{Sight}
 use Rattle.weave_core.specs.declared.store.Store.{Store}
 use Rattle.write_core.proofs.KeepsLemmas.{changed_same}
-
-pub if_ok_on : {X E : Type 0} (P Q : X → Type 0) → ((x : X) → P x → Q x) → (result : Result X E) → IfOk result P
-    → IfOk result Q
-if_ok_on P Q on (Ok x) is = on x is
-if_ok_on P Q on (Err fault) is = is
 
 query_push : (store : Setting) (asked : QuerySetting) (moment : ℤ) (query : Query)
     (events : List (session.Event store asked moment)) (event : session.Event store asked moment)

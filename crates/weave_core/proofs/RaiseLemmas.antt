@@ -3,6 +3,7 @@ use Rattle.std.proofs.lemmas.Bool.{or_right}
 use Rattle.std.proofs.Common.{◌≡◌, ◌∙◌, ℕ, ◌<◌, ◌||◌, ◌==◌, Bool, true, false, List, [], ◌∷◌, refl, sym, subst, arith}
 use Rattle.std.proofs.lemmas.Bool.Decides.{nat_tests}
 use Rattle.leaf_store.proofs.BucketLemmas.{AllBelow, unraised_below}
+use Rattle.plan_split.proofs.HintLemmas.{among-self}
 use Rattle.leaf_store.specs.LeafStates.{AreToRaise, is_unraised}
 use Rattle.mon_config.specs.declared.config.Config.{Config}
 use Rattle.mon_hints.specs.Formulas.{is_among}
@@ -14,13 +15,10 @@ first_by : (x : ℕ) (rest b : Bool) → (x == x) ≡ b → (b || rest) ≡ true
 first_by x rest true same = refl
 first_by x rest false same = absurd (grind (arith, nat_tests))
 
-first_among : (x : ℕ) (xs : List ℕ) → is_among x (x ∷ xs) ≡ true
-first_among x xs = first_by x (is_among x xs) (x == x) refl
-
 pub all_among : (count : ℕ) (xs : List ℕ) → ((x : ℕ) → is_among x xs ≡ true → x < count) → AllBelow count xs
 all_among count [] h = tt
 all_among count (x ∷ xs) h =
-    (h x (first_among x xs), all_among count xs (λ y e. h y (or_right (y == x) (is_among y xs) e)))
+    (h x (among-self x xs), all_among count xs (λ y e. h y (or_right (y == x) (is_among y xs) e)))
 
 pub all_below : (config : Config) (seat : LeafSeat) (key : SeriesKey) (buckets : List ℕ) → IsServed config
     → seat.state.buckets ≡ config.buckets → AreToRaise seat.state key buckets → AllBelow config.buckets buckets

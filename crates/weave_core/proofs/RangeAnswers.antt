@@ -31,7 +31,8 @@ use Rattle.write_core.proofs.KeepsLemmas.{changed_same}
 use Rattle.write_core.specs.Replays.{HasAckRoom, Replay}
 use Rattle.mon_topo.specs.Views.{View, joined_view, of_range}
 use Rattle.write_core.specs.World.{World}
-use Rattle.weave_core.proofs.AskingLemmas.{answered, not_mine, some_holder, there_at, waits}
+use Rattle.weave_core.proofs.AskingLemmas.{answered, not_mine, there_at, waits}
+use Rattle.weave_core.proofs.WriteTurnLemmas.{some_of}
 
 module _ (config : Config) (core : Core (store_of config)) (k : ℕ) (store : Store) (querying : Querying) (sight : Sight)
     (asking : IsAsking config core k store querying sight) where
@@ -117,7 +118,7 @@ module _ (config : Config) (core : Core (store_of config)) (k : ℕ) (store : St
       pub range_held : IsHeldFrom seat.holder seat left sight now → QueryWaits config core k new sight now
       range_held held =
           let so = range_so seat was in
-          let other = some_holder seat.holder held.held in
+          let other = some_of seat.holder held.held in
           waits config core k store querying sight asking (ask.Resolve range) e new now other.0 (sym so.holder
           ∙ other.1)
           (not_mine config core k store querying sight asking (λ actor. HoldsRange range.0 actor) (λ stander h. h)

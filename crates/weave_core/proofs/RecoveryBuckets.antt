@@ -12,6 +12,7 @@ use Rattle.mon_value.specs.declared.histories.Entry.{Entry}
 use Rattle.mon_value.specs.declared.rows.Row.{Row}
 use Rattle.weave_core.specs.RecoveryEvents.{AreAllToRaise, Lists}
 use Rattle.leaf_store.proofs.BucketLemmas.{one_more}
+use Rattle.mon_value.proofs.PlainLemmas.{and_spread}
 
 -- those that are wanted below a number were added
 abbrev pub AddsWanted : (ℕ → Bool) → (ℕ → Bool) → (ℕ → Bool) → ℕ → Type 0
@@ -50,15 +51,6 @@ is_left buckets held history rows bucket =
     is_among bucket (rows_buckets (key_buckets buckets held) rows)
     && not (is_among bucket (history_buckets (key_buckets buckets held) history))
 
-joined : (a b c : Bool) → ((a && c) || (b && c)) ≡ ((a || b) && c)
-joined true true true = refl
-joined true true false = refl
-joined true false true = refl
-joined true false false = refl
-joined false true true = refl
-joined false true false = refl
-joined false false c = refl
-
 pub row_more : (buckets : ℕ) (held : SchemaLists) (history : List Entry) (before : List Row) (row : Row)
     (old new : ℕ → Bool) → ((bucket : ℕ) → old bucket ≡ is_left buckets held history before bucket)
     → ((bucket : ℕ) → new bucket ≡ (old bucket || is_unraised buckets held history row.key bucket))
@@ -66,7 +58,7 @@ pub row_more : (buckets : ℕ) (held : SchemaLists) (history : List Entry) (befo
 row_more buckets held history before row old new so_far added bucket =
     added bucket
     ∙ ap (λ b. b || is_unraised buckets held history row.key bucket) (so_far bucket)
-    ∙ joined (is_among bucket (rows_buckets (key_buckets buckets held) before))
+    ∙ and_spread (is_among bucket (rows_buckets (key_buckets buckets held) before))
     (is_among bucket (key_buckets buckets held row.key))
     (not (is_among bucket (history_buckets (key_buckets buckets held) history)))
     ∙ ap (λ b. b && not (is_among bucket (history_buckets (key_buckets buckets held) history)))

@@ -17,7 +17,6 @@ use Rattle.mon_value.specs.declared.positions.Leaf.{Leaf}
 use Rattle.mon_value.specs.declared.positions.Slot.{Slot}
 use Rattle.mon_value.specs.declared.positions.SlotLeaf.{SlotLeaf}
 use Rattle.mon_value.specs.declared.rows.Row.{Row}
-use Rattle.weave_core.proofs.AskingLemmas.{some_holder}
 use Rattle.weave_core.proofs.SeatLemmas.{parts_alike}
 use Rattle.weave_core.specs.Agreements.{AreShared, IsLeafSo, IsRangeSo}
 use Rattle.weave_core.specs.Recoverers.{AsksOne, recovery_of}
@@ -29,6 +28,7 @@ use Rattle.weave_core.specs.declared.recoveries.Recovering.{Recovering}
 use Rattle.weave_core.specs.declared.store.Store.{Store}
 use Rattle.write_core.proofs.InsideLemmas.{opened_there}
 use Rattle.write_core.proofs.StepLemmas.{recovery_of as kept_recovery}
+use Rattle.weave_core.proofs.WriteTurnLemmas.{some_of}
 use Rattle.write_core.specs.CopyPhases.{copy_ask_of}
 use Rattle.write_core.specs.CopySteps.{CanCopy, CanCopyAt, CanRecover, after_copy_event, copy_at, copy_step}
 use Rattle.write_core.specs.Invariant.{IsCopyAt, IsRecovery}
@@ -216,7 +216,7 @@ module _ (config : Config) (world : World) (i : ℕ) (store : Store) (recovering
       → holder_for_actor world (world.actors i) ≡ holder → (holder ≡ Some i → ⊥) → AreShared config world new
       → now ≡ sight → RecoverWaits config world i new sight now
   waits_for holder new now some holds anothers shared same =
-      let other = some_holder holder some in
+      let other = some_of holder some in
       record {
         other = other.0;
         holds = holds ∙ other.1;

@@ -19,7 +19,6 @@ use Rattle.core_theory.proofs.MeetingLemmas.{leaf_met}
 use Rattle.core_theory.specs.Core.{Happens, Reader}
 use Rattle.core_theory.specs.Holders.{HoldsLeaf}
 use Rattle.core_theory.specs.Meetings.{sight_at_leaf}
-use Rattle.weave_core.proofs.AskingLemmas.{some_holder}
 use Rattle.weave_core.proofs.DeclareLemmas.{stands_so}
 use Rattle.weave_core.proofs.ReachedLemmas.{part_of}
 use Rattle.weave_core.proofs.SeatLemmas.{leaf_so_then, parts_alike, same_at_leaf, shared_at_leaf}
@@ -45,6 +44,7 @@ use Rattle.weave_core.specs.declared.switches.Switched.{Switched}
 use Rattle.weave_core.specs.declared.switches.Switching.{Switching as Switch}
 use Rattle.write_core.proofs.KeepsLemmas.{changed_same}
 use Rattle.write_core.proofs.ViewLemmas.{joined_whole_leaf}
+use Rattle.weave_core.proofs.WriteTurnLemmas.{some_of}
 use Rattle.write_core.specs.Events.{IsToldOfSwitch, MaySwitch, SwitchTold, Switches, SwitchesSpent, WasDownAlready}
 use Rattle.write_core.specs.Events.{WasSwitched, WasUpAlready, after_switch, switch_of, switched, switches_with}
 use Rattle.write_core.specs.Invariant.{IsKept}
@@ -249,7 +249,7 @@ module _ (config : Config) (state : State (store_of config)) (i : ℕ) (store : 
           → HasStepped config state i new (record { task = task.Switches own; sight = now; begun = begun })
           stepped.Waits
       waits_so held =
-          let other = some_holder seat.holder held.held in
+          let other = some_of seat.holder held.held in
           let holds : world.leaf_holder leaf.0 ≡ Some other.0 = sym seat_so.holder ∙ other.1 in
           record {
             fault = no_fault config state i store before here refl;

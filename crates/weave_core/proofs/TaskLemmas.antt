@@ -37,6 +37,7 @@ use Rattle.write_core.specs.declared.asks.WriteAsk.{WriteAsk}
 use Rattle.write_core.specs.declared.asks.WriteAsk.TheVariants as write_ask
 use Rattle.write_core.specs.declared.copies.CopyAsk.{CopyAsk}
 use Rattle.write_core.specs.declared.copies.CopyAsk.TheVariants as copy_ask
+use Rattle.mon_value.proofs.PlainLemmas.{or_false, or_true}
 
 -- who asks for something has an event
 write_has_event : (asks : WriteAsk) → asks ≢ write_ask.Finished → is_some (event_of_write asks) ≡ true
@@ -66,14 +67,6 @@ query_has_event (query_ask.LoadZone zone bucket) going = refl
 query_has_event (query_ask.Resolve range) going = refl
 query_has_event (query_ask.Visit leaf) going = refl
 query_has_event query_ask.Finished going = absurd (going refl)
-
-or_false : (b : Bool) → (b || false) ≡ b
-or_false true = refl
-or_false false = refl
-
-or_true : (b : Bool) → (b || true) ≡ true
-or_true true = refl
-or_true false = refl
 
 pub some_copied : {T : Type 0} (found : Option (Bor T)) → is_some found ≡ is_some (option_copied found)
 some_copied None = refl

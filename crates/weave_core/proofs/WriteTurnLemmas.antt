@@ -22,7 +22,7 @@ use Rattle.write_core.specs.World.{Actor, World, Writer, Writes, view_of, writes
 use Rattle.write_core.specs.declared.asks.WriteAsk.TheVariants as ask
 use Rattle.write_core.specs.declared.asks.WriteTold.{WriteTold}
 
-some_of : (holder : Option ℕ) → is_some holder ≡ true → (other : ℕ) × (holder ≡ Some other)
+pub some_of : (holder : Option ℕ) → is_some holder ≡ true → (other : ℕ) × (holder ≡ Some other)
 some_of None e = absurd cc
 some_of (Some other) e = (other, refl)
 

@@ -30,7 +30,7 @@ use Rattle.write_core.proofs.StageLemmas.{untaken_ready}
 
 -- ---- where a round goes on, its marks are the same
 
-skip_marks : (done left : List Mark) → round_marks (skip_unready done left) ≡ done ++ left
+pub skip_marks : (done left : List Mark) → round_marks (skip_unready done left) ≡ done ++ left
 skip_marks done [] = refl
 skip_marks done (mark ∷ left) =
     cond_both (is_ready mark.fate) (record { done = done; left = mark ∷ left }) (skip_unready (done ++ mark ∷ []) left)

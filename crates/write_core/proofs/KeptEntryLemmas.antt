@@ -10,6 +10,7 @@ use Rattle.write_core.specs.declared.kept_entries.Kept.{Kept}
 use Rattle.write_core.specs.declared.kept_entries.Kept.TheVariants as kept
 use Rattle.write_core.specs.declared.kept_entries.Way.{Way}
 use Rattle.write_core.specs.within.KeptEntries.{Stand, acked, entries_of, entry_of}
+use Rattle.mon_value.proofs.PlainLemmas.{filter_map-few}
 
 -- ---- places of a list that grows
 
@@ -18,24 +19,12 @@ stands_in_front [] ys i x is = absurd cc
 stands_in_front (first ∷ xs) ys zero x is = is
 stands_in_front (first ∷ xs) ys (suc i) x is = stands_in_front xs ys i x is
 
-pub stands_next : {A : Type 0} (xs : List A) (x : A) → slice_get (xs ++ x ∷ []) (length xs) ≡ Some x
-stands_next [] x = refl
-stands_next (first ∷ xs) x = stands_next xs x
-
 -- ---- what is made of each item
-
-one_more : {B : Type 0} (o : Option B) (ys : List B) (n : ℕ) → length ys ≤ n → length (cons_option o ys) ≤ suc n
-one_more None ys n few = omega (arith, few)
-one_more (Some y) ys n few = omega (arith, few)
-
-made_few : {A B : Type 0} (f : A → Option B) (xs : List A) → length (filter_map f xs) ≤ length xs
-made_few f [] = omega arith
-made_few f (x ∷ xs) = one_more (f x) (filter_map f xs) (length xs) (made_few f xs)
 
 same_made : {A B : Type 0} (f g : A → Option B) → ((x : A) (y : B) → f x ≡ Some y → g x ≡ Some y) → (xs : List A)
     → length (filter_map f xs) ≡ length xs → filter_map g xs ≡ filter_map f xs
 same_made f g stay [] all = refl
-same_made {A} {B} f g stay (x ∷ xs) all = by (f x) refl all (made_few f xs) (same_made f g stay xs)
+same_made {A} {B} f g stay (x ∷ xs) all = by (f x) refl all (filter_map-few f xs) (same_made f g stay xs)
   where
     by : (o : Option B) → f x ≡ o → length (cons_option o (filter_map f xs)) ≡ suc (length xs)
         → length (filter_map f xs) ≤ length xs

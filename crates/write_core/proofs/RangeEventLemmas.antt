@@ -48,7 +48,7 @@ use Rattle.write_core.proofs.StepLemmas.{IsStep, ChangesRange, write_at_range, w
 use Rattle.write_core.proofs.UnavailableLemmas.{all_found}
 use Rattle.write_core.proofs.ViewLemmas.{within_itself}
 
-some_is_not_none : (i : ℕ) → Some i ≡ None → ⊥
+pub some_is_not_none : (i : ℕ) → Some i ≡ None → ⊥
 some_is_not_none i e = cc
 
 map_waiting : (replicas : List SlotLeaf) → map replica_of (map waiting replicas) ≡ replicas

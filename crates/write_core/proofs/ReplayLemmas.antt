@@ -1,12 +1,12 @@
 -- What one entry more makes of a range's replay.
 use Rattle.std.proofs.Common.{◌≡◌, ◌≤◌, ℤ, Bool, true, false, cond, List, [], ◌∷◌, ◌++◌, length, map, refl, sym}
-use Rattle.std.proofs.Common.{ap, ◌∙◌, Some, None, Option, is_some, Result, Ok, Err, OnOk, is_ok, arith}
+use Rattle.std.proofs.Common.{ap, ◌∙◌, Some, None, Option, is_some, arith}
 use Rattle.std.specs.Map.{lookup}
 use Rattle.std.proofs.lemmas.List.{append-nil, map-append}
 use Rattle.std.proofs.lemmas.List.Elements.{filter-append}
 use Rattle.mon_topo.proofs.RangeHistoryLemmas.{acknowledged_rows-push, serving-push}
 use Rattle.mon_topo.specs.RangeHistories.{acknowledged_rows, opened_slots}
-use Rattle.mon_value.proofs.SameLemmas.{eq-same_series, same_series-Decides}
+use Rattle.mon_value.proofs.SameLemmas.{eq-same_series, same_series-Decides, same_series-test}
 use Rattle.mon_value.specs.Same.{same_series}
 use Rattle.mon_value.specs.LeafHistories.{last_end, points_of, rows_of}
 use Rattle.mon_value.specs.contracts.rows.SeriesKeyPartialEq.TheImpl as derived
@@ -19,9 +19,6 @@ use Rattle.write_core.specs.Replays.{TellsLasts}
 use Rattle.write_core.proofs.OpeningLemmas.{acked-opened, opened-acked, opened-opened, serving-opened}
 
 -- ---- the end of the last row of each series
-
-pub same_test : (key : SeriesKey) → derived.eq-value.it key ≡ same_series key
-same_test key = λ i other. eq-same_series key other i
 
 last_end-push : (points : List Point) (point : Point) → last_end (points ++ point ∷ []) ≡ Some point.end
 last_end-push [] point = refl
@@ -57,8 +54,8 @@ pub lasts_told : (old new : List (SeriesKey × ℤ)) (row : Row) (rows : List Ro
     ≡ cond (derived.eq-value.it row.key key) (Some row.point.end) (lookup (derived.eq-value.it key) old))
     → TellsLasts old rows → TellsLasts new (rows ++ row ∷ [])
 lasts_told old new row rows updated tells key =
-    ap (λ test. lookup test new) (sym (same_test key)) ∙ updated key
-    ∙ (λ i. cond (eq-same_series row.key key i) (Some row.point.end) (lookup (same_test key i) old))
+    ap (λ test. lookup test new) (sym (same_series-test key)) ∙ updated key
+    ∙ (λ i. cond (eq-same_series row.key key i) (Some row.point.end) (lookup (same_series-test key i) old))
     ∙ (λ i. cond (symmetric row.key key i) (Some row.point.end) (tells key i))
     ∙ sym (last_after key rows row)
 
@@ -66,10 +63,6 @@ lasts_told old new row rows updated tells key =
 pub none_found : {V : Type 0} (found : Option V) → false ≡ is_some found → found ≡ None
 none_found None e = refl
 none_found (Some v) e = absurd cc
-
-pub ok_claim : {V E : Type 0} (P : Type 0) (r : Result V E) → is_ok r ≡ true → OnOk r P → P
-ok_claim P (Ok value) ok claim = claim
-ok_claim P (Err error) ok claim = absurd cc
 
 -- ---- entries
 

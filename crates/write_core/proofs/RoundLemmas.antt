@@ -8,6 +8,7 @@ use Rattle.write_core.specs.Marks.{is_ready, with_fate}
 use Rattle.write_core.specs.Rounds.{first_left, is_no_mark_left, round_with_look, round_marks, skip_unready}
 use Rattle.write_core.specs.declared.marks.Fate.{Fate}
 use Rattle.write_core.specs.declared.marks.Mark.{Mark}
+use Rattle.write_core.proofs.DeedLemmas.{skip_marks}
 
 less_at : (n : ℕ) → nat_le zero (suc n) ≡ true
 less_at n = grind (arith, nat_tests)
@@ -93,15 +94,9 @@ marks_of-skip_at : (done left : List Mark) (mark : Mark) (b : Bool)
 marks_of-skip_at done left mark true ih = refl
 marks_of-skip_at done left mark false ih = ih ∙ append_assoc done (mark ∷ []) left
 
--- skipping loses no replica
-pub marks_of-skip : (done left : List Mark) → round_marks (skip_unready done left) ≡ done ++ left
-marks_of-skip done [] = refl
-marks_of-skip done (mark ∷ left) = marks_of-skip_at done left mark (is_ready mark.fate)
-    (marks_of-skip (done ++ mark ∷ []) left)
-
 pub ruleset rounds = (
   none_left-drop,
-  marks_of-skip,
+  skip_marks,
   first_left-drop,
   skip_more,
   skip_stops,

@@ -53,7 +53,7 @@ other_number i j holder apart e f = apart (same (sym e ∙ f))
     same : Some j ≡ Some i → j ≡ i
     same p = cc
 
-none_is_not_some : (i : ℕ) (holder : Option ℕ) → holder ≡ None → holder ≡ Some i → ⊥
+pub none_is_not_some : (i : ℕ) (holder : Option ℕ) → holder ≡ None → holder ≡ Some i → ⊥
 none_is_not_some i holder e f = absurd cc
 
 -- the invariant stays, and the truth only grows

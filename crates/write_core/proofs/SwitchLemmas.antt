@@ -1,5 +1,5 @@
 -- Leaves that go down and come up, and a write that learns what someone has seen.
-use Rattle.std.proofs.Common.{◌≡◌, ℕ, ◌<◌, true, false, Some, None, Option, List, [], ◌∷◌, ◌++◌, length, refl}
+use Rattle.std.proofs.Common.{◌≡◌, ℕ, ◌<◌, true, false, None, List, [], ◌∷◌, ◌++◌, length, refl}
 use Rattle.std.proofs.Common.{sym, ap, subst, ◌∙◌, append-nil, Bool, inl}
 use Rattle.mon_value.specs.LeafHistories as leaf_spec
 use Rattle.mon_value.specs.LeafHistories.{entry_rows, is_opened, is_switch, replica_rows}
@@ -63,9 +63,6 @@ no_buckets setting bits zone l (entry.Opened pass other place rows) h = absurd c
 no_buckets setting bits zone l (entry.Put pass other place row) h = absurd cc
 no_buckets setting bits zone l (entry.Down pass) h = λ bucket there. absurd cc
 no_buckets setting bits zone l (entry.Up pass) h = λ bucket there. absurd cc
-
-nobody : (i : ℕ) (holder : Option ℕ) → holder ≡ None → holder ≡ Some i → ⊥
-nobody i holder e f = absurd cc
 
 module _ (setting : Setting) (world : World) (kept : IsKept setting world) where
   -- someone who has seen so much switches a leaf
@@ -161,7 +158,7 @@ module _ (setting : Setting) (world : World) (kept : IsKept setting world) where
     stander_switches down (WasUpAlready cut) can = looks_kept can.free
     stander_switches down (SwitchesSpent count) can = looks_kept can.free
 
-  -- whoever stands by may switch a leaf that nobody holds
+  -- whoever stands by may switch a leaf that none_is_not_some holds
   pub switch_kept : (i : ℕ) (actor : Actor) → world.actors i ≡ actor → (l : Leaf) (down : Bool) (told : SwitchTold)
       → MaySwitch world actor l down told → IsStep setting world (switched world i actor l down told)
   switch_kept i (Writes writer) is l down told can = absurd can

@@ -3,7 +3,8 @@ use Rattle.std.proofs.Common.{◌≡◌, ◌&&◌, Decides, true, refl, ap}
 use Rattle.std.specs.Cmp.Lexicographic.{pointwise}
 use Rattle.std.proofs.lemmas.Bool.Decides.{Decides-eqb}
 use Rattle.std.proofs.lemmas.Slice.Eq.{slice_eq-Decides}
-use Rattle.mon_value.proofs.SameLemmas.{both, join}
+use Rattle.mon_value.proofs.SameLemmas.{join}
+use Rattle.mon_value.proofs.PlainLemmas.{and_both}
 use Rattle.mon_value.specs.Histories.{leaf_numbered, range_numbered}
 use Rattle.mon_value.specs.contracts.histories.AckPartialEq.TheImpl as derived_ack
 use Rattle.mon_value.specs.contracts.histories.MissPartialEq.TheImpl as derived_miss
@@ -31,8 +32,8 @@ leaf_decides a b = (
 miss_decides : (a b : Miss) → Decides (derived_miss.eq-value.it a b) (a ≡ b)
 miss_decides a b = (
   λ e.
-      let first = both (derived_slot.eq-value.it a.slot b.slot) _ e in
-      let second = both (derived_leaf.eq-value.it a.leaf b.leaf) _ first.1 in
+      let first = and_both (derived_slot.eq-value.it a.slot b.slot) _ e in
+      let second = and_both (derived_leaf.eq-value.it a.leaf b.leaf) _ first.1 in
       let slot = (slot_decides a.slot b.slot).0 first.0 in
       let leaf = (leaf_decides a.leaf b.leaf).0 second.0 in
       let cut = (Decides-eqb a.cut b.cut).0 second.1 in
@@ -44,9 +45,9 @@ miss_decides a b = (
 
 same_ack : (a b : Ack) → derived_ack.eq-value.it a b ≡ true → a ≡ b
 same_ack a b e =
-    let first = both _ (pointwise derived_slot.eq-value.it a.took b.took && pointwise derived_miss.eq-value.it a.missed
+    let first = and_both _ (pointwise derived_slot.eq-value.it a.took b.took && pointwise derived_miss.eq-value.it a.missed
     b.missed) e in
-    let second = both (pointwise derived_slot.eq-value.it a.took b.took) _ first.1 in
+    let second = and_both (pointwise derived_slot.eq-value.it a.took b.took) _ first.1 in
     let range = ap range_numbered ((Decides-eqb a.range.0 b.range.0).0 first.0) in
     let took = (slice_eq-Decides slot_decides a.took b.took _ refl).0 second.0 in
     let missed = (slice_eq-Decides miss_decides a.missed b.missed _ refl).0 second.1 in
@@ -54,7 +55,7 @@ same_ack a b e =
 
 pub same_way : (a b : Way) → derived.eq-value.it a b ≡ true → a ≡ b
 same_way a b e =
-    let parts = both _ (derived_ack.eq-value.it a.ack b.ack) e in
+    let parts = and_both _ (derived_ack.eq-value.it a.ack b.ack) e in
     let high = (Decides-eqb a.high b.high).0 parts.0 in
     let ack = same_ack a.ack b.ack parts.1 in
     λ i. record { high = high i; ack = ack i }

@@ -1,11 +1,11 @@
 use Rattle.std.proofs.Common.{◌≡◌, ◌<◌, true, ap, refl, subst, sym, ◌∙◌}
-use Rattle.cell_cases.proofs.PlaceLemmas.{holds_first}
 use Rattle.history_book.specs.declared.rooms.RoomMove.TheVariants as move
 use Rattle.history_book.specs.declared.views.History.TheVariants as of
 use Rattle.history_book.specs.Histories.{empty_histories}
 use Rattle.history_book.specs.Seats.{HoldsOwn, Seat, guest_seat, hand_of, new_owner, times_range, with_guest}
 use Rattle.mon_value.specs.Histories.{joined_histories}
 use Rattle.cell_cases.proofs.callers.holding.Goals as goal
+use Rattle.history_book.proofs.PurseLemmas.{holds_first}
 
 pub split_owner-requires-clause-hold : goal.split_owner-requires-clause-hold
 split_owner-requires-clause-hold g c hold =

@@ -9,8 +9,9 @@ use Rattle.mon_value.specs.declared.aligners.Aligner.{Aligner}
 use Rattle.mon_value.specs.declared.aligners.Aligner.TheVariants.{NextOlder}
 use Rattle.mon_value.specs.declared.rows.Point.{Point}
 use Rattle.mon_value.proofs.GridLemmas.{grid_between}
-use Rattle.mon_fold.proofs.AlignmentLemmas.{begins_all, begins_whole, both_hold, holds_later, holds_now, made_more}
+use Rattle.mon_fold.proofs.AlignmentLemmas.{begins_all, begins_whole, holds_later, holds_now, made_more}
 use Rattle.mon_fold.proofs.alignment.newest_values.Goals as goal
+use Rattle.mon_value.proofs.PlainLemmas.{all_both}
 
 -- a time within the grid's reach whose sum fits
 abbrev IsNext : Aligner → Grid → List Point → ℤ → Type 0
@@ -33,7 +34,7 @@ loop-init c =
       whole = begins_whole (made_at by points) grid c.new-values.result c.times_of-end.result moment
           c.new-values.ensures.empty c.times_of-end.ensures same;
       left = begins_all (IsNext by grid points) grid c.times_of-end.result moment c.times_of-end.ensures same
-          (both_hold _ (SumFits by points) (grid_times grid) (grid_between grid c.requires.lawful) sums);
+          (all_both _ (SumFits by points) (grid_times grid) (grid_between grid c.requires.lawful) sums);
     }
 
 pub window-requires-clause-time : goal.window-requires-clause-time

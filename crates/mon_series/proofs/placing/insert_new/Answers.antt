@@ -4,15 +4,17 @@ use Rattle.indexmap.specs.IndexMap.{get}
 use Rattle.indexmap.proofs.CallerLemmas.{insert_entry-new}
 use Rattle.mon_series.specs.SeriesMaps.{series_held}
 use Rattle.mon_value.specs.contracts.rows.SeriesKeyPartialEq.TheImpl as derived
-use Rattle.mon_series.proofs.HeldLemmas.{held_last, held_none, ok_claim, same_test}
+use Rattle.mon_series.proofs.HeldLemmas.{held_last, held_none}
 use Rattle.mon_series.proofs.placing.insert_new.Goals as goal
+use Rattle.mon_value.proofs.PlainLemmas.{ok_claim}
+use Rattle.mon_value.proofs.SameLemmas.{same_series-test}
 
 pub returns : goal.returns
 returns c =
     let groups = c.args.groups.now in
     let key = c.args.key in
     let series = c.args.series in
-    let none : get derived.eq-value.it groups key ≡ None = ap (λ test. lookup test groups.entries) (same_test key)
+    let none : get derived.eq-value.it groups key ≡ None = ap (λ test. lookup test groups.entries) (same_series-test key)
     ∙ held_none key groups.entries c.requires.absent in
     record {
       grown = ap series_held (ok_claim _ c.insert.result (c.insert.ensures.succeeds c.requires.room)

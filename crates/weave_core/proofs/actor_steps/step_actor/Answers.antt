@@ -1,11 +1,11 @@
 use Rattle.std.proofs.Common.{Option}
 use Rattle.weave_core.proofs.ActorStepLemmas.{query_asks_for, query_step, recover_asks_for, recover_step, refused_step}
 use Rattle.weave_core.proofs.ActorStepLemmas.{switch_asks_for, switch_step, write_step}
-use Rattle.weave_core.proofs.QueryTurnLemmas.{if_ok_on}
 use Rattle.weave_core.specs.ActorSteps.{ActorSteps, QueriedSo, RecoveredSo, SwitchedSo, WrittenSo}
 use Rattle.weave_core.specs.declared.actors.Actor.{Actor}
 use Rattle.weave_core.specs.declared.calls.Stepped.{Stepped}
 use Rattle.weave_core.proofs.actor_steps.step_actor.Goals as goal
+use Rattle.mon_value.proofs.PlainLemmas.{if_ok_on}
 
 pub query-requires : goal.query-requires
 query-requires c = record {

@@ -1,8 +1,9 @@
 use Rattle.std.proofs.Common.{◌≡◌, sym, ◌∙◌, cond, Some, rules, to_z, of_z, w64}
 use Rattle.std.specs.Map.{lookup}
 use Rattle.mon_value.specs.contracts.rows.SeriesKeyPartialEq.TheImpl as derived
-use Rattle.write_core.proofs.ReplayLemmas.{lasts_told, ok_claim}
+use Rattle.write_core.proofs.ReplayLemmas.{lasts_told}
 use Rattle.write_core.proofs.replays.note_last.Goals as goal
+use Rattle.mon_value.proofs.PlainLemmas.{ok_claim}
 
 pub returns : goal.returns
 returns c =

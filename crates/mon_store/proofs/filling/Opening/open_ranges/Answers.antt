@@ -5,9 +5,10 @@ use Rattle.std.specs.List.{range_with_len}
 use Rattle.history_book.specs.Seats.{Owner}
 use Rattle.mon_topo.specs.Settings.{Setting}
 use Rattle.mon_topo.specs.Zones.{ranges_in}
-use Rattle.mon_store.proofs.PlaceLemmas.{drop_one, first_left, range_more, range_owner_at}
+use Rattle.mon_store.proofs.PlaceLemmas.{drop_one, first_left, range_owner_at}
 use Rattle.mon_store.specs.Openings.{IsOpening, all_owners}
 use Rattle.mon_store.proofs.filling.Opening.open_ranges.Goals as goal
+use Rattle.mon_value.proofs.PlainLemmas.{range_last}
 
 pub open_range-requires : goal.open_range-requires
 open_range-requires g c =
@@ -46,7 +47,7 @@ loop-range-preserved g c =
       owners = told.books ∙ ap (drop 1) inv.owners ∙ drop_one (book.leaves + n) (all_owners book)
           ∙ ap (λ k. drop k (all_owners book)) on;
       counted = told.counted;
-      ranges = told.ranges ∙ ap (λ l. l ++ n ∷ []) inv.ranges ∙ sym (range_more 0 n n none)
+      ranges = told.ranges ∙ ap (λ l. l ++ n ∷ []) inv.ranges ∙ sym (range_last 0 n n none)
           ∙ ap (range_with_len 0) one;
     }
 

@@ -1,6 +1,6 @@
 use Rattle.running_query.proofs.AnswerLemmas.{few_seen, word_answered, word_there}
-use Rattle.running_query.proofs.FunctionLemmas.{if_ok_on}
 use Rattle.running_query.proofs.looks.LooksQuerySide.load.Goals as goal
+use Rattle.mon_value.proofs.PlainLemmas.{if_ok_on}
 
 pub load-requires : goal.load-requires
 load-requires g c =

@@ -7,9 +7,9 @@ use Rattle.mql_types.specs.Nodes.{typed_tree}
 use Rattle.mql_types.specs.declared.plans.Plan.{Plan}
 use Rattle.query_core.specs.Machine.{slots_of}
 use Rattle.running_query.proofs.AnswerLemmas.{leaf_answered, leaf_there, listed, readable}
-use Rattle.running_query.proofs.FunctionLemmas.{if_ok_on}
 use Rattle.running_query.specs.Telling.{LooksSo}
 use Rattle.running_query.proofs.looks.LooksQuerySide.visit.Goals as goal
+use Rattle.mon_value.proofs.PlainLemmas.{if_ok_on}
 
 pub look-requires : goal.look-requires
 look-requires g c =

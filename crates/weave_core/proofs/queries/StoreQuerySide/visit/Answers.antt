@@ -1,11 +1,11 @@
 use Rattle.std.proofs.Common.{◌≡◌, ◌≤ℤ◌, ℤ, pos, Some, length, of_z, slice_get, to_z, w64, refl, rules, subst, sym}
 use Rattle.std.proofs.lemmas.Option.{slice_get_read}
 use Rattle.weave_core.proofs.LeafAnswers.{leaf_answers, leaf_seated, leaf_there}
-use Rattle.weave_core.proofs.QueryTurnLemmas.{if_ok_on}
 use Rattle.query_core.specs.Machine.{slots_of}
 use Rattle.weave_core.specs.QueryLooks.{LooksIf}
 use Rattle.weave_core.specs.QuerySides.{querying_of}
 use Rattle.weave_core.proofs.queries.StoreQuerySide.visit.Goals as goal
+use Rattle.mon_value.proofs.PlainLemmas.{if_ok_on}
 
 pub index_mut-seat-requires : goal.index_mut-seat-requires
 index_mut-seat-requires c =

@@ -1,10 +1,10 @@
 use Rattle.std.proofs.Common.{◌≡◌, Option, Some, length, slice_get, refl}
 use Rattle.std.proofs.lemmas.Option.{slice_get_read}
-use Rattle.weave_core.proofs.QueryTurnLemmas.{if_ok_on}
 use Rattle.weave_core.specs.RecoveryEvents.{AsksLeafIf, IsAdmitted}
 use Rattle.write_core.specs.CopySteps.{newcomer}
 use Rattle.write_core.specs.declared.copies.CopyTold.{CopyTold}
 use Rattle.weave_core.proofs.store.Store.admit_to.Goals as goal
+use Rattle.mon_value.proofs.PlainLemmas.{if_ok_on}
 
 pub admit-requires : goal.admit-requires
 admit-requires c =

@@ -1,9 +1,9 @@
 use Rattle.std.proofs.Common.{◌≡◌, Option, Some, length, slice_get, refl}
 use Rattle.std.proofs.lemmas.Option.{slice_get_read}
-use Rattle.weave_core.proofs.QueryTurnLemmas.{if_ok_on}
 use Rattle.weave_core.specs.RecoveryEvents.{AsksLeafIf, nobody, tells_rows}
 use Rattle.write_core.specs.declared.copies.CopyTold.{CopyTold}
 use Rattle.weave_core.proofs.store.Store.copy_from.Goals as goal
+use Rattle.mon_value.proofs.PlainLemmas.{if_ok_on}
 
 pub copy_rows-requires : goal.copy_rows-requires
 copy_rows-requires c =

@@ -3,10 +3,11 @@ use Rattle.query_core.specs.Program.{ask_of}
 use Rattle.query_core.specs.declared.asks.Told.{Told}
 use Rattle.weave_core.proofs.AskingLemmas.{may_tell}
 use Rattle.weave_core.proofs.QuerySideLemmas.{asked_there, told_so}
-use Rattle.weave_core.proofs.QueryTurnLemmas.{answered_turns, if_ok_on}
+use Rattle.weave_core.proofs.QueryTurnLemmas.{answered_turns}
 use Rattle.weave_core.specs.QuerySides.{TellsThere}
 use Rattle.weave_core.specs.QueryTurns.{AnswersSo}
 use Rattle.weave_core.proofs.store.Store.query.Goals as goal
+use Rattle.mon_value.proofs.PlainLemmas.{if_ok_on}
 
 pub find_next-requires : goal.find_next-requires
 find_next-requires c =

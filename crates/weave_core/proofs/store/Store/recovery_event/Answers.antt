@@ -1,5 +1,4 @@
 use Rattle.std.proofs.Common.{◌∙◌, Option, sym}
-use Rattle.weave_core.proofs.QueryTurnLemmas.{if_ok_on}
 use Rattle.weave_core.proofs.RecoveryLeafLemmas.{entry_answers, may_raise_root, may_raise_zone, room_answers}
 use Rattle.weave_core.proofs.RecoveryLeafLemmas.{root_answers, source_answers, zone_answers}
 use Rattle.weave_core.proofs.RecoveryLemmas.{leaf_seated, leaf_there, own_leaf, range_seated, range_there, source_leaf}
@@ -10,6 +9,7 @@ use Rattle.weave_core.specs.RecoveryEvents.{AsksLeafAt, IsAdmitted, LocksRangeAt
 use Rattle.write_core.specs.CopySteps.{newcomer}
 use Rattle.write_core.specs.declared.copies.CopyTold.{CopyTold}
 use Rattle.weave_core.proofs.store.Store.recovery_event.Goals as goal
+use Rattle.mon_value.proofs.PlainLemmas.{if_ok_on}
 
 pub lock_range-requires : goal.lock_range-requires
 lock_range-requires c =
