@@ -6,7 +6,6 @@ ghost use Rattle.mon_value.specs.Groups as distribution;
 ghost use Rattle.mon_value.specs.Values.{greatest_sum};
 ghost use Rattle.mon_value.specs.Groups.{number_in};
 ghost use Rattle.std.specs.Option.{ForSome, option_copied, option_map_or};
-ghost use Rattle.mql_ast.specs.Rows as named;
 ghost use Rattle.mql_ast.specs.SumParts.{nodes};
 ghost use Rattle.mql_ast.specs.Rows as sums;
 ghost use Rattle.mql_ast.specs.Rows.{HasShares, IsTypedSum};
@@ -237,7 +236,7 @@ fn percentile_term(
     p: u8,
     columns: &Columns,
 ) -> Result<Term, OutOfMemory>
-    ensures term { IfOk result (λ term. term ≡ Term.Percentile (named.place_of column.now.text columns.now)
+    ensures term { IfOk result (λ term. term ≡ Term.Percentile (sums.place_of column.now.text columns.now)
         (sums.bounds_named column.now.text columns.now) p) }
 {
     let place = place_of(&column.text, columns);

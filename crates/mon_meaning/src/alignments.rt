@@ -2,7 +2,6 @@
 ghost use Rattle.std.specs.Prelude.{◌≡◌, ◌+◌, ◌++◌, filter, length, map, sum_by, IfErr, IfOk, OnOk};
 ghost use Rattle.std.specs.List.{AllByRecursion, flat_map};
 ghost use Rattle.mon_value.specs.Grids.{aligned_values};
-ghost use Rattle.mon_value.specs.Grids as alignment;
 ghost use Rattle.mon_value.specs.Grids as grids;
 ghost use Rattle.mon_value.specs.Order.{row_of};
 ghost use Rattle.mon_value.specs.LeafHistories.{points_by_series};
@@ -67,7 +66,7 @@ fn met_series<'a>(
     meter: &mut Meter,
 ) -> Result<Vec<Met<'a>>, Refusal<OverLimit>>
     requires lawful { grids.IsLawfulGrid setting.now.grid }
-    requires looks_back { grids.IsDuration (alignment.seconds_of by) }
+    requires looks_back { grids.IsDuration (grids.seconds_of by) }
     ensures met { IfOk result (λ met. series_met met.items
         ≡ filter (is_counted setting.now.grid by fetch.now) (all_held setting.now.series.now)) }
     ensures limit { meter.new.limit ≡ meter.old.limit }
@@ -93,7 +92,7 @@ fn add_met<'a>(
     meter: &mut Meter,
 ) -> Result<(), Refusal<OverLimit>>
     requires lawful { grids.IsLawfulGrid setting.now.grid }
-    requires looks_back { grids.IsDuration (alignment.seconds_of by) }
+    requires looks_back { grids.IsDuration (grids.seconds_of by) }
     ensures met { OnOk result (series_met met.new.items ≡ series_met met.old.items
         ++ filter (is_counted setting.now.grid by fetch.now) (points_by_series rows.now)) }
     ensures limit { meter.new.limit ≡ meter.old.limit }
@@ -123,7 +122,7 @@ fn reached_count(
     one: &Met<'_>,
 ) -> Result<usize, OutOfMemory>
     requires lawful { grids.IsLawfulGrid setting.now.grid }
-    requires looks_back { grids.IsDuration (alignment.seconds_of by) }
+    requires looks_back { grids.IsDuration (grids.seconds_of by) }
     ensures count { IfOk result (λ count. count
         ≡ met_count setting.now.grid by fetch.now (one.now.key.now, one.now.series.now.points)) }
 {

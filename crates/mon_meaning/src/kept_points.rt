@@ -1,7 +1,6 @@
 // The points of a series that an alignment may see.
 ghost use Rattle.std.specs.Prelude.{◌≡◌, ◌≤◌, ◌-ℤ◌, ◌<ℤ◌, ◌≤ℤ◌, ◌++◌, ◌∷◌, [], cond, length, neg_ℤ, IfOk, IfSome, OnOk};
 ghost use Rattle.mon_series.specs.Splits.{points_until};
-ghost use Rattle.mon_value.specs.Grids as alignment;
 ghost use Rattle.mon_value.specs.Grids as grids;
 ghost use Rattle.mon_value.specs.LeafHistories.{last_end};
 ghost use Rattle.mon_value.specs.Grids.{EndsRise};
@@ -16,7 +15,7 @@ use std::alloc::Global;
 /// The points in reach: those that end where an alignment may see them at some time of the grid. Their ends find them.
 pub(crate) fn points_in_reach<'a>(series: &'a Series, by: Aligner, grid: &Grid) -> &'a [KeptPoint]
     requires lawful { grids.IsLawfulGrid grid.now }
-    requires looks_back { grids.IsDuration (alignment.seconds_of by) }
+    requires looks_back { grids.IsDuration (grids.seconds_of by) }
     ensures reached { result.now ≡ points_within_reach grid.now by series.now.points }
     ensures rises { EndsRise result.now }
 {
@@ -30,7 +29,7 @@ pub(crate) fn points_in_reach<'a>(series: &'a Series, by: Aligner, grid: &Grid) 
 fn reached_points<'a>(series: &'a Series, by: Aligner, grid: &Grid) -> &'a [KeptPoint]
     requires rises { EndsRise series.now.points }
     requires lawful { grids.IsLawfulGrid grid.now }
-    requires looks_back { grids.IsDuration (alignment.seconds_of by) }
+    requires looks_back { grids.IsDuration (grids.seconds_of by) }
     ensures reached { result.now ≡ points_within_reach grid.now by series.now.points }
     ensures rises { EndsRise result.now }
 {
@@ -60,7 +59,7 @@ fn reached_places(series: &Series, least: i64, moment: i64, seconds: i64) -> (us
 
 // How many seconds an aligner looks back.
 fn seconds_of(by: Aligner) -> i64
-    ensures seconds { result ≡ alignment.seconds_of by }
+    ensures seconds { result ≡ grids.seconds_of by }
 {
     match by {
         Aligner::Delta(seconds) => seconds,

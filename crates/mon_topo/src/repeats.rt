@@ -7,7 +7,6 @@ ghost use Rattle.mon_value.specs.Answers.{AnswersBy};
 ghost use Rattle.mon_value.specs.Same.{same_text};
 ghost use Rattle.mon_topo.specs.Faults as spec;
 ghost use Rattle.mon_topo.specs.Indexed as kept;
-ghost use Rattle.mon_topo.specs.Faults as place;
 
 use crate::names::{NameMap, Names};
 use crate::places::Place;
@@ -37,7 +36,7 @@ fn add_zone(names: &mut Names, i: usize, zone: &ZoneSpec) -> Result<(), Refusal<
     requires zones { i < 2 ^ 32 }
     requires leaves { length names.old.leaves + length zone.now.leaves < 2 ^ 32 }
     ensures apart { AnswersBy result (option_or
-        (place.place_unless (not (list_any (same_text zone.now.name) (keys_of names.old.zones))) (Place.ZoneName i))
+        (spec.place_unless (not (list_any (same_text zone.now.name) (keys_of names.old.zones))) (Place.ZoneName i))
         (option_or (spec.repeat_in (Place.Location i) (keys_of names.old.locations) zone.now.locations)
         (spec.repeat_in (Place.Leaf i) (keys_of names.old.leaves) zone.now.leaves))) }
     ensures added { OnOk result (names.new ≡ kept.with_zone_names names.old i zone.now) }

@@ -5,7 +5,6 @@ ghost use Rattle.mon_value.specs.Tables as join;
 ghost use Rattle.mql_ast.specs.Rows as named;
 ghost use Rattle.mql_types.specs.Branches as spec;
 ghost use Rattle.mql_types.specs.Faults.{first_with};
-ghost use Rattle.mql_types.specs.Branches as widths;
 
 use crate::faults::{Faults, TypeKind, type_word};
 use crate::levels::common_anchor;
@@ -232,7 +231,7 @@ fn as_joined(column: Column) -> Column
 
 /// A column with another width.
 pub(crate) fn with_width(mut column: Column, width: Width) -> Column
-    ensures column { result ≡ widths.with_width width column }
+    ensures column { result ≡ spec.with_width width column }
 {
     column.cell_bits = width.cell;
     column.total_bits = width.total;

@@ -6,7 +6,6 @@ ghost use Rattle.mql_types.specs.Meaning as loads;
 ghost use Rattle.mql_types.specs.Nodes.{node_tree};
 ghost use Rattle.plan_split.specs.FetchFormulas as spec;
 ghost use Rattle.plan_split.specs.FormulaLinks.{filtered_formula};
-ghost use Rattle.plan_split.specs.FetchFormulas as joined;
 ghost use Rattle.plan_split.specs.FetchFormulas.{predicate_formula};
 
 use crate::joined_formulas::both;
@@ -73,7 +72,7 @@ fn push_key_filter<'a>(
         → filtered_formula buckets schema filters.new.items formula
         ≡ filtered_formula buckets schema filters.old.items
         (if loads.names_keys columns.now (predicate_tree by.now)
-        then joined.both formula (predicate_formula buckets schema (predicate_tree by.now)) else formula)) }
+        then spec.both formula (predicate_formula buckets schema (predicate_tree by.now)) else formula)) }
 {
     if names_keys(by, columns) {
         filters.push(by)?;
