@@ -1,6 +1,6 @@
 -- The groups of a table's rows.
 use Rattle.mon_value.specs.declared.values.Value.TheVariants as value
-use Rattle.std.proofs.Common.{◌≡◌, ◌<◌, length, Bool, true, cond, Some, None, List, [], ◌∷◌, ◌++◌, map, ℕ, arith, sum}
+use Rattle.std.proofs.Common.{◌≤◌, ◌≡◌, ◌<◌, length, Bool, true, cond, Some, None, List, [], ◌∷◌, ◌++◌, map, ℕ, arith, sum}
 use Rattle.std.specs.Map.{lookup}
 use Rattle.mon_value.proofs.KeyedLemmas as keyed
 use Rattle.mon_value.proofs.SameLemmas.{same_row-Decides}

@@ -1,7 +1,7 @@
 -- Facts of truth values, numbers, options, results and lists that the kit doesn't have.
+use Rattle.std.proofs.Common.{◌≡◌, ◌∙◌, ◌+◌, ◌<◌, ◌≤◌, ◌==◌, ◌&&◌, ◌||◌, ◌∷◌, [], ◌++◌, ◌⊎◌, inl, inr}
 use Rattle.std.proofs.Common.{Bool, List, arith, cond, false, length, suc, true, filter, refl, subst, sym, zero, Some}
 use Rattle.std.specs.List.{Contains, AllByRecursion, sum_by, cons_option, filter_map, flat_map, range_with_len}
-use mathlib.Core.Option.{none}
 use Rattle.std.proofs.Common.{slice_get, ap, ℕ, None, nat_eq, map, Err, IfOk, Ok, OnOk, is_ok, Option, not, take}
 use Rattle.std.proofs.lemmas.Bool.Decides.{nat_tests}
 use Rattle.std.proofs.lemmas.List.Sums.{sum_by-cons}
@@ -161,7 +161,7 @@ in_flat_map f (first ∷ xs) x y (suc k, l, e) here =
     Contains-append_right (f first) (flat_map f xs) y (in_flat_map f xs x y (k, omega (arith, l), e) here)
 
 pub contains_none : {X : Type 0} (x : X) → Contains [] x → ⊥
-contains_none x has = let none : has.0 < 0 = has.1 in omega arith
+contains_none x has = let below : has.0 < 0 = has.1 in omega arith
 
 pub or_true : (b : Bool) → (b || true) ≡ true
 or_true true = refl
