@@ -10,7 +10,7 @@ use Rattle.std.proofs.lemmas.Bool.{or_left, or_right}
 use Rattle.std.proofs.lemmas.List.Concat.{flat_map-append}
 use Rattle.cell_cases.specs.Writers.{AreBefore, IsWriter, first_slot}
 use Rattle.history_book.specs.Histories.{AreFronts, empty_histories}
-use Rattle.history_book.specs.Seats.{hand_of, times_range, times_room}
+use Rattle.history_book.specs.Seats.{times_range, times_room}
 use Rattle.know.specs.Knowledge.{Knowledge}
 use Rattle.mon_value.proofs.LeafHistoryLemmas.{is_opened-append}
 use Rattle.mon_value.specs.Histories.{leaf_history, leaf_numbered, same_leaf}
@@ -25,11 +25,10 @@ use Rattle.mon_value.proofs.PlainLemmas.{all_push}
 use Rattle.know.specs.declared.answers.Found.{Found}
 use Rattle.know.specs.declared.answers.Found.TheVariants as found
 use Rattle.mon_value.specs.declared.positions.Leaf.{Leaf}
-use Rattle.std.proofs.Common.{Some, ◌+◌}
+use Rattle.std.proofs.Common.{◌+◌}
 use Rattle.std.proofs.lemmas.List.Sums.{sum_by-append}
 use Rattle.owners.specs.Calls.{HasCalled, HasFoundUp, HasLooked, HasPut, HasReserved}
 use Rattle.owners.specs.Openings.{HasOpened}
-use Rattle.owners.specs.Puts.{number_or, pass_of}
 
 pub whatever_fails : {X E : Type 0} (result : Result X E) (P : Type 0) → P → OnErr result P
 whatever_fails (Ok x) P fact = tt
@@ -175,11 +174,6 @@ has_room rooms =
     ≡ times_room (leaf_numbered 0) rooms + times_room (leaf_numbered 0) (leaf_numbered 0 ∷ []) =
     sum_by-append (λ (l : Leaf). cond {A = ℕ} (same_leaf (leaf_numbered 0) l) 1 0) rooms (leaf_numbered 0 ∷ []) in
     omega (arith, both)
-
--- its number, once it was seen that it has one
-pub has_number : (know : Knowledge) (n : ℕ) → Some n ≡ (hand_of know.purse).own
-    → (hand_of know.purse).own ≡ Some (pass_of know)
-has_number know n is = sym is ∙ ap (λ own. Some (number_or 0 own)) is
 
 -- ---- a replica that was seen opened stays so
 

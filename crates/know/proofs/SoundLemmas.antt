@@ -87,8 +87,8 @@ module _ (setting : Setting) where
 
 -- ---- two together
 
-pub within : (front all : Histories) → AreFronts front all → AreWithin front all
-within front all fronts = record {
+pub within_front : (front all : Histories) → AreFronts front all → AreWithin front all
+within_front front all fronts = record {
   leaves = λ leaf. begins_from (leaf_history all leaf) (leaf_history front leaf) (fronts.0 leaf).0
       (sym (fronts.0 leaf).1);
   ranges = λ range. begins_from (range_history all range) (range_history front range) (fronts.1 range).0
@@ -118,7 +118,7 @@ module _ (setting : Setting) (mine theirs both : Hints) (seen other all : Histor
   pub sound_together : IsSound setting both all
   sound_together = record {
     held = subst (λ (s : Histories). AreHeld setting.held setting.zones setting.points s) all_is
-        (joined_seen_held seen other all (within seen all first) (within other all second)
+        (joined_seen_held seen other all (within_front seen all first) (within_front other all second)
         setting.held setting.zones setting.points h.held k.held);
     covered = λ leaf. subst (λ (s : Histories). IsCovered leaf (leaf_history s leaf)) all_is
         (joined_seen_leaf_by seen other leaf (IsCovered leaf)

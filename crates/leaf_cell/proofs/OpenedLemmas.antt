@@ -20,6 +20,7 @@ use Rattle.leaf_cell.specs.Rest.{GoesBy, IsAtRest, is_raised}
 use Rattle.leaf_store.specs.LeafStates.{is_unraised, key_buckets}
 use Rattle.leaf_store.specs.LeafStates as store
 use Rattle.mon_hints.proofs.CoverLemmas.{among-append}
+use Rattle.mon_value.proofs.PlainLemmas.{and_spread, or_assoc, or_false}
 use Rattle.mon_hints.specs.Covers.{IsRaised}
 use Rattle.mon_hints.specs.Hints.{history_buckets, rows_buckets}
 use Rattle.mon_hints.specs.Formulas.{is_among}
@@ -45,14 +46,6 @@ use Rattle.raise_table.specs.declared.views.Note.{Note}
 
 -- ---- one row after the other
 
-or_assoc : (a b c : Bool) → ((a || b) || c) ≡ (a || (b || c))
-or_assoc true b c = refl
-or_assoc false b c = refl
-
-or_none : (a : Bool) → (a || false) ≡ a
-or_none true = refl
-or_none false = refl
-
 module _ (setting : Setting) (old new : Hints) (more : List Note) (known : new.known ≡ old.known ++ more) where
   still_known : (place : Place) (bucket bit : ℕ) → is_known old place bucket bit ≡ true
       → is_known new place bucket bit ≡ true
@@ -77,9 +70,9 @@ raises_no_row set old none = record {
   leaf = refl;
   more = [];
   known = sym (append-nil old.hints.known);
-  root = λ bucket. sym (or_none (is_raised at.Root bucket old.raised))
+  root = λ bucket. sym (or_false (is_raised at.Root bucket old.raised))
       ∙ ap (λ b. is_raised at.Root bucket old.raised || b) (sym (none bucket));
-  zone = λ bucket. sym (or_none (is_raised (at.Zone old.leaf.zone) bucket old.raised))
+  zone = λ bucket. sym (or_false (is_raised (at.Zone old.leaf.zone) bucket old.raised))
       ∙ ap (λ b. is_raised (at.Zone old.leaf.zone) bucket old.raised || b) (sym (none bucket));
 }
 
@@ -125,16 +118,9 @@ row_more buckets schemas history front rows row is bucket =
     ap (λ (some : List Row). rows_unraised buckets schemas history some bucket) is
     ∙ list_any-append (λ (one : Row). is_unraised buckets schemas history one.key bucket) front (row ∷ [])
     ∙ ap (λ b. rows_unraised buckets schemas history front bucket || b)
-    (or_none (is_unraised buckets schemas history row.key bucket))
+    (or_false (is_unraised buckets schemas history row.key bucket))
 
 -- ---- what an opened replica brings
-
-spread : (x y n : Bool) → ((x && n) || (y && n)) ≡ ((x || y) && n)
-spread true true true = refl
-spread true true false = refl
-spread true false true = refl
-spread true false false = refl
-spread false y n = refl
 
 module _ (own : SeriesKey → List ℕ) (bucket : ℕ) (old : Bool) where
   among_rows : (rows : List Row) → list_any (λ (row : Row). is_among bucket (own row.key) && not old) rows
@@ -142,7 +128,7 @@ module _ (own : SeriesKey → List ℕ) (bucket : ℕ) (old : Bool) where
   among_rows [] = refl
   among_rows (row ∷ rows) =
       ap (λ b. (is_among bucket (own row.key) && not old) || b) (among_rows rows)
-      ∙ spread (is_among bucket (own row.key)) (is_among bucket (rows_buckets own rows)) (not old)
+      ∙ and_spread (is_among bucket (own row.key)) (is_among bucket (rows_buckets own rows)) (not old)
       ∙ ap (λ b. b && not old) (sym (among-append bucket (own row.key) (rows_buckets own rows)))
 
 module _ (setting : Setting) (raise : RaiseIdentity) (leaf : store.LeafView) (by : GoesBy setting raise leaf) (pass : ℕ)

@@ -2,18 +2,18 @@
 use Rattle.std.proofs.Common.{◌≡◌, ℕ, ◌+◌, ◌<◌, true, false, not, List, [], ◌∷◌, ◌++◌, sym, ap, subst, ◌∙◌}
 use Rattle.std.proofs.Common.{append-nil, arith}
 use Rattle.std.proofs.lemmas.Bool.{and_from, not_from_false}
-use Rattle.std.proofs.lemmas.Bool.Decides.{nat_tests}
 use Rattle.std.proofs.lemmas.List.Sums.{sum_by-append}
 use Rattle.std.specs.Prelude.{IsTrue, if◌then◌else◌}
 use Rattle.history_book.specs.Seats.{times_range}
 use Rattle.leaf_cell.proofs.RaisedLemmas.{history_alike}
+use Rattle.mon_value.proofs.LeafHistoryLemmas.{ranges_same}
 use Rattle.leaf_cell.specs.Rest.{GoesBy}
 use Rattle.leaf_store.specs.LeafStates.{is_unraised, key_buckets}
 use Rattle.leaf_store.specs.LeafStates as store
 use Rattle.mon_hints.specs.Hints.{history_buckets}
 use Rattle.mon_hints.specs.Formulas.{is_among}
 use Rattle.mon_topo.specs.Settings.{Setting}
-use Rattle.mon_value.specs.Histories.{range_numbered, same_range}
+use Rattle.mon_value.specs.Histories.{same_range}
 use Rattle.mon_value.specs.declared.histories.Entry.{Entry}
 use Rattle.mon_value.specs.declared.histories.Entry.TheVariants as entry
 use Rattle.mon_value.specs.declared.positions.Range.{Range}
@@ -41,15 +41,12 @@ module _ (setting : Setting) (raise : RaiseIdentity) (leaf : store.LeafView) (by
       (not_from_false (is_among bucket (history_buckets own leaf.history))
       (ap (is_among bucket) (sym (history_alike setting.buckets_of own by.buckets leaf.history)) ∙ lacks))
 
-one_range : (a b : Range) → same_range a b ≡ true → a ≡ b
-one_range a b e = let same : a.0 ≡ b.0 = grind (arith, nat_tests) in ap range_numbered same
-
 -- a range that the caller holds is held by the owner with its guest
 pub holds_among : (range other : Range) (held holds : List Range) → IsTrue (same_range range other)
     → 0 < times_range other holds → 0 < times_range range (held ++ holds)
 holds_among range other held holds same has =
     let here : 0 < times_range range holds =
-    subst (λ (r : Range). 0 < times_range r holds) (sym (one_range range other same)) has in
+    subst (λ (r : Range). 0 < times_range r holds) (sym (ranges_same range other same)) has in
     let both : times_range range (held ++ holds) ≡ times_range range held + times_range range holds =
     sum_by-append (λ (r : Range). if same_range range r then 1 else 0) held holds in
     omega (arith, here, both)

@@ -21,14 +21,10 @@ use Rattle.raise_table.specs.Seats.{MayRaise, Owner, after_raise, note, raised_a
 use Rattle.mon_hints.specs.declared.places.Place.{Place}
 use Rattle.mon_hints.specs.declared.places.Place.TheVariants as at
 use Rattle.raise_table.specs.declared.views.Raised.{Raised}
+use Rattle.leaf_store.proofs.BucketLemmas.{below_none}
+use Rattle.mon_value.proofs.PlainLemmas.{equal_itself}
 
 -- ---- tests
-
-equal_self : (a : ℕ) → nat_eq a a ≡ true
-equal_self a = grind (arith, nat_tests)
-
-below_none : (a : ℕ) → nat_lt a 0 ≡ false
-below_none a = grind (arith, nat_tests)
 
 pub one_number : (a b : Place) → place_number a ≡ place_number b → a ≡ b
 one_number at.Root at.Root e = refl
@@ -42,7 +38,7 @@ pub one_place : (a b : Place) → same_place a b ≡ true → a ≡ b
 one_place a b e = one_number a b (eqb-true (place_number a) (place_number b) e)
 
 pub same_self : (a : Place) → same_place a a ≡ true
-same_self a = equal_self (place_number a)
+same_self a = equal_itself (place_number a)
 
 and_one : (a b c : Bool) → a ≡ true → b ≡ true → c ≡ true → (a && (b && c)) ≡ true
 and_one true true true x y z = refl

@@ -55,7 +55,7 @@ impl<N: Names> LeafDesk<N> {
                 Err(fault)
             }
             None => {
-                self.enter::<Brand>(tables, switch(to, pass));
+                self.enter::<Brand>(tables, switch(to, pass), None);
                 self.owner.part(tables, know, RoomMove::Keep);
                 Ok(self.state.length())
             }

@@ -1,5 +1,6 @@
 // What lies under a leaf's lock.
-ghost use Rattle.std.specs.Prelude.{◌≡◌, ◌<◌, ◌≤◌, ◌++◌, ℕ, [], length, true, false, Some, IfOk, IsTrue, OnErr};
+ghost use Rattle.std.specs.Prelude.{◌≡◌, ◌<◌, ◌≤◌, ◌++◌, ℕ, [], length, true, false, Some, IfOk, IfSome};
+ghost use Rattle.std.specs.Prelude.{IsTrue, OnErr, slice_get};
 ghost use Rattle.history_book.specs.declared.rooms.RoomMove.TheVariants as the_move;
 ghost use Rattle.history_book.specs.declared.views.BookEntry.TheVariants as one;
 ghost use Rattle.history_book.specs.Histories.{book_entry_pass, is_about};
@@ -9,12 +10,12 @@ ghost use Rattle.know.specs.Sound.{IsSound, known_bits};
 ghost use Rattle.leaf_cell.specs.Raising.{HasRaisedRow};
 ghost use Rattle.leaf_cell.specs.Rest.{GoesBy, IsAtRest};
 ghost use Rattle.leaf_cell.specs.Visits.{HasGathered, HasVisited};
-ghost use Rattle.leaf_store.specs.LeafStates.{is_unraised, leaf_with_entry};
+ghost use Rattle.leaf_store.specs.LeafStates.{is_unraised, leaf_with_entry, HasNumber};
 ghost use Rattle.mon_hints.specs.BucketSets.{is_set};
 ghost use Rattle.mon_hints.specs.Covers.{IsRaised};
 ghost use Rattle.mon_topo.specs.HeldHistories.{AreAtHome};
 ghost use Rattle.mon_topo.specs.Settings.{zone_of_leaf};
-ghost use Rattle.mon_value.specs.LeafHistories.{MayFollow, is_opened, is_switch};
+ghost use Rattle.mon_value.specs.LeafHistories.{MayFollow, is_opened, is_switch, replica_rows, series_of};
 ghost use Rattle.mon_value.specs.Histories.{leaf_history};
 ghost use Rattle.mon_value.specs.declared.histories.Entry.TheVariants as entry;
 ghost use Rattle.mon_value.specs.declared.positions.Range as a_range;
@@ -108,7 +109,7 @@ impl<N: Names> LeafDesk<N> {
             self.owner.part(tables, know, RoomMove::TakeBack);
             return Found::Down(length);
         }
-        self.raise_unknown(tables, range, slot, &row.key);
+        let known = self.raise_unknown(tables, range, slot, &row.key);
         self.enter::<Brand>(
             tables,
             Entry::Put {
@@ -117,33 +118,38 @@ impl<N: Names> LeafDesk<N> {
                 slot,
                 row,
             },
+            known,
         );
         self.owner.part(tables, know, RoomMove::TakeBack);
         Found::Up
     }
 
-    // Raises what the history lacks of the buckets of a row's series. It lacks none where the state knows the series.
+    // Raises what the history lacks of the buckets of a row's series. It lacks none where the state knows the series,
+    // whose number in its replica is handed on then.
     fn raise_unknown(
         &mut self,
         tables: &Tables<N>,
         range: Range,
         slot: Slot,
         key: &Shared<SeriesKey>,
-    )
+    ) -> Option<u32>
         requires goes_by { GoesBy N.setting N.raise self.old.state }
         ensures raised { HasRaisedRow (is_unraised self.old.state.buckets self.old.state.schemas self.old.state.history
             key.now) self.old.owner.hints self.new.owner.hints }
         ensures leads { (bucket : ℕ) → is_unraised self.old.state.buckets self.old.state.schemas self.old.state.history
             key.now bucket ≡ true → IsRaised (known_bits N.setting self.new.owner.hints.hints)
             (zone_of_leaf N.setting self.new.owner.leaf) self.new.owner.leaf bucket }
+        ensures number { IfSome result (λ number.
+            slice_get (series_of (replica_rows range slot self.old.state.history)) number ≡ Some key.now) }
         ensures book { self.new.owner.book ≡ self.old.owner.book }
         ensures leaf { self.new.owner.leaf ≡ self.old.owner.leaf }
         ensures state { self.new.state ≡ self.old.state }
     {
-        if self.state.knows(range, slot, key) {
-            return;
+        if let Some(series) = self.state.known_series(range, slot, key) {
+            return Some(series);
         }
         self.raise_row(tables, key);
+        None
     }
 
     /// Raises what the history lacks of a series' buckets.
@@ -179,14 +185,20 @@ impl<N: Names> LeafDesk<N> {
     }
 
     /// An entry goes in, to which the raised bits lead: it is appended to the owner's history under the guest's number,
-    /// and comes to the state.
-    pub(crate) fn enter<E: NewEntry>(&mut self, tables: &Tables<N>, entry: Entry)
+    /// and comes to the state, with the number of its row's series where that is known.
+    pub(crate) fn enter<E: NewEntry>(
+        &mut self,
+        tables: &Tables<N>,
+        entry: Entry,
+        known: Option<u32>,
+    )
         requires named { E.entry ≡ one.Leaf entry }
         requires history { leaf_history self.old.owner.book.seen self.old.owner.leaf ≡ self.old.state.history }
         requires may { MayFollow self.old.state.history entry }
         requires home { AreAtHome N.setting.held N.setting.zones entry }
         requires leads { LeadsOn N.setting self.old.owner.hints.hints self.old.owner.leaf self.old.state.history entry }
         requires promised { is_switch entry ≡ false → 1 ≤ self.old.state.promised }
+        requires known { IfSome known (HasNumber self.old.state.history entry) }
         requires number { (hand_of (guest_purse self.old.owner.book.guest)).own
             ≡ Some (book_entry_pass (one.Leaf entry)) }
         requires held { (range : a_range.Range) → IsTrue (is_about range (one.Leaf entry))
@@ -198,7 +210,10 @@ impl<N: Names> LeafDesk<N> {
     {
         let length = self.state.length();
         self.owner.append::<E>(tables, &entry, length);
-        self.state.apply(entry);
+        match known {
+            Some(series) => self.state.apply_known(entry, series),
+            None => self.state.apply(entry),
+        }
     }
 
     /// Looks at the leaf: where it is up, it is read, and what the reader has for the caller is handed out.

@@ -130,6 +130,7 @@ impl<N: Names> LeafDesk<N> {
                 slot,
                 rows,
             },
+            None,
         );
         self.owner.part(tables, know, RoomMove::Keep);
         Ok(())

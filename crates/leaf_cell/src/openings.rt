@@ -56,6 +56,7 @@ impl<N: Names> LeafDesk<N> {
                 slot,
                 rows,
             },
+            None,
         );
         self.owner.part(tables, know, RoomMove::Keep);
         Ok(Found::Up)

@@ -1,5 +1,5 @@
 -- The parts of which a leaf makes pieces can be evaluated, and the pieces made.
-use Rattle.std.proofs.Common.{◌≡◌, ◌≤ℤ◌, ℤ, pos, Bool, true, false, List, [], ◌∷◌, ◌++◌}
+use Rattle.std.proofs.Common.{◌≡◌, ◌≤ℤ◌, ℤ, pos, Bool, true, List, [], ◌∷◌, ◌++◌}
 use Rattle.std.specs.List.{AllByRecursion}
 use Rattle.mon_value.specs.Grids.{IsLawfulGrid}
 use Rattle.mon_value.specs.LeafHistories.{points_by_series}
@@ -17,24 +17,19 @@ use Rattle.mon_value.proofs.PlainLemmas.{all_front, all_back, all_append}
 use Rattle.mql_types.specs.Nodes as node
 use Rattle.mql_types.specs.Nodes.{NodeTree, TypedTree, columns_of, level_of}
 use Rattle.mql_types.specs.Levels as up
-use Rattle.mql_types.specs.Levels.{PartUse, TopPart, part_or, top_parts}
+use Rattle.mql_types.specs.Levels.{TopPart, top_parts}
 use Rattle.mql_types.specs.Plans.{HasFetchColumns, fetches}
 use Rattle.mql_types.specs.Soundness.{IsEvaluable, IsWithinRows}
 use Rattle.mql_types.specs.declared.levels.Level.{Level}
 use Rattle.mon_meaning.specs.Central.{IsAsked, IsPartAsked}
 use Rattle.mon_meaning.specs.GoingUp.{CanGoUp}
+use Rattle.mon_meaning.proofs.PartsToComeLemmas.{part_or-all}
 
 -- a part that can be evaluated over series, and whose piece can be made of its rows
 pub record IsPartReady (grid : Grid) (series : List (SeriesKey × List Point)) (part : TopPart) : Type 0 where
   pub asked : IsPartAsked grid part.1 series
   pub can : IsWithinRows (load_of grid part.1 asked.source)
       → CanGoUp (columns_of part.1) part.0 (rows_meant grid part.1 asked.source)
-
-part_or-all : (P : TopPart → Type 0) (b : Bool) (use_of : PartUse) (part : NodeTree) (below : List TopPart)
-    → P (use_of, part)
-    → AllByRecursion P below → AllByRecursion P (part_or b use_of part below)
-part_or-all P true use_of part below own all = (own, tt)
-part_or-all P false use_of part below own all = all
 
 module _ (here : Level → Bool) (held : SchemaLists) (grid : Grid) (source : List Row)
     (series : List (SeriesKey × List Point))

@@ -11,7 +11,7 @@ pub by_test : (P : Type 0) (b : Bool) → (b ≡ true → P) → (b ≡ false �
 by_test P true then other = then refl
 by_test P false then other = other refl
 
-pub none_left : (es : List Entry) → drop (length es) es ≡ []
+pub none_left : {A : Type 0} (es : List A) → drop (length es) es ≡ []
 none_left [] = refl
 none_left (e ∷ es) = none_left es
 

@@ -6,6 +6,7 @@ use Rattle.std.proofs.lemmas.Bool.{and_parts}
 use Rattle.std.proofs.lemmas.Bool.Decides.{nat_tests}
 use Rattle.std.proofs.lemmas.List.Concat.{flat_map-append}
 use Rattle.std.proofs.lemmas.Nat.{mod_below}
+use Rattle.mon_value.proofs.PlainLemmas.{or_false}
 use Rattle.mon_hints.specs.BucketSets.{HasNone, IsNext}
 use Rattle.mon_hints.specs.Hints.{value_excerpts, bucket_of, fingerprint_of, field_buckets, series_buckets}
 use Rattle.mon_hints.specs.Hints.{value_buckets, history_buckets, rows_buckets}
@@ -20,7 +21,6 @@ use Rattle.mon_value.specs.declared.schemas.TargetSchema.{TargetSchema}
 use Rattle.mon_value.specs.declared.values.FieldValue.{FieldValue}
 use Rattle.mon_value.specs.LeafHistories.{brought_rows, leaf_rows}
 use Rattle.leaf_store.specs.LeafStates.{buckets_by, is_unraised, key_buckets}
-use Rattle.mon_value.proofs.PlainLemmas.{or_false}
 
 -- ---- below their number
 
@@ -118,7 +118,7 @@ found_buckets buckets held key target metric found here = λ i. buckets_by bucke
 abbrev pub AddsBelow : (ℕ → Bool) → (ℕ → Bool) → (ℕ → Bool) → ℕ → Type 0
 AddsBelow old new own from = (bucket : ℕ) → new bucket ≡ (old bucket || (nat_lt bucket from && own bucket))
 
-below_none : (bucket : ℕ) → nat_lt bucket 0 ≡ false
+pub below_none : (bucket : ℕ) → nat_lt bucket 0 ≡ false
 below_none bucket = grind (arith, nat_tests)
 
 pub one_more : (bucket next from : ℕ) (old among : Bool) (t1 t2 t3 : Bool) → nat_lt bucket from ≡ t1 → (bucket == next)

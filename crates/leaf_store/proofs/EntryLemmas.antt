@@ -18,17 +18,9 @@ use Rattle.leaf_store.specs.within.Replicas.{entry_of}
 use Rattle.leaf_store.specs.within.Replicas.{front_rows}
 use Rattle.leaf_store.specs.within.Replicas.{opened_entry, put_entry, rows_held, shown_entries, with_first}
 use Rattle.leaf_store.proofs.ReplicaLemmas.{holds_opened, holds_put, switch_rows, taken_rows}
+use Rattle.mon_value.proofs.PlainLemmas.{get_front, get_next}
 
 -- ---- rows that are there stay
-
-get_front : {A : Type 0} (xs ys : List A) (i : ℕ) (x : A) → slice_get xs i ≡ Some x → slice_get (xs ++ ys) i ≡ Some x
-get_front [] ys i x e = absurd cc
-get_front (y ∷ xs) ys zero x e = e
-get_front (y ∷ xs) ys (suc i) x e = get_front xs ys i x e
-
-get_next : {A : Type 0} (xs : List A) (x : A) → slice_get (xs ++ x ∷ []) (length xs) ≡ Some x
-get_next [] x = refl
-get_next (y ∷ xs) x = get_next xs x
 
 -- each replica has its number, and its rows in front
 abbrev pub Grows : Replicas → Replicas → Type 0

@@ -20,7 +20,8 @@ use Rattle.leaf_store.specs.declared.replicas.Replica.{Replica}
 use Rattle.leaf_store.specs.within.Follows.{CanTakeRow}
 use Rattle.leaf_store.specs.within.Replicas.{CanPut, HoldsHistory, IsNewReplica, Replicas}
 use Rattle.leaf_store.specs.within.States.{AllSwitches}
-use Rattle.leaf_store.proofs.StepLemmas.{switches_rows}
+use Rattle.leaf_store.proofs.StepLemmas.{switches_rows, opened_held, unopened_held}
+use Rattle.mon_value.proofs.PlainLemmas.{all_push}
 
 -- ---- a source with a row more
 
@@ -58,11 +59,6 @@ ends_first first (p ∷ []) end after later =
     (grind (arith, ints), later)
 ends_first first (p ∷ q ∷ points) end after later = ends_first first (q ∷ points) end after later
 
-all_more : {A : Type 0} (P : A → Type 0) (xs : List A) (x : A) → AllByRecursion P xs → P x → AllByRecursion P
-    (xs ++ x ∷ [])
-all_more P [] x all own = (own, tt)
-all_more P (y ∷ xs) x all own = (all.0, all_more P xs x all.1 own)
-
 source_step : (r : Row) (rows : List Row) (row : Row) (b : Bool) → same_series row.key r.key ≡ b → IsSource (r ∷ rows)
     → IfSome (last_end (map (λ (r : Row). r.point) (cond b (r ∷ rows_of row.key rows) (rows_of row.key rows))))
     (λ last. last <ℤ row.point.end)
@@ -72,9 +68,9 @@ source_step r rows row true same source later more =
     let key = (same_series-Decides row.key r.key).0 same in
     let ends = ends_first r.point (points_of row.key rows) row.point.end
     (last_after r.point.end (points_of row.key rows) (points_after row.key r rows key source.0)) later in
-    (all_more (EndsBefore r) rows row source.0 (λ is. ends.0), more ends.1)
+    (all_push (EndsBefore r) rows row source.0 (λ is. ends.0), more ends.1)
 source_step r rows row false same source later more = (
-  all_more (EndsBefore r) rows row source.0
+  all_push (EndsBefore r) rows row source.0
       (λ is. absurd (let back = (same_series-Decides row.key r.key).1
       (sym ((same_series-Decides r.key row.key).0 is)) in cc)),
   more later,
@@ -155,14 +151,6 @@ held_none : (b : Bool) (own : List Row) → cond b (Some own) None ≡ None → 
 held_none true own is = absurd cc
 held_none false own is = refl
 
-none_held : (b : Bool) (own : List Row) → b ≡ false → cond b (Some own) None ≡ None
-none_held true own is = absurd cc
-none_held false own is = refl
-
-some_held : (b : Bool) (own : List Row) → b ≡ true → cond b (Some own) None ≡ Some own
-some_held true own is = refl
-some_held false own is = absurd cc
-
 -- a replica that isn't kept was never opened
 pub never_opened : (replicas : Replicas) (history : List Entry) (replica : Replica) → HoldsHistory replicas history
     → IsNewReplica replicas replica
@@ -177,7 +165,7 @@ pub is_new_there : (replicas : Replicas) (history : List Entry) (replica : Repli
 is_new_there replicas history replica holds never =
     let range = replica.range in
     let slot = replica.slot in
-    holds range slot ∙ none_held (is_opened range slot history) (replica_rows range slot history) never
+    holds range slot ∙ unopened_held (is_opened range slot history) (replica_rows range slot history) never
 
 -- a row that its replica takes may be put
 pub can_take : (replicas : Replicas) (history : List Entry) (replica : Replica) (row : Row) → IsWellFormed history
@@ -203,6 +191,6 @@ takes_row replicas history replica row holds can =
     let slot = replica.slot in
     let rows = replica_rows range slot history in (
       rows,
-      holds range slot ∙ some_held (is_opened range slot history) rows can.1,
+      holds range slot ∙ opened_held (is_opened range slot history) rows can.1,
       source_later rows row can.2,
     )

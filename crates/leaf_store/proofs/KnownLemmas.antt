@@ -1,15 +1,14 @@
 -- A series that a replica has brings no bucket more.
 use Rattle.std.proofs.Common.{◌≡◌, ◌∙◌, ℕ, Bool, true, false, cond, ◌||◌, ◌==◌, Some, None, List, [], ◌∷◌, ◌++◌, map}
-use Rattle.std.proofs.Common.{Option, ℤ, IfSome, not, ◌&&◌, option_map, refl, sym, ap, subst, inl, inr}
+use Rattle.std.proofs.Common.{Option, ℤ, IfNone, IfSome, not, ◌&&◌, option_map, refl, sym, ap, subst, inl, inr}
 use Rattle.std.specs.Prelude.{is_some}
 use Rattle.std.proofs.lemmas.Bool.{or_left, or_right, or_cases}
 use Rattle.std.proofs.lemmas.List.Concat.{flat_map-append}
-use Rattle.std.proofs.lemmas.List.Folds.{list_any-append}
+use Rattle.mon_value.proofs.PlainLemmas.{or_false}
 use Rattle.mon_hints.specs.Hints.{history_buckets, rows_buckets}
 use Rattle.mon_hints.specs.Formulas.{is_among}
 use Rattle.mon_series.specs.declared.kept_rows.KeptSeries.{KeptSeries}
 use Rattle.mon_value.proofs.SameLemmas.{same_series-Decides}
-use Rattle.mon_value.proofs.PlainLemmas.{or_false}
 use Rattle.mon_value.specs.LeafHistories.{brought_rows, entry_rows, is_opened, leaf_rows, replica_rows, same_replica}
 use Rattle.mon_value.specs.LeafHistories.{last_end, points_of, rows_of}
 use Rattle.mon_value.specs.Same.{same_series}
@@ -19,13 +18,13 @@ use Rattle.mon_value.specs.declared.positions.Range.{Range}
 use Rattle.mon_value.specs.declared.positions.Slot.{Slot}
 use Rattle.mon_value.specs.declared.rows.Row.{Row}
 use Rattle.mon_value.specs.declared.rows.SeriesKey.{SeriesKey}
+use Rattle.leaf_store.specs.LeafStates.{HasNumber}
 use Rattle.leaf_store.specs.declared.replicas.Replica.{Replica}
 use Rattle.leaf_store.specs.within.Raises.{AddsBuckets, HoldsBuckets, IsKnown}
 use Rattle.leaf_store.specs.within.Replicas.{CanPut, HasSeries, HoldsHistory, Replicas, has_row_of, rows_held}
 use Rattle.leaf_store.specs.within.Replicas.{rows_if_kept}
-
-among_both : (bucket : ℕ) (xs ys : List ℕ) → is_among bucket (xs ++ ys) ≡ (is_among bucket xs || is_among bucket ys)
-among_both bucket xs ys = list_any-append (λ other. bucket == other) xs ys
+use Rattle.leaf_store.proofs.SeriesNumberLemmas.{numbered_row}
+use Rattle.mon_hints.proofs.CoverLemmas.{among-append}
 
 -- a replica that takes a row has its series where it is told as known
 pub put_series : (replicas : Replicas) (replica : Replica) (row : Row) (known : Bool) → CanPut replicas replica row
@@ -59,7 +58,7 @@ module _ (buckets_of : SeriesKey → List ℕ) where
   either_among : (bucket : ℕ) (xs ys : List Row) → is_among bucket (rows_buckets buckets_of (xs ++ ys))
       ≡ (is_among bucket (rows_buckets buckets_of xs) || is_among bucket (rows_buckets buckets_of ys))
   either_among bucket xs ys =
-      ap (is_among bucket) (rows_both xs ys) ∙ among_both bucket (rows_buckets buckets_of xs)
+      ap (is_among bucket) (rows_both xs ys) ∙ among-append bucket (rows_buckets buckets_of xs)
       (rows_buckets buckets_of ys)
 
   -- ---- the buckets of a series that has a row are those of its row
@@ -70,12 +69,12 @@ module _ (buckets_of : SeriesKey → List ℕ) where
       → (is_some (last_end (points_of key rows)) ≡ true → is_among bucket (rows_buckets buckets_of rows) ≡ true)
       → is_among bucket (rows_buckets buckets_of (row ∷ rows)) ≡ true
   series_at key row rows bucket true same some among rest =
-      among_both bucket (buckets_of row.key) (rows_buckets buckets_of rows)
+      among-append bucket (buckets_of row.key) (rows_buckets buckets_of rows)
       ∙ or_left (is_among bucket (buckets_of row.key)) (is_among bucket (rows_buckets buckets_of rows))
       (subst (λ (k : SeriesKey). is_among bucket (buckets_of k) ≡ true) ((same_series-Decides key row.key).0 same)
       among)
   series_at key row rows bucket false same some among rest =
-      among_both bucket (buckets_of row.key) (rows_buckets buckets_of rows)
+      among-append bucket (buckets_of row.key) (rows_buckets buckets_of rows)
       ∙ or_right (is_among bucket (buckets_of row.key)) (is_among bucket (rows_buckets buckets_of rows)) (rest some)
 
   series_among : (key : SeriesKey) (rows : List Row) (bucket : ℕ) → is_some (last_end (points_of key rows)) ≡ true
@@ -153,9 +152,34 @@ module _ (buckets_of : SeriesKey → List ℕ) where
       in_set (set bucket) (is_among bucket (rows_buckets buckets_of (row ∷ [])))
       (λ among. holds range slot known.0 known.1 bucket
       (series_among row.key known.0 bucket known.2
-      (sym (among_both bucket (buckets_of row.key) [] ∙ or_false (is_among bucket (buckets_of row.key))) ∙ among)))
+      (sym (among-append bucket (buckets_of row.key) [] ∙ or_false (is_among bucket (buckets_of row.key))) ∙ among)))
   known_adds replicas set (entry.Down pass) holds known bucket = absurd known
   known_adds replicas set (entry.Up pass) holds known bucket = absurd known
+
+  -- nor does one whose series has a number in its replica
+  numbered_adds : (set : ℕ → Bool) (history : List Entry) (e : Entry) (number : ℕ)
+      → ((bucket : ℕ) → set bucket ≡ is_among bucket (history_buckets buckets_of history)) → HasNumber history e number
+      → AddsBuckets set set (rows_buckets buckets_of (brought_rows e))
+  numbered_adds set history (entry.Opened pass range slot rows) number has known bucket = absurd known
+  numbered_adds set history (entry.Put pass range slot row) number has known bucket =
+      let rows = replica_rows range slot history in
+      in_set (set bucket) (is_among bucket (rows_buckets buckets_of (row ∷ [])))
+      (λ among. has bucket ∙ replica_among range slot history bucket
+      (series_among row.key rows bucket (numbered_row rows number row.key known)
+      (sym (among-append bucket (buckets_of row.key) [] ∙ or_false (is_among bucket (buckets_of row.key))) ∙ among)))
+  numbered_adds set history (entry.Down pass) number has known bucket = absurd known
+  numbered_adds set history (entry.Up pass) number has known bucket = absurd known
+
+  -- whether the number of an entry's series is known or not
+  pub adds_unless_known : (old new : ℕ → Bool) (history : List Entry) (e : Entry) (series : Option ℕ)
+      → ((bucket : ℕ) → old bucket ≡ is_among bucket (history_buckets buckets_of history))
+      → IfSome series (HasNumber history e)
+      → IfNone series (AddsBuckets old new (rows_buckets buckets_of (brought_rows e)))
+      → IfSome series (λ number. new ≡ old) → AddsBuckets old new (rows_buckets buckets_of (brought_rows e))
+  adds_unless_known old new history e None has known adds same = adds
+  adds_unless_known old new history e (Some number) has known adds same =
+      subst (λ (set : ℕ → Bool). AddsBuckets old set (rows_buckets buckets_of (brought_rows e))) (sym same)
+      (numbered_adds old history e number has known)
 
   -- no bucket of a series that a replica has is left
   pub known_left : (replicas : Replicas) (set : ℕ → Bool) (replica : Replica) (key : SeriesKey)

@@ -6,5 +6,6 @@ mod GuessLemmas
 mod KeptEntryLemmas
 mod KnownLemmas
 mod ReplicaLemmas
+mod SeriesNumberLemmas
 mod StateLemmas
 mod StepLemmas

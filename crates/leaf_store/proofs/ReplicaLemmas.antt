@@ -1,8 +1,14 @@
 -- How the replicas that are kept grow, and follow a history.
 use Rattle.std.proofs.Common.{◌≡◌, ◌∙◌, ℕ, zero, suc, Bool, true, false, cond, ◌||◌, Option, Some, None, option_map}
 use Rattle.std.proofs.Common.{List, [], ◌∷◌, ◌++◌, map, length, position, slice_get, refl, sym, ap, append-nil}
+use Rattle.std.proofs.Common.{◌+◌, not, nat_lt, arith, subst}
+use Rattle.std.specs.Prelude.{is_some}
+use Rattle.std.specs.List.{AllByRecursion, IsDistinct, position_or_len}
 use Rattle.std.specs.Map.{keys_of}
+use Rattle.std.proofs.lemmas.Bool.Decides.{nat_tests}
+use Rattle.std.proofs.lemmas.Option.{slice_get-map, slice_get_within}
 use Rattle.indexmap.specs.Layout.{set_value_at}
+use Rattle.mon_value.proofs.PlainLemmas.{or_false}
 use Rattle.mon_value.specs.LeafHistories.{IsWellFormed, entry_rows, is_opened, replica_rows, same_replica}
 use Rattle.mon_value.specs.declared.histories.Entry.{Entry}
 use Rattle.mon_value.specs.declared.histories.Entry.TheVariants as entry
@@ -12,11 +18,10 @@ use Rattle.mon_value.specs.declared.rows.Row.{Row}
 use Rattle.leaf_store.specs.LeafStates.{opened_rows}
 use Rattle.leaf_store.specs.contracts.replicas.ReplicaPartialEq.TheImpl as derived
 use Rattle.leaf_store.specs.declared.replicas.Replica.{Replica}
-use Rattle.leaf_store.specs.within.Replicas.{HoldsHistory, IsPut, Replicas, rows_held}
+use Rattle.leaf_store.specs.within.Replicas.{HoldsHistory, IsPut, Replicas, place_in, rows_held, rows_if}
 use Rattle.mon_series.proofs.FirstLemmas.{IsFirst, first_found, first_position, get_there}
 use Rattle.mon_value.proofs.LeafHistoryLemmas.{no_rows, opened_more, opened_same, parts_same, replica_rows-push}
 use Rattle.mon_value.proofs.LeafHistoryLemmas.{same_tests}
-use Rattle.mon_value.proofs.PlainLemmas.{or_false}
 
 -- ---- the test of a replica
 
@@ -31,6 +36,65 @@ own_same : (replica other : Replica) → own replica other ≡ true → other �
 own_same replica other same =
     let both = parts_same replica.range other.range replica.slot other.slot same in
     λ i. record { range = sym both.0 i; slot = sym both.1 i }
+
+-- what holds of all holds of each
+all_at : (P : Replica → Type 0) (keys : List Replica) (n : ℕ) (key : Replica) → AllByRecursion P keys
+    → slice_get keys n ≡ Some key → P key
+all_at P [] n key all there = absurd cc
+all_at P (first ∷ keys) zero key all there = let same : first ≡ key = cc in subst P same all.0
+all_at P (first ∷ keys) (suc n) key all there = all_at P keys n key all.1 there
+
+-- the replica of a place is the only one
+apart_from : (replica first : Replica) (keys : List Replica) (n : ℕ) (b : Bool) → own replica first ≡ b
+    → AllByRecursion (λ other. own first other ≡ false) keys → slice_get keys n ≡ Some replica → b ≡ false
+apart_from replica first keys n true same apart there =
+    let one : first ≡ replica = own_same replica first same in
+    let itself : own replica replica ≡ true = ap (own replica) (sym one) ∙ same in
+    let other : own replica replica ≡ false =
+    ap (λ (f : Replica). own f replica) (sym one) ∙ all_at (λ other. own first other ≡ false) keys n replica apart there in
+    absurd cc
+apart_from replica first keys n false same apart there = refl
+
+same_itself : (replica : Replica) → own replica replica ≡ true
+same_itself replica = grind (arith, nat_tests)
+
+first_key : (replica : Replica) (keys : List Replica) (n : ℕ) → IsDistinct own keys → slice_get keys n ≡ Some replica
+    → position_or_len (own replica) keys ≡ n
+unfolding IsDistinct
+first_key replica [] n distinct there = absurd cc
+first_key replica (first ∷ keys) zero distinct there =
+    let one : first ≡ replica = cc in
+    let same : own replica first ≡ true = ap (own replica) one ∙ same_itself replica in
+    ap (λ b. cond (not b) (1 + position_or_len (own replica) keys) 0) same
+first_key replica (first ∷ keys) (suc n) distinct there =
+    let other : own replica first ≡ false = apart_from replica first keys n (own replica first) refl distinct.0 there in
+    let rest = first_key replica keys n distinct.1 there in
+    ap (λ b. cond (not b) (1 + position_or_len (own replica) keys) 0) other ∙ omega (arith, rest)
+
+key_at : (range : Range) (slot : Slot) (replicas : Replicas) (n : ℕ) (o : Option (Replica × List Row))
+    → slice_get replicas n ≡ o → is_some (rows_if range slot o) ≡ true
+    → slice_get (keys_of replicas) n ≡ Some (record { range = range; slot = slot })
+key_at range slot replicas n None there some = absurd cc
+key_at range slot replicas n (Some held) there some =
+    let replica : Replica = record { range = range; slot = slot } in
+    slice_get-map (λ (e : Replica × List Row). e.0) replicas n
+    ∙ ap (option_map (λ (e : Replica × List Row). e.0)) there
+    ∙ ap (λ (r : Replica). Some r) (own_same replica held.0 (tested (own replica held.0) held.1 some))
+  where
+    tested : (b : Bool) (rows : List Row) → is_some (cond b (Some rows) None) ≡ true → b ≡ true
+    tested true rows is = refl
+    tested false rows is = absurd cc
+
+-- where a replica is, that is its place
+pub place_there : (replicas : Replicas) (replica : Replica) (n : ℕ) → IsDistinct own (keys_of replicas)
+    → is_some (rows_if replica.range replica.slot (slice_get replicas n)) ≡ true → place_in replicas replica ≡ Some n
+place_there replicas replica n distinct some =
+    let keys = keys_of replicas in
+    let there = key_at replica.range replica.slot replicas n (slice_get replicas n) refl some in
+    let at = first_key replica keys n distinct there in
+    let within = slice_get_within keys n replica there in
+    let below : nat_lt n (length keys) ≡ true = grind (arith, nat_tests) in
+    ap (λ (m : ℕ). cond (nat_lt m (length keys)) (Some m) None) at ∙ ap (λ b. cond b (Some n) None) below
 
 -- ---- a row more
 
@@ -96,6 +160,15 @@ is_put replicas replica row n place number rows new at found count pushed same =
       place_is = count;
       grown = (λ i. set_value_at replicas (sym same i) (pushed i));
     }
+
+-- the rows at a replica's place are its own
+pub placed_rows : (replicas : Replicas) (replica : Replica) (n : ℕ) (rows : List Row) → place_in replicas replica
+    ≡ Some n
+    → Some rows ≡ slice_get (map (λ e. e.1) replicas) n → rows_held replicas replica.range replica.slot ≡ Some rows
+placed_rows replicas replica n rows at found =
+    let first : IsFirst (own replica) replicas n = first_position (own replica) replicas n at in
+    let there = get_there replicas n rows found in
+    (first_found (own replica) replicas n there.0 rows first there.1).1
 
 -- ---- a replica more
 

@@ -1,10 +1,11 @@
 -- A leaf's state after an entry more.
 use Rattle.std.proofs.Common.{◌≡◌, ◌∙◌, ◌≤◌, ◌<◌, ◌+◌, ◌-◌, ℕ, zero, suc, Bool, true, false, cond, ◌||◌, ◌==◌, List}
-use Rattle.std.proofs.Common.{[], ◌∷◌, ◌++◌, length, drop, refl, sym, ap, subst, append_assoc, arith}
+use Rattle.std.proofs.Common.{[], ◌∷◌, ◌++◌, IfSome, length, drop, refl, sym, ap, subst, append_assoc, arith}
 use Rattle.std.specs.List.{count_by}
-use Rattle.std.proofs.lemmas.List.{drop-append-le, length-append, length-drop}
+use Rattle.std.proofs.lemmas.List.{drop-append-le, length-append, length-drop, length-map}
 use Rattle.std.proofs.lemmas.List.Folds.{list_any-append}
 use Rattle.std.proofs.lemmas.List.Sums.{sum_by-append}
+use Rattle.mon_value.proofs.PlainLemmas.{or_false}
 use Rattle.mon_hints.specs.Formulas.{is_among}
 use Rattle.mon_schema.specs.Names.{SchemaLists}
 use Rattle.mon_value.specs.LeafHistories.{IsWellFormed, MayFollow, is_down, is_down_after, is_switch}
@@ -13,32 +14,48 @@ use Rattle.mon_value.specs.declared.histories.Entry.TheVariants as entry
 use Rattle.mon_value.specs.declared.limits.TheConstants.{MOST_SWITCHES}
 use Rattle.mon_hints.specs.Hints.{history_buckets, rows_buckets}
 use Rattle.mon_value.specs.LeafHistories.{brought_rows}
-use Rattle.leaf_store.specs.LeafStates.{key_buckets}
+use Rattle.leaf_store.specs.LeafStates.{key_buckets, HasNumber}
+use Rattle.leaf_store.specs.declared.fresh.FreshEntry.{FreshEntry}
 use Rattle.leaf_store.specs.declared.kept.Kept.{Kept}
+use Rattle.leaf_store.specs.within.FreshEntries.{AreNumbered, entries_in}
 use Rattle.leaf_store.specs.within.Raises.{AddsBuckets}
 use Rattle.leaf_store.specs.within.Replicas.{AllHaveRows, IsInTwoParts, Replicas, shown_entries}
 use Rattle.leaf_store.specs.within.States.{AllSwitches}
 use Rattle.leaf_store.proofs.BucketLemmas.{history_more}
 use Rattle.leaf_store.proofs.EntryLemmas.{shown_count}
+use Rattle.leaf_store.proofs.SeriesNumberLemmas.{entries_push, numbered_push}
 use Rattle.mon_value.proofs.LeafHistoryLemmas.{down_push, follows}
-use Rattle.mon_value.proofs.PlainLemmas.{or_false}
 
 -- the history with an entry more
-pub history_push : (first fresh : List Entry) (moved : ℕ) (last : Entry) → moved ≤ length fresh
-    → first ++ drop moved (fresh ++ last ∷ []) ≡ (first ++ drop moved fresh) ++ last ∷ []
-history_push first fresh moved last within =
-    ap (λ (left : List Entry). first ++ left) (drop-append-le moved fresh (last ∷ []) within)
-    ∙ sym (append_assoc first (drop moved fresh) (last ∷ []))
+pub left_push : (fresh : List FreshEntry) (moved : ℕ) (last : FreshEntry) → moved ≤ length fresh
+    → entries_in (drop moved (fresh ++ last ∷ [])) ≡ entries_in (drop moved fresh) ++ last.entry ∷ []
+left_push fresh moved last within =
+    ap entries_in (drop-append-le moved fresh (last ∷ []) within) ∙ entries_push (drop moved fresh) last
 
-pub holds_push : (replicas : Replicas) (ks : List Kept) (fresh : List Entry) (moved : ℕ) (last : Entry) → moved
-    ≤ length fresh → IsInTwoParts replicas ks (drop moved fresh)
-    → IsWellFormed ((shown_entries replicas ks ++ drop moved fresh) ++ last ∷ []) → IsInTwoParts replicas ks
-    (drop moved (fresh ++ last ∷ []))
+pub history_push : (first : List Entry) (fresh : List FreshEntry) (moved : ℕ) (last : FreshEntry)
+    → moved ≤ length fresh → first ++ entries_in (drop moved (fresh ++ last ∷ []))
+    ≡ (first ++ entries_in (drop moved fresh)) ++ last.entry ∷ []
+history_push first fresh moved last within =
+    ap (λ (left : List Entry). first ++ left) (left_push fresh moved last within)
+    ∙ sym (append_assoc first (entries_in (drop moved fresh)) (last.entry ∷ []))
+
+pub holds_push : (replicas : Replicas) (ks : List Kept) (fresh : List FreshEntry) (moved : ℕ) (last : FreshEntry)
+    → moved ≤ length fresh → IsInTwoParts replicas ks (entries_in (drop moved fresh))
+    → IsWellFormed ((shown_entries replicas ks ++ entries_in (drop moved fresh)) ++ last.entry ∷ [])
+    → IsInTwoParts replicas ks (entries_in (drop moved (fresh ++ last ∷ [])))
 holds_push replicas ks fresh moved last within holds formed = record {
   there = holds.there;
   formed = subst IsWellFormed (sym (history_push (shown_entries replicas ks) fresh moved last within)) formed;
   holds = holds.holds;
 }
+
+pub numbers_push : (first : List Entry) (fresh : List FreshEntry) (moved : ℕ) (last : FreshEntry)
+    → moved ≤ length fresh → AreNumbered first (drop moved fresh)
+    → IfSome last.series (HasNumber (first ++ entries_in (drop moved fresh)) last.entry)
+    → AreNumbered first (drop moved (fresh ++ last ∷ []))
+numbers_push first fresh moved last within are has =
+    subst (AreNumbered first) (sym (drop-append-le moved fresh (last ∷ []) within))
+    (numbered_push first (drop moved fresh) last are has)
 
 -- ---- switches
 
@@ -116,32 +133,34 @@ raised_switch set buckets held history last is has =
 
 -- ---- the length of a history
 
-pub history_count : (replicas : Replicas) (ks : List Kept) (fresh : List Entry) (moved : ℕ) → AllHaveRows replicas ks
-    → moved ≤ length fresh
-    → length ks + (length fresh - moved) ≡ length (shown_entries replicas ks ++ drop moved fresh)
+pub history_count : (replicas : Replicas) (ks : List Kept) (fresh : List FreshEntry) (moved : ℕ)
+    → AllHaveRows replicas ks → moved ≤ length fresh
+    → length ks + (length fresh - moved) ≡ length (shown_entries replicas ks ++ entries_in (drop moved fresh))
 history_count replicas ks fresh moved there within =
-    (λ i. sym (shown_count replicas ks there) i + sym (length-drop moved fresh) i)
-    ∙ sym (length-append (shown_entries replicas ks) (drop moved fresh))
+    let left : length fresh - moved ≡ length (entries_in (drop moved fresh)) =
+    sym (length-map (drop moved fresh) (λ (one : FreshEntry). one.entry) ∙ length-drop moved fresh) in
+    (λ i. sym (shown_count replicas ks there) i + left i)
+    ∙ sym (length-append (shown_entries replicas ks) (entries_in (drop moved fresh)))
 
 -- ---- a leaf to which nothing happened
 
-pub nothing_holds : (replicas : Replicas) (ks : List Kept) (fresh : List Entry) → replicas ≡ [] → ks ≡ [] → fresh ≡ []
-    → IsInTwoParts replicas ks (drop 0 fresh)
+pub nothing_holds : (replicas : Replicas) (ks : List Kept) (fresh : List FreshEntry) → replicas ≡ [] → ks ≡ []
+    → fresh ≡ [] → IsInTwoParts replicas ks (entries_in (drop 0 fresh))
 nothing_holds replicas ks fresh none kept left =
-    subst (λ (rs : Replicas). IsInTwoParts rs ks (drop 0 fresh)) (sym none)
-    (subst (λ (all : List Kept). IsInTwoParts [] all (drop 0 fresh)) (sym kept)
-    (subst (λ (es : List Entry). IsInTwoParts [] [] (drop 0 es)) (sym left)
+    subst (λ (rs : Replicas). IsInTwoParts rs ks (entries_in (drop 0 fresh))) (sym none)
+    (subst (λ (all : List Kept). IsInTwoParts [] all (entries_in (drop 0 fresh))) (sym kept)
+    (subst (λ (es : List FreshEntry). IsInTwoParts [] [] (entries_in (drop 0 es))) (sym left)
     (record { there = tt; formed = tt; holds = λ range slot. refl })))
 
-pub no_history : (replicas : Replicas) (ks : List Kept) (fresh : List Entry) → replicas ≡ [] → ks ≡ [] → fresh ≡ []
-    → shown_entries replicas ks ++ drop 0 fresh ≡ []
-no_history replicas ks fresh none kept left = λ i. shown_entries (none i) (kept i) ++ drop 0 (left i)
+pub no_history : (replicas : Replicas) (ks : List Kept) (fresh : List FreshEntry) → replicas ≡ [] → ks ≡ []
+    → fresh ≡ [] → shown_entries replicas ks ++ entries_in (drop 0 fresh) ≡ []
+no_history replicas ks fresh none kept left = λ i. shown_entries (none i) (kept i) ++ entries_in (drop 0 (left i))
 
 -- ---- entries that were brought
 
 -- fewer entries are switches too
-pub later_switches : (entries : List Entry) (m n : ℕ) → m ≤ n → AllSwitches (drop m entries)
-    → AllSwitches (drop n entries)
+pub later_switches : (entries : List FreshEntry) (m n : ℕ) → m ≤ n → AllSwitches (entries_in (drop m entries))
+    → AllSwitches (entries_in (drop n entries))
 later_switches [] zero zero below all = tt
 later_switches [] zero (suc n) below all = tt
 later_switches [] (suc m) zero below all = tt

@@ -45,14 +45,21 @@ can_settle replicas ks e rest holds = record {
   follows = follows (shown_entries replicas ks) e rest holds.formed;
 }
 
+-- the entries that are shown then
+pub shown_then : (old new : Replicas) (ks : List Kept) (own : Kept) (e : Entry) (rest : List Entry)
+    → IsInTwoParts old ks (e ∷ rest) → SettlesEntry old new e own
+    → shown_entries new (ks ++ own ∷ []) ≡ shown_entries old ks ++ e ∷ []
+shown_then old new ks own e rest holds settles =
+    shown_push new ks own e settles.own_is
+    ∙ ap (λ (es : List Entry). es ++ e ∷ []) (shown_kept old new ks settles.keeps holds.there).0
+
 pub settled : (old new : Replicas) (ks : List Kept) (own : Kept) (e : Entry) (rest : List Entry)
     → IsInTwoParts old ks (e ∷ rest) → SettlesEntry old new e own
     → IsInTwoParts new (ks ++ own ∷ []) rest
     × (shown_entries new (ks ++ own ∷ []) ++ rest ≡ shown_entries old ks ++ e ∷ rest)
 settled old new ks own e rest holds settles =
     let stays = shown_kept old new ks settles.keeps holds.there in
-    let now : shown_entries new (ks ++ own ∷ []) ≡ shown_entries old ks ++ e ∷ [] =
-    shown_push new ks own e settles.own_is ∙ ap (λ (es : List Entry). es ++ e ∷ []) stays.0 in
+    let now = shown_then old new ks own e rest holds settles in
     let all : shown_entries new (ks ++ own ∷ []) ++ rest ≡ shown_entries old ks ++ e ∷ rest =
     ap (λ (es : List Entry). es ++ rest) now ∙ append_assoc (shown_entries old ks) (e ∷ []) rest in (
       record {
@@ -67,11 +74,11 @@ settled old new ks own e rest holds settles =
 
 -- ---- what an entry asks of the replicas
 
-opened_held : (b : Bool) (rows : List Row) → b ≡ true → cond b (Some rows) None ≡ Some rows
+pub opened_held : (b : Bool) (rows : List Row) → b ≡ true → cond b (Some rows) None ≡ Some rows
 opened_held true rows e = refl
 opened_held false rows e = absurd cc
 
-unopened_held : (b : Bool) (rows : List Row) → b ≡ false → cond b (Some rows) None ≡ None
+pub unopened_held : (b : Bool) (rows : List Row) → b ≡ false → cond b (Some rows) None ≡ None
 unopened_held true rows e = absurd cc
 unopened_held false rows e = refl
 

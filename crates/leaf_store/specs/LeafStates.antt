@@ -1,10 +1,11 @@
 -- What a leaf's state is seen as, how its calls change it, and the buckets of its series.
-use Rattle.std.specs.Prelude.{ℕ, ◌-◌, Bool, true, ◌&&◌, List, [], ◌∷◌, ◌++◌, Option, Some, None, if◌then◌else◌, ◌≡◌}
-use Rattle.std.specs.Prelude.{not}
+use Rattle.std.specs.Prelude.{◌≡◌, ℕ, ◌-◌, Bool, true, ◌&&◌, List, [], ◌∷◌, ◌++◌, Option, Some, None, slice_get}
+use Rattle.std.specs.Prelude.{if◌then◌else◌, not}
 use Rattle.std.specs.List.Sorted.{IsStrictlyIncreasing}
 use Rattle.mon_schema.specs.Names.{SchemaLists, target_named, metric_named}
-use Rattle.mon_value.specs.LeafHistories.{is_opened, is_switch, replica_rows}
+use Rattle.mon_value.specs.LeafHistories.{is_opened, is_switch, replica_rows, series_of}
 use Rattle.mon_value.specs.declared.histories.Entry.{Entry}
+use Rattle.mon_value.specs.declared.histories.Entry.TheVariants as entry
 use Rattle.mon_value.specs.declared.positions.Range.{Range}
 use Rattle.mon_value.specs.declared.positions.Slot.{Slot}
 use Rattle.mon_value.specs.declared.rows.Row.{Row}
@@ -75,6 +76,14 @@ leaf_with_put leaf entry =
 -- the rows of a replica, if it was opened
 abbrev pub opened_rows : Range → Slot → List Entry → Option (List Row)
 opened_rows range slot history = if is_opened range slot history then Some (replica_rows range slot history) else None
+
+-- behind a history an entry puts a row, whose series has a number among those of its replica
+abbrev pub HasNumber : List Entry → Entry → ℕ → Type 0
+HasNumber history (entry.Opened pass range slot rows) number = ⊥
+HasNumber history (entry.Put pass range slot row) number =
+    slice_get (series_of (replica_rows range slot history)) number ≡ Some row.key
+HasNumber history (entry.Down pass) number = ⊥
+HasNumber history (entry.Up pass) number = ⊥
 
 -- The buckets of a leaf's series by the schemas that it holds, and those that its history doesn't have.
 

@@ -1,5 +1,6 @@
 -- What only proofs read: how entries, replicas and a leaf's state are kept.
 pub mod Follows
+pub mod FreshEntries
 pub mod KeptEntries
 pub mod Raises
 pub mod Replicas

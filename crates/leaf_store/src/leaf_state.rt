@@ -1,20 +1,23 @@
 // The state of a leaf.
 ghost use Rattle.std.specs.Prelude.{◌≡◌, ◌++◌, ◌∷◌, ◌-◌, ◌<◌, ◌≤◌, ◌+◌, ◌^◌, Bool, is_some, [], length, take};
-ghost use Rattle.std.specs.Prelude.{drop, false, ℕ};
-ghost use Rattle.std.specs.Prelude.{true, IfOk, IfSome, IfNone, OnOk, OnErr, IsTrue, vec_capacity};
+ghost use Rattle.std.specs.Prelude.{false, ℕ, Some, slice_get};
+ghost use Rattle.std.specs.Prelude.{true, IfOk, IfSome, IfNone, OnOk, OnErr, IsTrue};
 ghost use Rattle.std.specs.List.{count_by};
 ghost use Rattle.std.specs.Option.{option_copied};
 ghost use Rattle.mon_hints.specs.BucketSets.{HasNone, IsNext, is_set};
 ghost use Rattle.mon_hints.specs.Formulas.{is_among};
 ghost use Rattle.mon_value.specs.LeafHistories.{IsWellFormed, MayFollow, brought_rows, is_down, is_down_after};
 ghost use Rattle.mon_value.specs.LeafHistories.{is_opened, is_switch, replica_rows, IsSource, last_end, points_of};
+ghost use Rattle.mon_value.specs.LeafHistories.{series_of};
 ghost use Rattle.mon_hints.specs.Hints.{history_buckets};
 ghost use Rattle.leaf_store.specs.LeafStates.{AreToRaise, key_buckets, is_unraised, new_leaf, opened_rows};
-ghost use Rattle.leaf_store.specs.LeafStates.{leaf_with_entry, leaf_with_put, with_promised, with_settled};
+ghost use Rattle.leaf_store.specs.LeafStates.{leaf_with_entry, leaf_with_put, with_promised, with_settled, HasNumber};
 ghost use Rattle.leaf_store.specs.within.Follows.{CanTakeRow};
 
+use crate::fresh::{FreshEntry, behind, clear, in_front};
+use crate::guess::Guess;
 use crate::kept::{Kept, KeptEntries};
-use crate::raised::{add_row, key_set, left_of, raise};
+use crate::raised::{add_row, key_set, left_of, raise_unknown};
 use crate::replays::{push_all_brought, push_held, rows_kept, settle_entries};
 use crate::replicas::{Replica, Replicas, find_next, is_new, put, rows_of, takes};
 use crate::slot_rows::SlotRows;
@@ -36,17 +39,14 @@ pub struct LeafState {
     buckets: u32,
     replicas: Replicas,
     kept: KeptEntries,
-    fresh: Vec<Entry>,
+    fresh: Vec<FreshEntry>,
     moved: usize,
     settled: bool,
     raised: BucketSet,
     down: bool,
     switches_left: usize,
     promised: usize,
-    // The number that the series of the last row has in its replica, and the one that would come next if numbers go on
-    // as they did. They count only where they are the series, so what is told does not depend on them.
-    guess: u32,
-    next: u32,
+    guess: Guess,
 }
 
 impl Model for LeafState {
@@ -87,8 +87,11 @@ impl LeafState {
             down: false,
             switches_left: MOST_SWITCHES as usize,
             promised: 0,
-            guess: 0,
-            next: 0,
+            guess: Guess {
+                place: 0,
+                series: 0,
+                next: 0,
+            },
         })
     }
 
@@ -175,37 +178,29 @@ impl LeafState {
         ensures kept { self.new ≡ self.old }
     {
         let replica = Replica { range, slot };
-        let Some(found) = find_next(
-            &self.replicas,
-            replica,
-            key,
-            &mut self.guess,
-            &mut self.next,
-        ) else {
+        let Some(found) = find_next(&self.replicas, replica, key, &mut self.guess) else {
             return None;
         };
         Some(found.last)
     }
 
-    /// Whether a row of a series was brought into its replica's series, so that none of the series' buckets is left to
-    /// raise. Of a replica whose rows all were brought there it tells just which series have a row. A row of a known
-    /// series that comes next finds it without looking it up. No memory is taken.
-    pub fn knows(&mut self, range: Range, slot: Slot, key: &Shared<SeriesKey>) -> bool
-        ensures raised { IsTrue result → (bucket : ℕ) →
+    /// The number that a series has among those of its replica, where a row of it was brought into the replica's
+    /// series, so that none of the series' buckets is left to raise. Of a replica whose rows all were brought there it
+    /// tells just which series have a row. The number is what `apply_known` takes. No memory is taken.
+    pub fn known_series(&mut self, range: Range, slot: Slot, key: &Shared<SeriesKey>) -> Option<u32>
+        ensures number { IfSome result (λ number.
+            slice_get (series_of (replica_rows range slot self.old.history)) number ≡ Some key.now) }
+        ensures raised { IsTrue (is_some result) → (bucket : ℕ) →
             is_unraised self.old.buckets self.old.schemas self.old.history key.now bucket ≡ false }
         ensures exact { IsTrue self.old.settled → is_opened range slot self.old.history ≡ true →
-            result ≡ is_some (last_end (points_of key.now (replica_rows range slot self.old.history))) }
+            is_some result ≡ is_some (last_end (points_of key.now (replica_rows range slot self.old.history))) }
         ensures kept { self.new ≡ self.old }
     {
         let replica = Replica { range, slot };
-        let found = find_next(
-            &self.replicas,
-            replica,
-            key,
-            &mut self.guess,
-            &mut self.next,
-        );
-        found.is_some()
+        let Some(found) = find_next(&self.replicas, replica, key, &mut self.guess) else {
+            return None;
+        };
+        Some(found.number)
     }
 
     /// Whether an entry may come next, whose rows are in the order of their series' points.
@@ -299,22 +294,46 @@ impl LeafState {
             Some(down) => {
                 self.down = down;
                 self.switches_left -= 1;
-                self.fresh.push_reserved(entry);
+                self.fresh.push_reserved(FreshEntry {
+                    entry,
+                    series: None,
+                });
             }
-            None => {
-                raise(
-                    &mut self.raised,
-                    &self.replicas,
-                    &self.schemas,
-                    self.buckets,
-                    &entry,
-                    &mut self.guess,
-                );
-                self.promised -= 1;
-                self.settled = false;
-                self.fresh.push_reserved(entry);
-            }
+            None => self.line_up(entry, None),
         }
+    }
+
+    /// Appends an entry as `apply` does, which puts a row of a series whose number in its replica is known, as from
+    /// `known_series`. The series is not looked up, now or when it is settled.
+    pub fn apply_known(&mut self, entry: Entry, series: u32)
+        requires numbered { HasNumber self.old.history entry series }
+        requires follows { IsWellFormed (self.old.history ++ entry ∷ []) }
+        requires promised { 1 ≤ self.old.promised }
+        ensures applied { self.new ≡ leaf_with_entry self.old entry }
+    {
+        self.line_up(entry, Some(series));
+    }
+
+    // Appends an entry with rows, with the number of its row's series where that is known.
+    fn line_up(&mut self, entry: Entry, series: Option<u32>)
+        requires rows { is_switch entry ≡ false }
+        requires numbered { IfSome series (HasNumber self.old.history entry) }
+        requires follows { IsWellFormed (self.old.history ++ entry ∷ []) }
+        requires promised { 1 ≤ self.old.promised }
+        ensures applied { self.new ≡ leaf_with_entry self.old entry }
+    {
+        raise_unknown(
+            &mut self.raised,
+            &self.replicas,
+            &self.schemas,
+            self.buckets,
+            &entry,
+            series,
+            &mut self.guess,
+        );
+        self.promised -= 1;
+        self.settled = false;
+        self.fresh.push_reserved(FreshEntry { entry, series });
     }
 
     /// Puts a row to a replica, and with it all that is left into the series of their replicas. Where memory runs out
@@ -334,7 +353,14 @@ impl LeafState {
         )?;
         self.kept.reserve_one()?;
         let replica = Replica { range, slot };
-        let put = put(self.alloc, &mut self.replicas, replica, row, self.guess)?;
+        let put = put(
+            self.alloc,
+            &mut self.replicas,
+            replica,
+            row,
+            None,
+            self.guess,
+        )?;
         add_row(
             &mut self.raised,
             &self.schemas,
@@ -429,35 +455,6 @@ impl LeafState {
         )?;
         Ok(rows)
     }
-}
-
-// Takes out all entries, and gives memory back but for the room of so many, where there is room for more than twice as
-// many.
-fn clear(entries: &mut Vec<Entry>, room: usize)
-    requires room { room ≤ vec_capacity entries.old }
-    ensures empty { entries.new.items ≡ [] }
-    ensures room { room ≤ vec_capacity entries.new }
-{
-    entries.clear();
-    if room < entries.capacity() / 2 {
-        entries.shrink_to(room);
-    }
-}
-
-// The entries behind the first so many.
-fn behind(entries: &[Entry], count: usize) -> &[Entry]
-    requires within { count ≤ length entries.now }
-    ensures behind { result.now ≡ drop count entries.now }
-{
-    &entries[count..]
-}
-
-// The first so many entries.
-fn in_front(entries: &[Entry], count: usize) -> &[Entry]
-    requires within { count ≤ length entries.now }
-    ensures front { result.now ≡ take count entries.now }
-{
-    &entries[..count]
 }
 
 // Whether an entry says that the leaf went down, or that it came up.

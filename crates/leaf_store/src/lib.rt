@@ -1,6 +1,8 @@
 //! The state of a leaf: the replay of its history, with the rows of its replicas by series.
 #![tactic(auto)]
 
+mod fresh;
+mod guess;
 mod kept;
 mod leaf_state;
 mod raised;

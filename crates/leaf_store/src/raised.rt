@@ -6,35 +6,59 @@ ghost use Rattle.mon_hints.specs.Hints.{rows_buckets};
 ghost use Rattle.leaf_store.specs.LeafStates.{key_buckets};
 ghost use Rattle.leaf_store.specs.within.Raises.{AddsBuckets, AddsEntry, HoldsBuckets, IsKnown, is_left};
 
+use crate::guess::Guess;
 use crate::replicas::{Replica, Replicas, find_series};
 use mon_hints::{BucketSet, series_set};
 use mon_schema::Schemas;
 use mon_series::KeptSeries;
 use mon_value::{Entry, MOST_BUCKETS, Row, SeriesKey};
 
-/// Adds the buckets of the series that an entry brings, unless its replica has that series; then it is found by the
-/// number that was guessed, and its own number is the next guess.
-pub(crate) fn raise(
+/// Adds the buckets of the series that an entry brings as `raise` does, unless the series' number is known: then it has
+/// none to add.
+pub(crate) fn raise_unknown(
     raised: &mut BucketSet,
     replicas: &Replicas,
     schemas: &Schemas,
     buckets: u32,
     entry: &Entry,
-    guess: &mut u32,
+    series: Option<u32>,
+    guess: &mut Guess,
+)
+    requires some { 0 < buckets }
+    requires most { buckets ≤ MOST_BUCKETS }
+    requires held { HoldsBuckets replicas.now.entries (key_buckets buckets schemas.now) (is_set raised.old.words) }
+    ensures added { IfNone series
+        (AddsEntry buckets schemas.now entry.now (is_set raised.old.words) (is_set raised.new.words)) }
+    ensures kept { IfSome series (λ number. is_set raised.new.words ≡ is_set raised.old.words) }
+{
+    if series.is_none() {
+        raise(raised, replicas, schemas, buckets, entry, guess);
+    }
+}
+
+// Adds the buckets of the series that an entry brings, unless its replica has that series; then it is found by the
+// number that was guessed, and its own number is the next guess.
+fn raise(
+    raised: &mut BucketSet,
+    replicas: &Replicas,
+    schemas: &Schemas,
+    buckets: u32,
+    entry: &Entry,
+    guess: &mut Guess,
 )
     requires some { 0 < buckets }
     requires most { buckets ≤ MOST_BUCKETS }
     requires held { HoldsBuckets replicas.now.entries (key_buckets buckets schemas.now) (is_set raised.old.words) }
     ensures added { AddsEntry buckets schemas.now entry.now (is_set raised.old.words) (is_set raised.new.words) }
 {
-    match known_series(replicas, entry, *guess) {
-        Some(found) => *guess = found.number,
+    match known_series(replicas, entry, guess) {
+        Some(found) => guess.series = found.number,
         None => add_entry(raised, schemas, buckets, entry),
     }
 }
 
 // The series of an entry's row, if its replica has that series.
-fn known_series(replicas: &Replicas, entry: &Entry, guess: u32) -> Option<KeptSeries>
+fn known_series(replicas: &Replicas, entry: &Entry, guess: &mut Guess) -> Option<KeptSeries>
     ensures known { IfSome result (λ found. IsKnown replicas.now.entries entry.now) }
 {
     match entry {
@@ -50,7 +74,8 @@ fn known_series(replicas: &Replicas, entry: &Entry, guess: u32) -> Option<KeptSe
                 slot: *slot,
             },
             &row.key,
-            guess,
+            guess.series,
+            &mut guess.place,
         ),
         _ => None,
     }

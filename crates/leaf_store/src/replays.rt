@@ -1,10 +1,13 @@
 // How the entries of a history reach replicas, and what they brought to one.
 ghost use Rattle.std.specs.Prelude.{◌≡◌, ◌≤◌, ◌++◌, length, drop, take, is_some, IfOk, IfSome, OnOk, true};
 ghost use Rattle.mon_value.specs.LeafHistories.{entry_rows, replica_rows};
+ghost use Rattle.leaf_store.specs.within.FreshEntries.{AreNumbered, entries_in};
 ghost use Rattle.leaf_store.specs.within.Replicas.{AllHaveRows, IsInTwoParts, SameHistory, rows_if_kept, entry_of};
 ghost use Rattle.leaf_store.specs.within.Replicas.{rows_held};
 ghost use Rattle.leaf_store.specs.within.Replicas.{shown_entries};
 
+use crate::fresh::FreshEntry;
+use crate::guess::Guess;
 use crate::kept::{Kept, KeptEntries};
 use crate::replicas::{Replica, Replicas, is_same, own_rows, rows_of, settle_entry};
 use crate::slot_rows::SlotRows;
@@ -12,27 +15,30 @@ use mon_value::{Entry, OutOfMemory, Row, RowList, TryCopy};
 use std::alloc::Global;
 
 /// Brings the rows of the entries from `moved` on to their replicas, and counts on. Where memory runs out, those that
-/// were brought stay there. The number of each row's series is guessed first.
+/// were brought stay there. The number of a row's series is guessed where it isn't known.
 pub(crate) fn settle_entries(
     alloc: Global,
     replicas: &mut Replicas,
     kept: &mut KeptEntries,
-    fresh: &[Entry],
+    fresh: &[FreshEntry],
     moved: &mut usize,
-    guess: u32,
+    guess: Guess,
 ) -> Result<(), OutOfMemory>
     requires within { moved.old ≤ length fresh.now }
-    requires holds { IsInTwoParts replicas.old.entries kept.old.items (drop moved.old fresh.now) }
+    requires holds { IsInTwoParts replicas.old.entries kept.old.items (entries_in (drop moved.old fresh.now)) }
+    requires numbered { AreNumbered (shown_entries replicas.old.entries kept.old.items) (drop moved.old fresh.now) }
     ensures within { moved.new ≤ length fresh.now }
     ensures onward { moved.old ≤ moved.new }
-    ensures holds { IsInTwoParts replicas.new.entries kept.new.items (drop moved.new fresh.now) }
-    ensures history { SameHistory replicas.old.entries kept.old.items (drop moved.old fresh.now)
-        replicas.new.entries kept.new.items (drop moved.new fresh.now) }
+    ensures holds { IsInTwoParts replicas.new.entries kept.new.items (entries_in (drop moved.new fresh.now)) }
+    ensures numbered { AreNumbered (shown_entries replicas.new.entries kept.new.items) (drop moved.new fresh.now) }
+    ensures history { SameHistory replicas.old.entries kept.old.items (entries_in (drop moved.old fresh.now))
+        replicas.new.entries kept.new.items (entries_in (drop moved.new fresh.now)) }
     ensures done { OnOk result (moved.new ≡ length fresh.now) }
 {
     while *moved < fresh.len() {
         kept.reserve_one()?;
-        let own = settle_entry(alloc, replicas, &fresh[*moved], guess)?;
+        let next = &fresh[*moved];
+        let own = settle_entry(alloc, replicas, &next.entry, next.series, guess)?;
         kept.push(own);
         *moved += 1;
     }
@@ -78,7 +84,7 @@ fn push_kept(
             replica: number,
             count,
             ..
-        } => match own_rows(replicas, number, replica) {
+        } => match own_rows(replicas, number as usize, replica) {
             Some(slot) => push_front(alloc, rows, slot, count as usize),
             None => Ok(()),
         },
@@ -86,7 +92,7 @@ fn push_kept(
             replica: number,
             row,
             ..
-        } => match own_rows(replicas, number, replica) {
+        } => match own_rows(replicas, number as usize, replica) {
             Some(slot) => rows.push(slot.row(alloc, row as usize)?),
             None => Ok(()),
         },
@@ -133,12 +139,13 @@ pub(crate) fn push_all_brought(
     alloc: Global,
     rows: &mut RowList,
     replica: Replica,
-    entries: &[Entry],
+    entries: &[FreshEntry],
 ) -> Result<(), OutOfMemory>
-    ensures added { OnOk result (rows.new ≡ rows.old ++ replica_rows replica.range replica.slot entries.now) }
+    ensures added { OnOk result
+        (rows.new ≡ rows.old ++ replica_rows replica.range replica.slot (entries_in entries.now)) }
 {
-    for entry in entries {
-        push_brought(alloc, rows, replica, entry)?;
+    for fresh in entries {
+        push_brought(alloc, rows, replica, &fresh.entry)?;
     }
     Ok(())
 }

@@ -1,11 +1,14 @@
 // The replicas that a leaf keeps, and entries whose rows go to them.
-ghost use Rattle.std.specs.Prelude.{◌≡◌, ◌++◌, ◌∷◌, [], true, false, length, slice_get, option_map, IfOk, IfSome};
-ghost use Rattle.std.specs.Prelude.{IsTrue, OnErr, OnOk};
+ghost use Rattle.std.specs.Prelude.{◌≡◌, ◌++◌, ◌∷◌, [], true, false, length, slice_get, option_map, IfOk, IfSome, Some};
+ghost use Rattle.std.specs.Prelude.{IsTrue, OnErr, OnOk, is_some};
 ghost use Rattle.std.specs.Option.{option_copied};
-ghost use Rattle.mon_value.specs.LeafHistories.{same_replica, IsSource, last_end, points_of};
+ghost use Rattle.mon_value.specs.LeafHistories.{same_replica, IsSource, last_end, points_of, series_of};
+ghost use Rattle.leaf_store.specs.within.FreshEntries.{HasKeptNumber};
 ghost use Rattle.leaf_store.specs.within.Replicas.{CanPut, CanSettle, HasSeries, IsLater, IsNewReplica, IsReplicaAdded};
-ghost use Rattle.leaf_store.specs.within.Replicas.{IsPut, SettlesEntry, has_row_of, rows_held, rows_if, rows_if_kept};
+ghost use Rattle.leaf_store.specs.within.Replicas.{IsPut, SettlesEntry, has_row_of, place_in, rows_held, rows_if};
+ghost use Rattle.leaf_store.specs.within.Replicas.{rows_if_kept};
 
+use crate::guess::Guess;
 use crate::kept::Kept;
 use crate::slot_rows::SlotRows;
 use indexmap::IndexMap;
@@ -35,6 +38,23 @@ pub(crate) fn rows_of(replicas: &Replicas, replica: Replica) -> Option<&SlotRows
     ensures found { option_copied result ≡ rows_held replicas.now.entries replica.range replica.slot }
 {
     replicas.get(&replica)
+}
+
+/// The rows of a replica. The place that is told is looked at first; where the replica has another one, that is told
+/// then.
+pub(crate) fn rows_near<'a>(
+    replicas: &'a Replicas,
+    replica: Replica,
+    place: &mut usize,
+) -> Option<&'a SlotRows>
+    ensures found { option_copied result ≡ rows_held replicas.now.entries replica.range replica.slot }
+{
+    if let Some(rows) = own_rows(replicas, *place, replica) {
+        return Some(rows);
+    }
+    let (at, _, rows) = replicas.get_full(&replica)?;
+    *place = at;
+    Some(rows)
 }
 
 /// Whether a replica was never opened.
@@ -68,62 +88,69 @@ fn ends_later(slot: &SlotRows, row: &Row) -> bool
 }
 
 /// The series of a key in a replica, if it has a row there. Only where it isn't the series whose number is guessed is
-/// it looked up.
+/// it looked up, and only where the replica's place is another one is that looked up, and told.
 pub(crate) fn find_series(
     replicas: &Replicas,
     replica: Replica,
     key: &Shared<SeriesKey>,
     guess: u32,
+    place: &mut usize,
 ) -> Option<KeptSeries>
     ensures has { IfSome result (λ found. HasSeries replicas.now.entries replica key.now) }
+    ensures number { IfSome result (λ found. slice_get (series_of (rows_if_kept
+        (rows_held replicas.now.entries replica.range replica.slot))) found.number ≡ Some key.now) }
     ensures last { option_map (λ found. found.last) result ≡ last_end
         (points_of key.now (rows_if_kept (rows_held replicas.now.entries replica.range replica.slot))) }
 {
-    match rows_of(replicas, replica) {
+    match rows_near(replicas, replica, place) {
         Some(slot) => slot.find(key, guess),
         None => None,
     }
 }
 
-/// The series of a key in a replica, if it has a row there. The number that comes next is guessed first; a series that
-/// is found is the next guess, and the one that is as far from it as it is from the last guess comes next.
+/// The series of a key in a replica, if it has a row there. The number that comes next is guessed first, and a series
+/// that is found is followed.
 pub(crate) fn find_next(
     replicas: &Replicas,
     replica: Replica,
     key: &Shared<SeriesKey>,
-    guess: &mut u32,
-    next: &mut u32,
+    guess: &mut Guess,
 ) -> Option<KeptSeries>
     ensures has { IfSome result (λ found. HasSeries replicas.now.entries replica key.now) }
+    ensures number { IfSome result (λ found. slice_get (series_of (rows_if_kept
+        (rows_held replicas.now.entries replica.range replica.slot))) found.number ≡ Some key.now) }
     ensures last { option_map (λ found. found.last) result ≡ last_end
         (points_of key.now (rows_if_kept (rows_held replicas.now.entries replica.range replica.slot))) }
 {
-    let found = find_series(replicas, replica, key, *next)?;
-    *next = found.number.wrapping_add(found.number.wrapping_sub(*guess));
-    *guess = found.number;
+    let found = find_series(replicas, replica, key, guess.next, &mut guess.place)?;
+    guess.follow(found.number);
     Some(found)
 }
 
 /// The rows of the replica of a number, where it is a certain one.
-pub(crate) fn own_rows(replicas: &Replicas, number: u32, replica: Replica) -> Option<&SlotRows>
+pub(crate) fn own_rows(replicas: &Replicas, number: usize, replica: Replica) -> Option<&SlotRows>
     ensures own { option_copied result
         ≡ rows_if replica.range replica.slot (slice_get replicas.now.entries number) }
+    ensures held { IfSome result (λ rows.
+        rows_held replicas.now.entries replica.range replica.slot ≡ Some rows.now) }
 {
-    match replicas.get_index(number as usize) {
+    match replicas.get_index(number) {
         Some((own, rows)) if is_same(replica, *own) => Some(rows),
         _ => None,
     }
 }
 
 /// Brings copies of an entry's rows to its replica, and gives the entry as it is kept then. Where memory runs out the
-/// replicas stay. The number of a row's series is guessed first.
+/// replicas stay. The number of a row's series is guessed where it isn't known.
 pub(crate) fn settle_entry(
     alloc: Global,
     replicas: &mut Replicas,
     entry: &Entry,
-    guess: u32,
+    series: Option<u32>,
+    guess: Guess,
 ) -> Result<Kept, OutOfMemory>
     requires settles { CanSettle replicas.old.entries entry.now }
+    requires numbered { IfSome series (HasKeptNumber replicas.old.entries entry.now) }
     ensures settled { IfOk result (λ kept. SettlesEntry replicas.old.entries replicas.new.entries entry.now kept) }
     ensures stayed { OnErr result (replicas.new.entries ≡ replicas.old.entries) }
 {
@@ -155,7 +182,7 @@ pub(crate) fn settle_entry(
                 range: *range,
                 slot: *slot,
             };
-            let put = put(alloc, replicas, replica, row, guess)?;
+            let put = put(alloc, replicas, replica, row, series, guess)?;
             Ok(Kept::Put {
                 pass: *pass,
                 replica: put.replica,
@@ -199,15 +226,18 @@ pub(crate) struct RowPut {
     pub(crate) known: bool,
 }
 
-/// Adds a copy of a row to a replica's rows. The number of its series is guessed first. Where memory runs out the
-/// replicas stay.
+/// Adds a copy of a row to a replica's rows. The number of its series is guessed where it isn't known. Where memory
+/// runs out the replicas stay.
 pub(crate) fn put(
     alloc: Global,
     replicas: &mut Replicas,
     replica: Replica,
     row: &Row,
-    guess: u32,
+    series: Option<u32>,
+    guess: Guess,
 ) -> Result<RowPut, OutOfMemory>
+    requires numbered { IfSome series (λ number. slice_get (series_of
+        (rows_if_kept (rows_held replicas.old.entries replica.range replica.slot))) number ≡ Some row.now.key) }
     requires later { CanPut replicas.old.entries replica row.now }
     ensures put { IfOk result (λ put.
         IsPut replicas.old.entries replicas.new.entries replica row.now put.replica put.row) }
@@ -215,7 +245,7 @@ pub(crate) fn put(
         (rows_if_kept (rows_held replicas.old.entries replica.range replica.slot))) }
     ensures stayed { OnErr result (replicas.new.entries ≡ replicas.old.entries) }
 {
-    let Some(at) = replicas.get_index_of(&replica) else {
+    let Some(at) = place_of(replicas, replica, guess.place) else {
         unreachable!();
     };
     let Ok(number) = u32::try_from(at) else {
@@ -224,7 +254,7 @@ pub(crate) fn put(
     let Some(slot) = replicas.get_index_mut(at) else {
         unreachable!();
     };
-    let (place, known) = put_in(alloc, slot, row, guess)?;
+    let (place, known) = put_in(alloc, slot, row, series, guess.series)?;
     Ok(RowPut {
         replica: number,
         row: place,
@@ -232,13 +262,37 @@ pub(crate) fn put(
     })
 }
 
+// The place of a replica. The one that is guessed is looked at first.
+fn place_of(replicas: &Replicas, replica: Replica, guess: usize) -> Option<usize>
+    ensures place { result ≡ place_in replicas.now.entries replica }
+    ensures kept { is_some result ≡ is_some (rows_held replicas.now.entries replica.range replica.slot) }
+{
+    if is_at(replicas, replica, guess) {
+        return Some(guess);
+    }
+    replicas.get_index_of(&replica)
+}
+
+// Whether a replica has a certain place.
+fn is_at(replicas: &Replicas, replica: Replica, place: usize) -> bool
+    ensures place { IsTrue result → place_in replicas.now.entries replica ≡ Some place }
+    ensures kept { IsTrue result → is_some (rows_held replicas.now.entries replica.range replica.slot) ≡ true }
+{
+    if place >= replicas.len() {
+        return false;
+    }
+    own_rows(replicas, place, replica).is_some()
+}
+
 // Adds a copy of a row to the rows of a replica, and gives its number and whether its series had a row there.
 fn put_in(
     alloc: Global,
     slot: &mut SlotRows,
     row: &Row,
+    series: Option<u32>,
     guess: u32,
 ) -> Result<(u32, bool), OutOfMemory>
+    requires numbered { IfSome series (λ number. slice_get (series_of slot.old) number ≡ Some row.now.key) }
     requires later { IsLater row.now slot.old }
     ensures place { IfOk result (λ at. at.0 ≡ length slot.old) }
     ensures known { IfOk result (λ at. at.1 ≡ has_row_of row.now.key slot.old) }
@@ -248,6 +302,6 @@ fn put_in(
     let Ok(place) = u32::try_from(slot.rows().len()) else {
         return Err(AllocError);
     };
-    let known = slot.push(row.copy(alloc)?, guess)?;
+    let known = slot.push(row.copy(alloc)?, series, guess)?;
     Ok((place, known))
 }

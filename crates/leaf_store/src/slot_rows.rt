@@ -1,6 +1,6 @@
 // The rows of a replica.
 ghost use Rattle.std.specs.Prelude.{◌≡◌, ◌++◌, ◌∷◌, ◌<◌, ◌<ℤ◌, [], length, slice_get, option_map, Some, IfNone, IfOk};
-ghost use Rattle.std.specs.Prelude.{IfSome, OnErr, OnOk};
+ghost use Rattle.std.specs.Prelude.{IfSome, OnErr, OnOk, is_some};
 ghost use Rattle.mon_value.specs.LeafHistories.{IsSource, last_end, points_of, series_of};
 ghost use Rattle.leaf_store.specs.within.Replicas.{has_row_of};
 
@@ -36,23 +36,43 @@ impl SlotRows {
         })
     }
 
-    /// Adds a row at the end, whose point ends later than those of its series, which is found by a guess as by `find`,
-    /// and tells whether the series had a row before. Where memory runs out the rows stay.
-    pub(crate) fn push(&mut self, row: Row, guess: u32) -> Result<bool, OutOfMemory>
+    /// Adds a row at the end, whose point ends later than those of its series, and tells whether the series had a row
+    /// before. Where the series' number isn't known, it is found by a guess as by `find`. Where memory runs out the
+    /// rows stay.
+    pub(crate) fn push(
+        &mut self,
+        row: Row,
+        series: Option<u32>,
+        guess: u32,
+    ) -> Result<bool, OutOfMemory>
+        requires series { IfSome series (λ number. slice_get (series_of self.old) number ≡ Some row.key) }
         requires later { IfSome (last_end (points_of row.key self.old)) (λ last. last <ℤ row.point.end) }
         ensures known { IfOk result (λ known. known ≡ has_row_of row.key self.old) }
         ensures pushed { OnOk result (self.new ≡ self.old ++ row ∷ []) }
         ensures kept { OnErr result (self.new ≡ self.old) }
     {
-        match self.find(&row.key, guess) {
-            Some(found) => {
-                self.rows.push_to(found.number, row)?;
+        match self.number(&row.key, series, guess) {
+            Some(number) => {
+                self.rows.push_to(number, row)?;
                 Ok(true)
             }
             None => {
                 self.rows.push_first(row)?;
                 Ok(false)
             }
+        }
+    }
+
+    // The number of the series of a key, if it has a row. Only where it isn't known is the series looked for.
+    fn number(&self, key: &Shared<SeriesKey>, series: Option<u32>, guess: u32) -> Option<u32>
+        requires series { IfSome series (λ number. slice_get (series_of self.now) number ≡ Some key.now) }
+        ensures number { IfSome result (λ number. slice_get (series_of self.now) number ≡ Some key.now) }
+        ensures known { is_some result ≡ has_row_of key.now self.now }
+        ensures none { IfNone result (points_of key.now self.now ≡ []) }
+    {
+        match series {
+            Some(number) => Some(number),
+            None => number_of(self.find(key, guess)),
         }
     }
 
@@ -123,4 +143,12 @@ impl SlotRows {
     {
         self.rows.points(i)
     }
+}
+
+// The number of a series.
+fn number_of(series: Option<KeptSeries>) -> Option<u32>
+    ensures number { result ≡ option_map (λ found. found.number) series }
+{
+    let found = series?;
+    Some(found.number)
 }

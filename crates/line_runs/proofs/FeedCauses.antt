@@ -12,7 +12,7 @@ use Rattle.history_book.specs.declared.views.History.TheVariants as of
 use Rattle.know.specs.Knowledge.{Knowledge}
 use Rattle.line_runs.specs.Feeding.{CanBeTold}
 use Rattle.mon_config.specs.declared.config.Config.{Config}
-use Rattle.mon_store.proofs.OwnLemmas.{within_front}
+use Rattle.know.proofs.SoundLemmas.{within_front}
 use Rattle.mon_store.specs.Writes.{AreAllDown, IsRefused, IsRefusedAs, WasFoundSo}
 use Rattle.mon_topo.proofs.FrontLemmas.{begins_length, begins_through, take_on}
 use Rattle.mon_value.proofs.PlainLemmas.{equal_itself}

@@ -11,7 +11,7 @@ use Rattle.line_runs.specs.Feeding.{AreFed}
 use Rattle.line_runs.specs.LineWrites.{KeepsItsPlace, LineWrote, ran_line}
 use Rattle.mon_config.specs.declared.config.Config.{Config}
 use Rattle.mon_points.specs.Records.{reads_of}
-use Rattle.mon_store.proofs.OwnLemmas.{within_front}
+use Rattle.know.proofs.SoundLemmas.{within_front}
 use Rattle.mon_topo.specs.HeldHistories.{AreHeld}
 use Rattle.mon_topo.specs.RangeHistories.{acknowledged_rows}
 use Rattle.mon_value.specs.Histories.{range_history}

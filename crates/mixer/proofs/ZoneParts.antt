@@ -24,6 +24,7 @@ use Rattle.mixer.proofs.NodePieces.{joins_of_piece, piece_here, same_count}
 use Rattle.mixer.proofs.TreePieces.{come-drop, meant, rows_come}
 use Rattle.mixer.proofs.TreeWork.{can_mix, load_over, loads_come, one_load, over}
 use Rattle.mon_value.proofs.PlainLemmas.{all_append}
+use Rattle.mon_meaning.proofs.PartsToComeLemmas.{part_or-all}
 
 -- ---- parts of lower levels
 
@@ -112,12 +113,6 @@ pub record IsPartMade (grid : Grid) (source : List Row) (part : TopPart) : Type 
   pub can : IsWithinRows (load_of grid part.1 source) → CanGoUp (columns_of part.1) part.0
       (rows_meant grid part.1 source)
 
-part_all : (P : TopPart → Type 0) (b : Bool) (use_of : PartUse) (part : NodeTree) (below : List TopPart)
-    → P (use_of, part)
-    → AllByRecursion P below → AllByRecursion P (part_or b use_of part below)
-part_all P true use_of part below own all = (own, tt)
-part_all P false use_of part below own all = all
-
 module _ (grid : Grid) (source : List Row) (here : Level → Bool) where
   abbrev Made : TopPart → Type 0
   Made part = IsPartMade grid source part
@@ -128,28 +123,28 @@ module _ (grid : Grid) (source : List Row) (here : Level → Bool) where
   pub parts_made : (tree : NodeTree) → IsEvaluable grid tree source → AllByRecursion Made (top_parts here tree)
   parts_made (node.Fetch info schema metric) can = (as_rows (node.Fetch info schema metric) can, tt)
   parts_made (node.Filter info by input) can =
-      part_all Made (here info.level) AsRows (node.Filter info by input) _ (as_rows (node.Filter info by input) can)
+      part_or-all Made (here info.level) AsRows (node.Filter info by input) _ (as_rows (node.Filter info by input) can)
       (parts_made input can)
   parts_made (node.Align info by input) can = (as_rows (node.Align info by input) can, tt)
   parts_made (node.GroupBy info by with input) can =
-      part_all Made (here info.level) AsRows (node.GroupBy info by with input)
+      part_or-all Made (here info.level) AsRows (node.GroupBy info by with input)
       _ (as_rows (node.GroupBy info by with input) can)
-      (part_all Made (here (level_of input)) (ToGroup by with) input _ (record { evaluable = can.1; can = can.0 })
+      (part_or-all Made (here (level_of input)) (ToGroup by with) input _ (record { evaluable = can.1; can = can.0 })
       (parts_made input can.1))
   parts_made (node.Value info items input) can =
-      part_all Made (here info.level) AsRows (node.Value info items input) _ (as_rows (node.Value info items input) can)
+      part_or-all Made (here info.level) AsRows (node.Value info items input) _ (as_rows (node.Value info items input) can)
       (parts_made input can.1.1)
   parts_made (node.Top info most column input) can =
-      part_all Made (here info.level) AsRows (node.Top info most column input)
+      part_or-all Made (here info.level) AsRows (node.Top info most column input)
       _ (as_rows (node.Top info most column input) can)
-      (part_all Made (here (level_of input)) (ToCut most column) input _ (record { evaluable = can; can = λ few. tt })
+      (part_or-all Made (here (level_of input)) (ToCut most column) input _ (record { evaluable = can; can = λ few. tt })
       (parts_made input can))
   parts_made (node.Join info left right) can =
-      part_all Made (here info.level) AsRows (node.Join info left right) _ (as_rows (node.Join info left right) can)
+      part_or-all Made (here info.level) AsRows (node.Join info left right) _ (as_rows (node.Join info left right) can)
       (all_append Made (top_parts here left) (top_parts here right) (parts_made left can.1.1.0)
       (parts_made right can.1.1.1))
   parts_made (node.Union info left right) can =
-      part_all Made (here info.level) AsRows (node.Union info left right) _ (as_rows (node.Union info left right) can)
+      part_or-all Made (here info.level) AsRows (node.Union info left right) _ (as_rows (node.Union info left right) can)
       (all_append Made (top_parts here left) (top_parts here right) (parts_made left can.0) (parts_made right can.1))
 
 -- ---- what a zone hands up

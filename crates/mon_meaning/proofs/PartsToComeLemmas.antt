@@ -1,6 +1,7 @@
 -- Parts to come: one that is put at the end comes first.
 use Rattle.std.proofs.Common.{◌≡◌, ◌∙◌, ◌<◌, ◌+◌, ℕ, Bool, true, false, List, [], ◌∷◌, ◌++◌, Result, OnOk, ap, sym}
 use Rattle.std.proofs.Common.{refl, append-nil, append_assoc, arith}
+use Rattle.std.specs.List.{AllByRecursion}
 use Rattle.std.proofs.lemmas.Result.{on_ok_weaker}
 use Rattle.std.proofs.lemmas.List.{map-append}
 use Rattle.mql_types.specs.Nodes as node
@@ -32,6 +33,12 @@ own : (b : Bool) (use_of : spec.PartUse) (part : NodeTree) → part_or b use_of 
     ≡ (use_of, part) ∷ []
 own true use_of part = refl
 own false use_of part = refl
+
+pub part_or-all : (P : spec.TopPart → Type 0) (b : Bool) (use_of : spec.PartUse) (part : NodeTree)
+    (below : List spec.TopPart) → P (use_of, part) → AllByRecursion P below
+    → AllByRecursion P (part_or b use_of part below)
+part_or-all P true use_of part below own all = (own, tt)
+part_or-all P false use_of part below own all = all
 
 -- a tree whose rows go up has its own topmost parts
 pub rows_parts : (here : Level → Bool) (tree : NodeTree) → parts_of_part here (as_rows tree) ≡ top_parts here tree

@@ -158,7 +158,7 @@ series_push rows row =
     ∙ with_keys (points_by_series rows) row.key row.point
     ∙ ap (λ (keys : List SeriesKey). cond (has_series row.key keys) keys (keys ++ row.key ∷ [])) (series_keys rows)
 
-has_at : (key : SeriesKey) (keys : List SeriesKey) (at : ℕ) → slice_get keys at ≡ Some key → has_series key keys ≡ true
+pub has_at : (key : SeriesKey) (keys : List SeriesKey) (at : ℕ) → slice_get keys at ≡ Some key → has_series key keys ≡ true
 has_at key [] at there = absurd cc
 has_at key (k ∷ keys) zero there =
     let same : k ≡ key = cc in

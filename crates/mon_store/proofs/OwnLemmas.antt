@@ -14,9 +14,9 @@ use Rattle.history_book.specs.declared.views.History.{History}
 use Rattle.history_book.specs.declared.views.History.TheVariants as of
 use Rattle.history_book.specs.declared.views.Kept.{Kept}
 use Rattle.know.specs.Knowledge.{Knowledge}
-use Rattle.mon_topo.proofs.FrontLemmas.{begins_from, begins_to, behind}
+use Rattle.mon_topo.proofs.FrontLemmas.{begins_to, behind}
 use Rattle.mon_value.proofs.PlainLemmas.{prefix_map}
-use Rattle.mon_topo.specs.HeldHistories.{BeginsWith, AreWithin}
+use Rattle.mon_topo.specs.HeldHistories.{BeginsWith}
 use Rattle.mon_value.specs.Histories.{leaf_history, range_history}
 use Rattle.mon_value.specs.declared.histories.Histories.{Histories}
 use Rattle.mon_store.specs.Passes.{HasSeenItsOwn}
@@ -32,13 +32,6 @@ entries_front a b front (of.Leaf leaf) =
     prefix_map (λ e. one.Leaf e) (leaf_history a leaf) (leaf_history b leaf) (front.0 leaf)
 entries_front a b front (of.Range range) =
     prefix_map (λ e. one.Range e) (range_history a range) (range_history b range) (front.1 range)
-
-pub within_front : (a b : Histories) → AreFronts a b → AreWithin a b
-within_front a b front = record {
-  leaves = λ leaf. begins_from (leaf_history b leaf) (leaf_history a leaf) (front.0 leaf).0 (sym (front.0 leaf).1);
-  ranges = λ range. begins_from (range_history b range) (range_history a range) (front.1 range).0
-      (sym (front.1 range).1);
-}
 
 module _ {X : Type 0} where
   drop_front : (xs ys : List X) → drop (length xs) (xs ++ ys) ≡ ys

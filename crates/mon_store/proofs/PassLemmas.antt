@@ -16,7 +16,8 @@ use Rattle.mon_topo.proofs.HeldLemmas.{seen_within_through}
 use Rattle.mon_topo.specs.HeldHistories.{first_histories}
 use Rattle.mon_topo.specs.Settings.{Setting}
 use Rattle.owners.specs.Puts.{number_or, pass_of}
-use Rattle.mon_store.proofs.OwnLemmas.{still_exact, within_front}
+use Rattle.mon_store.proofs.OwnLemmas.{still_exact}
+use Rattle.know.proofs.SoundLemmas.{within_front}
 use Rattle.mon_store.specs.Passes.{IsPass, OwnsTheSame}
 use Rattle.write_core.proofs.AckLemmas.{contains_one}
 

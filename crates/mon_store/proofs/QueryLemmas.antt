@@ -23,7 +23,8 @@ use Rattle.raise_table.specs.Tables.{RaiseIdentity}
 use Rattle.running_query.specs.Asking.{IsAskedHere}
 use Rattle.running_query.specs.Ends.{EndsRightly}
 use Rattle.running_query.specs.Looks.{GoesOn}
-use Rattle.mon_store.proofs.OwnLemmas.{still_exact, within_front}
+use Rattle.mon_store.proofs.OwnLemmas.{still_exact}
+use Rattle.know.proofs.SoundLemmas.{within_front}
 use Rattle.mon_store.proofs.PassLemmas.{number_still}
 use Rattle.leaf_store.proofs.BucketLemmas.{own_buckets}
 use Rattle.mon_store.specs.Passes.{IsPass}

@@ -22,7 +22,8 @@ use Rattle.mon_value.specs.declared.positions.Leaf.{Leaf}
 use Rattle.owners.specs.Puts.{number_or, pass_of}
 use Rattle.mon_store.proofs.ListLemmas.{Differ, all_came}
 use Rattle.mon_store.proofs.PassLemmas.{number_still, same_owner}
-use Rattle.mon_store.proofs.OwnLemmas.{came, entries_front, still_exact, within_front}
+use Rattle.mon_store.proofs.OwnLemmas.{came, entries_front, still_exact}
+use Rattle.know.proofs.SoundLemmas.{within_front}
 use Rattle.mon_store.specs.Passes.{IsPass}
 use Rattle.mon_store.specs.Writes.{IsStill, IsUnwritten, new_entries, own_entries}
 use Rattle.mon_value.proofs.PlainLemmas.{contains_kept}

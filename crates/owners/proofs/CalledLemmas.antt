@@ -1,6 +1,6 @@
 -- What a caller has once it came to a leaf's owner and went again.
 use Rattle.std.proofs.Common.{◌≡◌, ◌≢◌, ℕ, ◌+◌, ◌<◌, Bool, true, false, not, List, [], ◌∷◌, ◌++◌}
-use Rattle.std.proofs.Common.{inl, inr, length, map, filter, refl, sym, ap, subst, ◌∙◌}
+use Rattle.std.proofs.Common.{inl, inr, length, filter, refl, sym, ap, subst, ◌∙◌}
 use Rattle.std.proofs.lemmas.Bool.{cases_eq}
 use Rattle.std.proofs.Common.{cond, Some, None}
 use Rattle.std.specs.Prelude.{Option, option_map}
@@ -14,7 +14,7 @@ use Rattle.history_book.specs.declared.views.BookEntry.TheVariants as one
 use Rattle.history_book.specs.declared.views.Kept.{Kept}
 use Rattle.history_book.specs.Histories.{AreFronts, entries, is_about, leaf_entry_is_about, with_book_entry}
 use Rattle.history_book.specs.Seats.{HasGuestRoom, Owner, after_append, after_own_learn, guest_seat, is_own_range}
-use Rattle.history_book.specs.Seats.{kept_with}
+use Rattle.history_book.specs.Seats.{hand_of, kept_with}
 use Rattle.history_book.specs.Seats.{length_note, rooms_after, times_range, times_room, with_guest}
 use Rattle.history_book.proofs.ListLemmas.{added_else, added_here, prefix_push}
 use Rattle.know.specs.Knowledge.{Knowledge}
@@ -35,6 +35,7 @@ use Rattle.owners.specs.Receiving.{HasGone, HasReceived}
 use Rattle.raise_table.specs.declared.views.Hints.{Hints}
 use Rattle.raise_table.specs.Seats.{KnowsAsMuch, met, without_notes}
 use Rattle.raise_table.proofs.KnowsLemmas.{meet_knows_both}
+use Rattle.owners.specs.Puts.{number_or, pass_of}
 
 module _ {X : Type 0} (test : X → Bool) (all : (x : X) → test x ≡ true) where
   kept_by : (x : X) (xs : List X) (b : Bool) → b ≡ true → filter test xs ≡ xs
@@ -274,3 +275,8 @@ module _ (leaf : Leaf) (history : List Entry) (rooms : RoomMove) (before after :
 
   pub looks : HasLooked leaf (rooms_after rooms (of.Leaf leaf) before.purse.rooms) before after
   looks = record { history = history; called = gone.called; rooms_are = gone.rooms_are; handed = gone.handed }
+
+-- its number, once it was seen that it has one
+pub has_number : (know : Knowledge) (n : ℕ) → Some n ≡ (hand_of know.purse).own
+    → (hand_of know.purse).own ≡ Some (pass_of know)
+has_number know n is = sym is ∙ ap (λ own. Some (number_or 0 own)) is

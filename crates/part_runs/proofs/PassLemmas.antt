@@ -10,7 +10,7 @@ use Rattle.history_book.specs.declared.views.History.{History}
 use Rattle.history_book.specs.declared.views.Kept.{Kept}
 use Rattle.know.specs.Knowledge.{Knowledge}
 use Rattle.mon_store.specs.Passes.{HasSeenItsOwn}
-use Rattle.mon_store.proofs.OwnLemmas.{within_front}
+use Rattle.know.proofs.SoundLemmas.{within_front}
 use Rattle.mon_topo.specs.HeldHistories.{AreHeld}
 use Rattle.mon_topo.specs.Settings.{Setting}
 use Rattle.mon_value.specs.declared.histories.Histories.{Histories}

@@ -1,7 +1,6 @@
 -- A caller holds no range behind each of its calls.
-use Rattle.std.proofs.Common.{◌≡◌, ℕ, List, [], ◌++◌, sym, ap, ◌∙◌, Some, append-nil}
+use Rattle.std.proofs.Common.{◌≡◌, ℕ, List, [], ◌++◌, ap, ◌∙◌, append-nil}
 use Rattle.std.specs.Prelude.{IfOk, OnErr, Result, Ok, Err}
-use Rattle.history_book.specs.Seats.{hand_of}
 use Rattle.know.specs.Knowledge.{Knowledge}
 use Rattle.know.specs.declared.answers.Copied.{Copied}
 use Rattle.know.specs.declared.answers.Copied.TheVariants as copied
@@ -13,17 +12,11 @@ use Rattle.mon_value.specs.declared.positions.Slot.{Slot}
 use Rattle.mon_value.specs.declared.rows.Row.{Row}
 use Rattle.owners.specs.Calls.{HasLooked}
 use Rattle.owners.specs.Copies.{HasCopied}
-use Rattle.owners.specs.Puts.{number_or, pass_of}
 use Rattle.range_cell.specs.Calls.{HasBegun}
 use Rattle.range_cell.specs.Rest.{others}
 use Rattle.range_cell.specs.Writes.{AtLock, Behind, HasTriedTo, HasWritten}
 use Rattle.range_cell.specs.declared.answers.WriteFault.{WriteFault}
 use Rattle.range_cell.specs.declared.answers.WriteFault.TheVariants as fault
-
--- its number, once it was seen that it has one
-pub has_number : (know : Knowledge) (n : ℕ) → Some n ≡ (hand_of know.purse).own
-    → (hand_of know.purse).own ≡ Some (pass_of know)
-has_number know n is = sym is ∙ ap (λ own. Some (number_or 0 own)) is
 
 -- who held nothing, and then the range, holds nothing but the range
 begun_none : (leaves : ℕ) (range : Range) (history : List RangeEntry) (before begun : Knowledge) (holds : List Range)

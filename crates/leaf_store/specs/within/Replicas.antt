@@ -2,8 +2,8 @@
 -- them.
 use Rattle.std.specs.Prelude.{◌≡◌, ◌<ℤ◌, ℕ, true, List, [], ◌∷◌, ◌++◌, length, take, nat_lt, is_some, slice_get, Option}
 use Rattle.std.specs.Prelude.{Bool, Some, None, option_map, IfSome, if◌then◌else◌}
-use Rattle.std.specs.List.{AllByRecursion}
-use Rattle.std.specs.Map.{lookup}
+use Rattle.std.specs.List.{AllByRecursion, position}
+use Rattle.std.specs.Map.{keys_of, lookup}
 use Rattle.indexmap.specs.Layout.{set_value_at}
 use Rattle.mon_value.specs.LeafHistories.{IsWellFormed, MayFollow, same_replica, last_end, points_of}
 use Rattle.mon_value.specs.declared.histories.Entry.{Entry}
@@ -24,6 +24,11 @@ Replicas = List (Replica × List Row)
 -- the rows that are kept for a replica
 abbrev pub rows_held : Replicas → Range → Slot → Option (List Row)
 rows_held replicas range slot = lookup (λ replica. same_replica range slot replica.range replica.slot) replicas
+
+-- the place of a replica
+abbrev pub place_in : Replicas → Replica → Option ℕ
+place_in replicas replica =
+    position (λ other. same_replica replica.range replica.slot other.range other.slot) (keys_of replicas)
 
 -- the rows of a replica, none where it isn't kept
 abbrev pub rows_if_kept : Option (List Row) → List Row

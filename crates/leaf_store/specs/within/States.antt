@@ -9,11 +9,12 @@ use Rattle.mon_value.specs.declared.limits.TheConstants.{MOST_BUCKETS, MOST_SWIT
 use Rattle.mon_hints.specs.Hints.{history_buckets}
 use Rattle.leaf_store.specs.LeafStates.{key_buckets, LeafView}
 use Rattle.leaf_store.specs.declared.leaf_state.LeafState.TheInside.{Inside}
+use Rattle.leaf_store.specs.within.FreshEntries.{AreNumbered, entries_in}
 use Rattle.leaf_store.specs.within.Replicas.{IsInTwoParts, shown_entries}
 
 -- the entries that are left, whose rows aren't with the replicas yet
 abbrev pub left_of : Inside → List Entry
-left_of leaf = drop leaf.moved leaf.fresh.items
+left_of leaf = entries_in (drop leaf.moved leaf.fresh.items)
 
 abbrev pub history_inside : Inside → List Entry
 history_inside leaf = shown_entries leaf.replicas.entries leaf.kept.items ++ left_of leaf
@@ -31,12 +32,13 @@ leaf_view leaf = record {
 abbrev pub AllSwitches : List Entry → Type 0
 AllSwitches entries = AllByRecursion (λ entry. is_switch entry ≡ true) entries
 
--- the rows of what is kept are with the replicas; the set has the history's buckets; whether the leaf is down and how
--- many switches it may still have are those of the history; a settled leaf has only switches left; and there is room
--- for what is promised and for the switches to come
+-- the rows of what is kept are with the replicas, and what is left has its series' numbers; the set has the history's
+-- buckets; whether the leaf is down and how many switches it may still have are those of the history; a settled leaf
+-- has only switches left; and there is room for what is promised and for the switches to come
 pub record IsLeafKept (leaf : Inside) : Type 0 where
   pub within : leaf.moved ≤ length leaf.fresh.items
   pub holds : IsInTwoParts leaf.replicas.entries leaf.kept.items (left_of leaf)
+  pub numbered : AreNumbered (shown_entries leaf.replicas.entries leaf.kept.items) (drop leaf.moved leaf.fresh.items)
   pub raised : (bucket : ℕ) → is_set leaf.raised.words bucket
       ≡ is_among bucket (history_buckets (key_buckets leaf.buckets leaf.schemas) (history_inside leaf))
   pub down : leaf.down ≡ is_down (history_inside leaf)

@@ -1,6 +1,7 @@
 use Rattle.std.proofs.Common.{◌≡◌, ℕ, List, [], rules, sym, subst}
 use Rattle.cell_cases.proofs.PlaceLemmas.{may_open}
-use Rattle.cell_cases.proofs.WriterLemmas.{after_opened, has_number}
+use Rattle.cell_cases.proofs.WriterLemmas.{after_opened}
+use Rattle.owners.proofs.CalledLemmas.{has_number}
 use Rattle.cell_cases.specs.Writers.{first_slot}
 use Rattle.know.specs.declared.answers.Found.TheVariants as found
 use Rattle.mon_value.specs.Histories.{leaf_numbered}

@@ -1,6 +1,7 @@
 use Rattle.std.proofs.Common.{◌≡◌, ℕ, true, rules, sym, ap, subst, ◌∙◌}
 use Rattle.cell_cases.proofs.PlaceLemmas.{leaf_there}
-use Rattle.cell_cases.proofs.WriterLemmas.{after_put, has_number, source_pushed, waits}
+use Rattle.cell_cases.proofs.WriterLemmas.{after_put, source_pushed, waits}
+use Rattle.owners.proofs.CalledLemmas.{has_number}
 use Rattle.cell_cases.specs.Writers.{first_slot}
 use Rattle.mon_schema.specs.Fits.{fits}
 use Rattle.mon_schema.specs.Names.{SchemaLists}

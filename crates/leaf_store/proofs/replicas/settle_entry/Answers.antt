@@ -1,8 +1,9 @@
-use Rattle.std.proofs.Common.{List, sym, subst}
+use Rattle.std.proofs.Common.{List, IfSome, sym, subst}
 use Rattle.mon_value.specs.declared.histories.Entry.{Entry}
 use Rattle.mon_value.specs.declared.rows.Row.{Row}
 use Rattle.leaf_store.specs.declared.kept.Kept.TheVariants as kept
 use Rattle.leaf_store.specs.declared.replicas.Replica.{Replica}
+use Rattle.leaf_store.specs.within.FreshEntries.{HasKeptNumber}
 use Rattle.leaf_store.specs.within.Replicas.{CanSettle, IsReplicaAdded, SettlesEntry}
 use Rattle.leaf_store.proofs.EntryLemmas.{down_settles, opened_settles, put_settles, up_settles}
 use Rattle.leaf_store.proofs.StepLemmas.{can_put, is_new}
@@ -13,6 +14,7 @@ put-requires c =
     let replica : Replica = record { range = c.in-Put.range; slot = c.in-Put.slot } in
     let old = c.args.replicas.now.entries in
     record {
+      numbered = subst (λ (e : Entry). IfSome c.args.series (HasKeptNumber old e)) c.in-Put.is c.requires.numbered;
       later = can_put old c.in-Put.pass replica c.in-Put.row (subst (CanSettle old) c.in-Put.is
           c.requires.settles);
     }

@@ -62,6 +62,7 @@ enter-requires g c =
       leads = subst (LeadsOn setting now.hints.hints now.leaf state.history) (sym is)
           (switch_leads setting now.hints.hints now.leaf state.history to pass);
       promised = λ no. absurd (let never : false ≡ true = sym no ∙ yes in cc);
+      known = tt;
       number = ap (λ (o : Owner). (hand_of (guest_purse o.guest)).own) came.book ∙ sym c.in-Some.ensures.number
           ∙ ap (λ (n : ℕ). Some n) (sym (ap leaf_entry_pass is ∙ switch_pass to pass));
       held = λ range about. absurd (let never : false ≡ true =

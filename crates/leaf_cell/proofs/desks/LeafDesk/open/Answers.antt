@@ -40,6 +40,7 @@ enter-requires g c =
           LeadsOn setting now.hints.hints now.leaf c.promised.new.state.history (opening rows)) none
           (λ bucket there lacks. absurd cc);
       promised = λ _. subst (λ (s : store.LeafView). 1 ≤ s.promised) (sym c.in_ok-rows.ensures.promised) (omega arith);
+      known = tt;
       number = ap (λ (o : Owner). (hand_of (guest_purse o.guest)).own) came.book ∙ sym c.in-Some.ensures.number;
       held = λ range same. subst (λ (o : Owner). 0 < times_range range (o.held ++ (guest_purse o.guest).holds))
           (sym came.book)

@@ -117,6 +117,7 @@ enter-requires g c =
           (subst (λ (s : store.LeafView). is_among bucket (history_buckets setting.buckets_of s.history) ≡ false)
           there lacks))));
       promised = λ no. subst (λ (s : store.LeafView). 1 ≤ s.promised) (sym there) (omega arith);
+      known = tt;
       number = ap (λ (o : Owner). (hand_of (guest_purse o.guest)).own) booked ∙ sym c.in-Some.ensures.number;
       held = λ other same. subst (λ (o : Owner). 0 < times_range other (o.held ++ (guest_purse o.guest).holds))
           (sym booked) (holds_among other range owner.book.held know.purse.holds same may.holds);

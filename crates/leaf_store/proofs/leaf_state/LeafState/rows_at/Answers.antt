@@ -1,8 +1,11 @@
 use Rattle.std.proofs.Common.{rules, ◌≡◌, ◌∙◌, ◌<◌, ◌≤◌, ◌-◌, ◌++◌, ℕ, IfOk, List, length, take, drop, sym, ap, subst}
+use Rattle.std.proofs.lemmas.List.{length-map, take-map}
 use Rattle.mon_value.specs.LeafHistories.{replica_rows}
 use Rattle.mon_value.specs.declared.histories.Entry.{Entry}
 use Rattle.mon_value.specs.declared.rows.Row.{Row}
 use Rattle.leaf_store.specs.LeafStates.{LeafView}
+use Rattle.leaf_store.specs.declared.fresh.FreshEntry.{FreshEntry}
+use Rattle.leaf_store.specs.within.FreshEntries.{entries_in}
 use Rattle.leaf_store.specs.within.Replicas.{rows_if_kept, rows_held}
 use Rattle.leaf_store.specs.within.States.{history_inside, left_of}
 use Rattle.leaf_store.proofs.StepLemmas.{cut_left, rows_early, rows_late}
@@ -15,15 +18,17 @@ in_front-requires c =
     let ks = leaf.kept.items in
     let more : length ks ≤ cut = search rules in
     let len : c.len-2.result ≡ length ks = search rules in
-    let left : c.behind-left.result.now ≡ left_of leaf = c.behind-left.ensures.behind ∙ ap (drop leaf.moved)
-    c.as_slice.ensures.value in
+    let left : entries_in c.behind-left.result.now ≡ left_of leaf =
+    ap entries_in (c.behind-left.ensures.behind ∙ ap (drop leaf.moved) c.as_slice.ensures.value) in
+    let count = length-map c.behind-left.result.now (λ (one : FreshEntry). one.entry) in
     let within : cut ≤ length (history_inside leaf) = subst (λ (v : LeafView). cut ≤ length v.history)
     (sym c.self.view_is)
     c.requires.within in
     let fits = cut_left leaf.replicas.entries ks (left_of leaf) cut c.self.invariant.holds.there within more in
     record {
       within = subst (λ (m : ℕ). cut - m ≤ length c.behind-left.result.now) (sym len)
-          (subst (λ (es : List Entry). cut - length ks ≤ length es) (sym left) fits);
+          (subst (λ (m : ℕ). cut - length ks ≤ m) count
+          (subst (λ (es : List Entry). cut - length ks ≤ length es) (sym left) fits));
     }
 
 pub returns-then-cut-len : goal.returns-then-cut-len
@@ -52,11 +57,13 @@ returns c =
     let replicas = leaf.replicas.entries in
     let more : length ks ≤ cut = search rules in
     let len : c.len-2.result ≡ length ks = search rules in
-    let left : c.behind-left.result.now ≡ left_of leaf = c.behind-left.ensures.behind ∙ ap (drop leaf.moved)
-    c.as_slice.ensures.value in
+    let left : entries_in c.behind-left.result.now ≡ left_of leaf =
+    ap entries_in (c.behind-left.ensures.behind ∙ ap (drop leaf.moved) c.as_slice.ensures.value) in
     let held = c.in_ok-push_held.ensures.added ∙ (λ i. c.new-rows.ensures.empty i
     ++ rows_if_kept (rows_held replicas range slot)) in
-    let brought : c.in_front.result.now ≡ take (cut - length ks) (left_of leaf) = c.in_front.ensures.front
+    let brought : entries_in c.in_front.result.now ≡ take (cut - length ks) (left_of leaf) =
+    ap entries_in c.in_front.ensures.front
+    ∙ sym (take-map (λ (one : FreshEntry). one.entry) (cut - c.len-2.result) c.behind-left.result.now)
     ∙ (λ i. take (cut - len i) (left i)) in
     record {
       rows = c.in_ok-push_all_brought.ensures.added

@@ -5,6 +5,8 @@ use Rattle.mon_value.specs.LeafHistories.{is_down, is_switch}
 use Rattle.mon_value.specs.declared.histories.Entry.{Entry}
 use Rattle.mon_hints.specs.Hints.{history_buckets}
 use Rattle.leaf_store.specs.LeafStates.{key_buckets}
+use Rattle.leaf_store.specs.declared.fresh.FreshEntry.{FreshEntry}
+use Rattle.leaf_store.specs.within.FreshEntries.{AreNumbered, entries_in}
 use Rattle.leaf_store.specs.within.Replicas.{IsInTwoParts, shown_entries}
 use Rattle.leaf_store.specs.within.States.{history_inside}
 use Rattle.leaf_store.proofs.StateLemmas.{later_switches}
@@ -18,13 +20,16 @@ invariant_of-self c =
     let moved = c.settle_entries.new.moved in
     let fresh = leaf.fresh.items in
     let items = c.as_slice.ensures.value in
-    let same : shown_entries replicas ks ++ drop moved fresh ≡ history_inside leaf =
-    ap (λ (es : List Entry). shown_entries replicas ks ++ drop moved es) (sym items) ∙ c.settle_entries.ensures.history
-    ∙ ap (λ (es : List Entry). shown_entries leaf.replicas.entries leaf.kept.items ++ drop leaf.moved es) items in
+    let same : shown_entries replicas ks ++ entries_in (drop moved fresh) ≡ history_inside leaf =
+    ap (λ (es : List FreshEntry). shown_entries replicas ks ++ entries_in (drop moved es)) (sym items)
+    ∙ c.settle_entries.ensures.history ∙ ap (λ (es : List FreshEntry). shown_entries leaf.replicas.entries leaf.kept.items
+    ++ entries_in (drop leaf.moved es)) items in
     record {
-      within = subst (λ (es : List Entry). moved ≤ length es) items c.settle_entries.ensures.within;
-      holds = subst (λ (es : List Entry). IsInTwoParts replicas ks (drop moved es)) items
+      within = subst (λ (es : List FreshEntry). moved ≤ length es) items c.settle_entries.ensures.within;
+      holds = subst (λ (es : List FreshEntry). IsInTwoParts replicas ks (entries_in (drop moved es))) items
           c.settle_entries.ensures.holds;
+      numbered = subst (λ (es : List FreshEntry). AreNumbered (shown_entries replicas ks) (drop moved es)) items
+          c.settle_entries.ensures.numbered;
       raised = λ bucket. c.self.invariant.raised bucket
           ∙ ap (λ (es : List Entry). is_among bucket (history_buckets (key_buckets leaf.buckets leaf.schemas) es))
           (sym same);

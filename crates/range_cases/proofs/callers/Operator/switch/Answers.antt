@@ -1,4 +1,4 @@
-use Rattle.range_cases.proofs.CallerLemmas.{has_number}
+use Rattle.owners.proofs.CalledLemmas.{has_number}
 use Rattle.range_cases.proofs.callers.Operator.switch.Goals as goal
 
 pub control-switched-requires : goal.control-switched-requires

@@ -5,7 +5,8 @@ use Rattle.mon_topo.specs.HeldHistories.{IsAtHome}
 use Rattle.mon_topo.specs.Settings.{Setting}
 use Rattle.mon_value.specs.Histories.{range_numbered}
 use Rattle.owners.specs.Puts.{pass_of}
-use Rattle.range_cases.proofs.CallerLemmas.{has_number, written_none}
+use Rattle.range_cases.proofs.CallerLemmas.{written_none}
+use Rattle.owners.proofs.CalledLemmas.{has_number}
 use Rattle.range_cases.proofs.places.Place.write_row.Goals as goal
 
 pub write-requires : goal.write-requires
