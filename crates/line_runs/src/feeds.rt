@@ -83,7 +83,7 @@ fn fed_records<N: Names, R: Wait>(
         fed.accepted fed.refused p.old p.new) }
     ensures fronts { AreFronts p.old.seen p.new.seen }
 {
-    let mut fed = none_fed(alloc, line_count(content))?;
+    let mut fed = none_fed(alloc, likely_rows(content))?;
     match feed_content(rt, alloc, store, p, content, &mut fed) {
         Ok(()) => Ok(fed),
         Err(fault) => {
@@ -93,10 +93,15 @@ fn fed_records<N: Names, R: Wait>(
     }
 }
 
-// How many lines a text has: as many records, where none is empty or goes over several.
-fn line_count(content: &[u8]) -> usize {
-    let ended = content.iter().filter(|byte| **byte == b'\n').count();
-    ended.saturating_add(1)
+// As many rows as a file may well have: each has a line, and five cells at least.
+fn likely_rows(content: &[u8]) -> usize {
+    let lines = count_of(content, b'\n').saturating_add(1);
+    lines.min(count_of(content, b',') / 4)
+}
+
+// How often a byte occurs.
+fn count_of(content: &[u8], sought: u8) -> usize {
+    content.iter().filter(|byte| **byte == sought).count()
 }
 
 // No record was fed so far; there is room for so many rows.
