@@ -21,8 +21,7 @@ use Rattle.mql_parse.proofs.Firsts.{beyond_first, first_meets, kind_names, passe
 use Rattle.mql_parse.proofs.Firsts.{by_place, if_same, first_by, first_if, first_unexpected, before_of, before_if_here}
 use Rattle.mql_parse.proofs.Firsts.{before_skip, before_behind, before_unexpected}
 use Rattle.mql_parse.proofs.Spots.{beyond}
-use Rattle.mql_parse.proofs.FollowTokens.{not_false}
-use Rattle.mql_parse.proofs.TokenEndings.{letter_in_word}
+use Rattle.mql_parse.proofs.ByteLemmas.{letter_in_word, not_false}
 
 -- a fault here, and a choice by the byte that stands here
 pub meets_unexpected : {A : Type 0} (x : Spot) (to : Rest → ℕ) (G : A → Type 0) (w : What) →

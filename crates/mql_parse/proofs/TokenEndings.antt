@@ -22,8 +22,8 @@ use Rattle.mql_parse.proofs.Endings.{is_inner, Front, Anyhow, Worded, Parted, Op
 use Rattle.mql_parse.proofs.Endings.{Default, Cut, Smaller, IfTooLarge, ComesBy, Closes, Comes, IfExpected, Finish}
 use Rattle.mql_parse.proofs.Endings.{Ends, behind_read, Reads, Leaves, cut_before, cut_as, ends_as, if_ends}
 use Rattle.mon_value.proofs.PlainLemmas.{equal_numbers}
-use Rattle.mql_parse.proofs.FollowTokens.{not_false}
 use Rattle.mql_ast.proofs.TokensPrinted.{behind_word_off, or_false, word_bytes_off, letter_no_blank}
+use Rattle.mql_parse.proofs.ByteLemmas.{letter_in_word, not_false}
 
 abbrev pub at_place : ℕ → List ℕ → Rest
 at_place at bs = record { at = at; bytes = bs }
@@ -31,20 +31,6 @@ at_place at bs = record { at = at; bytes = bs }
 -- tests of bytes
 pub blank_outer : (b : ℕ) → is_blank b ≡ true → is_inner b ≡ false
 blank_outer b h = grind (arith, nat_tests)
-
-pub letter_in_word : (b : ℕ) → is_letter b ≡ true → is_word_byte b ≡ true
-letter_in_word b h = ap (λ t. t || is_digit b) h
-
-pub digit_in_word : (b : ℕ) → is_digit b ≡ true → is_word_byte b ≡ true
-digit_in_word b h = either (is_letter b)
-  where
-    either : (t : Bool) → (t || is_digit b) ≡ true
-    either true = refl
-    either false = h
-
-pub and_first : (a b : Bool) → (a && b) ≡ true → a ≡ true
-and_first true b h = refl
-and_first false b h = h
 
 pub outer_no_metric : (b : ℕ) → is_inner b ≡ false → (is_metric_byte b ≡ false) × ((b == 47) ≡ false)
 outer_no_metric b h = or_false (is_metric_byte b) (b == 47) h
