@@ -154,13 +154,15 @@ record_fits : (schemas : SchemaLists) (texts : Bool) (row : Result Row RowFault)
 record_fits schemas true row all = read_fits schemas row all
 record_fits schemas false row all = tt
 
+-- a row that is read from a record fits its schemas
+pub one_fits : (schemas : SchemaLists) (cells : List (List ℕ)) → ReadFits schemas (record_read schemas cells)
+one_fits schemas cells =
+    record_fits schemas (list_all is_utf8 cells) (row_read schemas cells) (row_fits schemas cells)
+
 all_fit : (schemas : SchemaLists) (rows : List (List (List ℕ)))
     → AllByRecursion (ReadFits schemas) (map (record_read schemas) rows)
 all_fit schemas [] = tt
-all_fit schemas (cells ∷ rows) = (
-  record_fits schemas (list_all is_utf8 cells) (row_read schemas cells) (row_fits schemas cells),
-  all_fit schemas rows,
-)
+all_fit schemas (cells ∷ rows) = (one_fits schemas cells, all_fit schemas rows)
 
 -- every row that is read from a file fits its schemas
 pub reads_fit : (schemas : SchemaLists) (bytes : List ℕ) → AllByRecursion (ReadFits schemas) (reads_of schemas bytes)

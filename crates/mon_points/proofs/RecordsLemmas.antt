@@ -1,48 +1,24 @@
 -- Records that a reader takes one after another are all records of the text, and each takes a byte at least.
 use Rattle.std.proofs.Common.{◌≡◌, ◌∙◌, ℕ, zero, suc, ◌+◌, ◌<◌, ◌≤◌, Bool, true, false, cond, List, [], ◌∷◌, length}
-use Rattle.std.proofs.Common.{map, Option, Some, None, Bor, refl, sym, ap, subst, arith}
+use Rattle.std.proofs.Common.{Option, Some, None, Bor, refl, sym, ap, subst, arith, inl, not}
 use Rattle.std.specs.Prelude.{◌==◌}
+use Rattle.std.specs.Bool.{MatchBool}
 use Rattle.std.proofs.lemmas.Bool.{false≢true}
 use Rattle.std.proofs.lemmas.List.{length-map}
 use Rattle.std.proofs.lemmas.Option.{cond_some, same_Some}
 use Rattle.csv.specs.Machine.{Read, ends_at_end, ends_with, field_after, fields_after, in_field, is_end, next_record}
 use Rattle.csv.specs.Machine.{start_field, start_record, step}
-use Rattle.csv.specs.Reading.{NextIs, Reached, Ready, ReadRecord, ReadsNext, default_config, is_bom, pending_of}
-use Rattle.csv.specs.Reading.{records, records_from, records_next, source_of, strip_bom}
+use Rattle.csv.proofs.ReadFacts.{rows-end, rows-more}
+use Rattle.csv.specs.Reading.{Reached, ReadRecord, default_config, is_bom, records_from, records_next, strip_bom}
 use Rattle.csv.specs.declared.parser.Action.{Action}
 use Rattle.csv.specs.declared.parser.Action.TheVariants as act
 use Rattle.csv.specs.declared.parser.State.{State}
 use Rattle.csv.specs.declared.parser.State.TheVariants as state
 use Rattle.csv.specs.declared.reader.Reader.{Reader}
-use Rattle.csv.specs.declared.reader.Trim.TheVariants as trim
 use Rattle.mon_schema.specs.Names.{SchemaLists}
-use Rattle.mon_points.specs.Records.{record_read, reads_of}
+use Rattle.mon_points.specs.Left.{IsBetween, records_in, records_left}
+use Rattle.mon_points.specs.Records.{reads_of}
 use Rattle.mon_points.specs.declared.records.RowRead.{RowRead}
-
--- the bytes that a reader of bytes in memory has left
-abbrev pub unread : Reader (Bor (List ℕ)) → Option (List ℕ)
-unread reader = source_of (λ bytes. Some bytes.now) reader
-
--- how many these are
-abbrev pub unread_length : Option (List ℕ) → ℕ
-unread_length None = 0
-unread_length (Some bytes) = length bytes
-
-pub unread_length-less : (old new : Option (List ℕ)) (xs rest : List ℕ) → old ≡ Some xs → new ≡ Some rest
-    → length rest < length xs → unread_length new < unread_length old
-unread_length-less old new xs rest e f less = rw (e, f) less
-
--- The reader stands behind some records of the text, and these are what they read as.
-pub record IsReading (schemas : SchemaLists) (bytes : List ℕ) (reads : List RowRead) (reader : Reader (Bor (List ℕ))) :
-    Type 0 where
-  pub plain : reader.trim ≡ trim.None
-  pub ready : Ready reader
-  pub config : reader.config ≡ default_config
-  pub rest : List ℕ
-  pub source : unread reader ≡ Some rest
-  pub taken : List (List (List ℕ))
-  pub reached : Reached default_config state.StartRecord (strip_bom bytes) taken reader.state rest
-  pub read : reads ≡ map (record_read schemas) taken
 
 -- ---- behind a record, the end of the text ends none
 
@@ -122,63 +98,97 @@ took s (c ∷ xs) p between e =
     let left = found.left in
     (omega arith, found.between)
 
-reached-between : (s : State) (xs : List ℕ) (rows : List (List (List ℕ))) (s2 : State) (ys : List ℕ)
-    → Reached default_config s xs rows s2 ys → ends_at_end s ≡ false → ends_at_end s2 ≡ false
-unfolding Reached
-reached-between s xs [] s2 ys h between = rw h.0 at between
-reached-between s xs (row ∷ rows) s2 ys h between =
-    reached-between h.0.1 h.0.2 rows s2 ys h.3 (took s xs h.0 between h.1).1
+-- ---- the records from a state on, one after another
 
--- ---- what a read leaves
+next-same : (n m : ℕ) (r : Option Read)
+    → ((p : Read) → r ≡ Some p → records_from default_config n p.1 p.2 ≡ records_from default_config m p.1 p.2)
+    → records_next (records_from default_config n) r ≡ records_next (records_from default_config m) r
+next-same n m None h = refl
+next-same n m (Some p) h = ap (λ more. p.0 ∷ more) (h p refl)
 
-next-less : (r : Option Read) (n : ℕ) (fields : List (List ℕ)) (s : State) (rest : List ℕ)
-    → ((p : Read) → r ≡ Some p → length p.2 < n) → NextIs r true fields s rest → length rest < n
-next-less None n fields s rest h next = absurd (false≢true (sym next))
-next-less (Some p) n fields s rest h next = let l = h p refl in rw next.3 l
-
-reads-less : (s s2 : State) (xs rest : List ℕ) (after : Option (List ℕ)) (fields : List (List ℕ))
-    → ends_at_end s ≡ false
-    → ReadsNext default_config s (Some xs) after true fields s2 → after ≡ Some rest → length rest < length xs
-reads-less s s2 xs rest None fields between next e = absurd cc
-reads-less s s2 xs rest (Some ys) fields between next e =
-    let less = next-less (next_record default_config s [] [] xs) (length xs) fields s2 ys
-    (λ p is. (took s xs p between is).0) next in
-    rw (← same_Some ys rest e) less
-
-pub read-less : (bytes : List ℕ) (taken : List (List (List ℕ))) (old new : Reader (Bor (List ℕ)))
-    (fields : List (List ℕ)) (xs rest : List ℕ)
-    → old.config ≡ default_config → unread old ≡ Some xs → unread new ≡ Some rest
-    → Reached default_config state.StartRecord (strip_bom bytes) taken old.state xs
-    → ReadRecord (λ bytes. Some bytes.now) old new true fields → length rest < length xs
-read-less bytes taken old new fields xs rest config before after reached read =
-    reads-less old.state new.state xs rest (pending_of (Some new.rdr.now) new) fields
-    (reached-between state.StartRecord (strip_bom bytes) taken old.state xs reached refl)
-    (rw (config, before) at read.0) (rw read.1 at after)
-
--- ---- all records of a text
-
-records_from-reached : (n : ℕ) (s : State) (xs : List ℕ) (rows : List (List (List ℕ))) (s2 : State) (ys : List ℕ)
-    → Reached default_config s xs rows s2 ys → ends_at_end s ≡ false → next_record default_config s2 [] [] ys ≡ None
-    → length xs < n → records_from default_config n s xs ≡ rows
-unfolding Reached records_from
-records_from-reached zero s xs rows s2 ys h between none l = absurd (omega arith)
-records_from-reached (suc n) s xs [] s2 ys h between none l =
-    let last : next_record default_config s [] [] xs ≡ None = rw (h.0, h.1) none in
-    rw last
-records_from-reached (suc n) s xs (row ∷ rows) s2 ys h between none l =
-    let p = h.0 in
-    let after = took s xs p between h.1 in
+-- any number above the text's length counts enough
+enough : (n m : ℕ) (s : State) (xs : List ℕ) → ends_at_end s ≡ false → length xs < n → length xs < m
+    → records_from default_config n s xs ≡ records_from default_config m s xs
+unfolding records_from
+enough zero m s xs between l k = absurd (omega arith)
+enough (suc n) zero s xs between l k = absurd (omega arith)
+enough (suc n) (suc m) s xs between l k = next-same n m (next_record default_config s [] [] xs) (λ p is.
+    let after = took s xs p between is in
     let less = after.0 in
-    let others : records_from default_config n p.1 p.2 ≡ rows =
-    records_from-reached n p.1 p.2 rows s2 ys h.3 after.1 none (omega arith) in
-    rw h.1 (ap (λ rest. p.0 ∷ rest) others ∙ ap (λ first. first ∷ rows) (sym h.2))
+    enough n m p.1 p.2 after.1 (omega arith) (omega arith))
 
--- where no record follows, those that were reached are all
-pub records-reached : (xs : List ℕ) (rows : List (List (List ℕ))) (s : State) (ys : List ℕ)
-    → Reached default_config state.StartRecord xs rows s ys → next_record default_config s [] [] ys ≡ None
-    → rows ≡ records default_config xs
-records-reached xs rows s ys h none =
-    sym (records_from-reached (length xs + 1) state.StartRecord xs rows s ys h refl none (omega arith))
+first_from : (n : ℕ) (s : State) (xs : List ℕ) (p : Read) → ends_at_end s ≡ false → length xs < n
+    → next_record default_config s [] [] xs ≡ Some p
+    → records_from default_config n s xs ≡ p.0 ∷ records_in p.1 (Some p.2)
+unfolding records_from
+first_from zero s xs p between l is = absurd (omega arith)
+first_from (suc n) s xs p between l is =
+    let after = took s xs p between is in
+    let less = after.0 in
+    rw is (ap (λ more. p.0 ∷ more) (enough n (length p.2 + 1) p.1 p.2 after.1 (omega arith) (omega arith)))
+
+none_from : (n : ℕ) (s : State) (xs : List ℕ) → next_record default_config s [] [] xs ≡ None
+    → records_from default_config n s xs ≡ []
+unfolding records_from
+none_from zero s xs none = refl
+none_from (suc n) s xs none = rw none refl
+
+-- ---- what a reader takes
+
+-- a reader that has taken a record
+record Took (old new : Reader (Bor (List ℕ))) (cells : List (List ℕ)) : Type 0 where
+  is_between : IsBetween new
+  taken : records_left false old ≡ cells ∷ records_left false new
+
+takes : (old new : Reader (Bor (List ℕ))) (cells : List (List ℕ)) → IsBetween old → new.first ≡ true
+    → ReadRecord (λ bytes. Some bytes.now) old new true cells → Took old new cells
+unfolding Reached
+takes old new cells is first read =
+    let more = rows-more (λ (bytes : Bor (List ℕ)). Some bytes.now) old new cells default_config old.state is.rest
+    is.rest [] is.config is.source (refl, refl) read in
+    let p = more.2.0 in
+    let next : next_record default_config old.state [] [] is.rest ≡ Some p = more.2.1 in
+    let state : p.1 ≡ new.state = more.2.3.0 in
+    let left : p.2 ≡ more.0 = more.2.3.1 in
+    let after = took old.state is.rest p is.between next in
+    let all : records_left false old ≡ p.0 ∷ records_in p.1 (Some p.2) =
+    ap (records_in old.state) is.source ∙ first_from (length is.rest + 1) old.state is.rest p is.between (omega arith)
+    next in
+    let rest : records_in p.1 (Some p.2) ≡ records_left false new =
+    ap (λ s. records_in s (Some p.2)) state ∙ (ap (λ xs. records_in new.state (Some xs)) left
+    ∙ ap (records_in new.state) (sym more.1)) in
+    record {
+      is_between = record {
+        plain = read.3 ∙ is.plain;
+        ready = inl first;
+        config = read.2 ∙ is.config;
+        between = ap ends_at_end (sym state) ∙ after.1;
+        rest = more.0;
+        source = more.1;
+      };
+      taken = all ∙ (ap (λ more. p.0 ∷ more) rest ∙ ap (λ c. c ∷ records_left false new) (sym more.2.2));
+    }
+
+-- a reader that finds no record has none left
+ends : (old new : Reader (Bor (List ℕ))) (cells : List (List ℕ)) → IsBetween old
+    → ReadRecord (λ bytes. Some bytes.now) old new false cells → records_left false old ≡ []
+ends old new cells is read =
+    let none = rows-end (λ (bytes : Bor (List ℕ)). Some bytes.now) old new cells default_config is.rest is.config
+    is.source read in
+    ap (records_in old.state) is.source ∙ none_from (length is.rest + 1) old.state is.rest none
+
+module _ (old new : Reader (Bor (List ℕ))) (cells : List (List ℕ)) (is : IsBetween old) (first : new.first ≡ true) where
+  -- what a read leaves, whether it has found a record or none
+  pub still_between : (found : Bool) → ReadRecord (λ bytes. Some bytes.now) old new found cells → not found ≡ false
+      → IsBetween new
+  still_between true read more = (takes old new cells is first read).is_between
+  still_between false read more = absurd (false≢true (sym more))
+
+  -- what a read has found
+  pub reads_one : (found : Bool) → ReadRecord (λ bytes. Some bytes.now) old new found cells
+      → MatchBool found (records_left false old ≡ cells ∷ records_left (not found) new) (records_left false old ≡ [])
+  reads_one true read = (takes old new cells is first read).taken
+  reads_one false read = ends old new cells is read
 
 -- ---- a file has no more records than bytes
 

@@ -1,4 +1,5 @@
 pub mod Fitting
 pub mod Keys
 pub mod Leading
+pub mod Left
 pub mod Records

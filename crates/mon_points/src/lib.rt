@@ -4,7 +4,10 @@
 mod cells;
 mod faults;
 mod keys;
+mod record_reader;
 mod records;
+mod row_reader;
 
 pub use faults::RowFault;
 pub use records::{RowRead, RowReads, read_rows};
+pub use row_reader::RowReader;

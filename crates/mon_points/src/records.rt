@@ -1,16 +1,18 @@
 // The records of a points file.
-ghost use Rattle.std.specs.Prelude.{◌≡◌, ◌<◌, ◌≤◌, ◌++◌, ◌∷◌, [], length, drop, IfOk, OnOk, MatchOption};
+ghost use Rattle.std.specs.Prelude.{◌≡◌, ◌<◌, ◌≤◌, ◌++◌, length, drop, IfOk, OnOk, MatchOption};
 ghost use Rattle.std.specs.List.{AllByRecursion};
 ghost use Rattle.csv.specs.Records.{fields_of};
 ghost use Rattle.mon_value.specs.Answers.{Gives};
 ghost use Rattle.mon_points.specs.Fitting.{ReadFits};
 ghost use Rattle.mon_points.specs.Leading.{IsRecord, record_cells};
+ghost use Rattle.mon_points.specs.Left.{reads_left};
 ghost use Rattle.mon_points.specs.Records.{point_read, read_as, record_read, reads_of, row_read};
 
 use crate::cells::{read_times, read_value};
 use crate::faults::RowFault;
 use crate::keys::{KeyCache, LEADING};
-use csv::{ByteRecord, ReaderBuilder, StringRecord};
+use crate::row_reader::RowReader;
+use csv::{ByteRecord, StringRecord};
 use mon_schema::Schemas;
 use mon_value::{ListOf, MetricSchema, OutOfMemory, Point, Refusal, Row, TryCopy};
 use std::alloc::{AllocError, Global};
@@ -54,22 +56,11 @@ pub fn read_rows(alloc: Global, bytes: &[u8], schemas: &Schemas) -> Result<RowRe
     ensures fit { IfOk result (λ reads. AllByRecursion (ReadFits schemas.now) reads) }
     ensures few { IfOk result (λ reads. length reads ≤ length bytes.now) }
 {
-    read_rows_with(alloc, bytes, schemas, &mut KeyCache::new(alloc))
-}
-
-// Reads the records of a points file, and shares the keys of series that were read before.
-fn read_rows_with(
-    alloc: Global,
-    bytes: &[u8],
-    schemas: &Schemas,
-    keys: &mut KeyCache,
-) -> Result<RowReads, OutOfMemory>
-    ensures exact { IfOk result (λ reads. reads ≡ reads_of schemas.now bytes.now) }
-    ensures fit { IfOk result (λ reads. AllByRecursion (ReadFits schemas.now) reads) }
-    ensures few { IfOk result (λ reads. length reads ≤ length bytes.now) }
-{
+    let mut reader = RowReader::new(alloc, bytes);
     let mut reads = RowReads::new(alloc);
-    match read_all(alloc, bytes, schemas, keys, &mut reads) {
+    let read = read_left(alloc, schemas, &mut reader, &mut reads);
+    drop(reader);
+    match read {
         Ok(()) => Ok(reads),
         Err(fault) => {
             drop(reads);
@@ -78,75 +69,23 @@ fn read_rows_with(
     }
 }
 
-// Reads all records, where none was read yet.
-fn read_all(
+// Adds what the records that are left read as.
+fn read_left(
     alloc: Global,
-    bytes: &[u8],
     schemas: &Schemas,
-    keys: &mut KeyCache,
+    reader: &mut RowReader<'_>,
     reads: &mut RowReads,
 ) -> Result<(), OutOfMemory>
-    requires empty { reads.old ≡ [] }
-    ensures exact { OnOk result (reads.new ≡ reads_of schemas.now bytes.now) }
+    ensures added { OnOk result (reads.new ≡ reads.old ++ reads_left schemas.now reader.old) }
 {
-    let mut record = ByteRecord::new(alloc);
-    let read = read_all_by(alloc, &mut record, bytes, schemas, keys, reads);
-    drop(record);
-    read
-}
-
-// Reads all records by way of one that has the cells of each in turn.
-fn read_all_by(
-    alloc: Global,
-    record: &mut ByteRecord,
-    bytes: &[u8],
-    schemas: &Schemas,
-    keys: &mut KeyCache,
-    reads: &mut RowReads,
-) -> Result<(), OutOfMemory>
-    requires empty { reads.old ≡ [] }
-    ensures exact { OnOk result (reads.new ≡ reads_of schemas.now bytes.now) }
-{
-    let mut reader = ReaderBuilder::new()
-        .has_headers(false)
-        .flexible(true)
-        .from_reader(alloc, bytes);
-    'records: loop {
-        // Bytes in memory are always read, and records may differ in length: only memory is wanting.
-        let Ok(found) = reader.read_byte_record(record) else {
-            drop(reader);
-            return Err(AllocError);
-        };
-        if !found {
-            drop(reader);
-            return Ok(());
-        }
-        match add_record(alloc, record, schemas, keys, reads) {
-            Ok(()) => {}
-            Err(fault) => {
-                drop(reader);
-                return Err(fault);
-            }
-        }
+    while let Some(read) = reader.next(alloc, schemas)? {
+        reads.push(read)?;
     }
+    Ok(())
 }
 
-// Adds what a record reads as.
-fn add_record(
-    alloc: Global,
-    record: &mut ByteRecord,
-    schemas: &Schemas,
-    keys: &mut KeyCache,
-    reads: &mut RowReads,
-) -> Result<(), OutOfMemory>
-    ensures added { OnOk result (reads.new ≡ reads.old ++ record_read schemas.now (fields_of record.old) ∷ []) }
-{
-    let read = read_record(alloc, record, schemas, keys)?;
-    reads.push(read)
-}
-
-// What a record reads as. The record keeps its memory for the next one.
-fn read_record(
+/// What a record reads as. The record keeps its memory for the next one.
+pub(crate) fn read_record(
     alloc: Global,
     cells: &mut ByteRecord,
     schemas: &Schemas,
