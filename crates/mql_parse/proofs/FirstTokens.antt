@@ -214,14 +214,14 @@ word_alike x (c ∷ common) after at h l =
         Splits x (if t then behind_word (at + 1) (common ++ after) else record
         { at = at; bytes = c ∷ (common ++ after) }) (if t then behind_word (at + 1) (common ++ instead x) else record
         { at = at; bytes = c ∷ (common ++ instead x) })
-    gone true k ih = let not_false = ih k in (ap (λ u. c ∷ u) both.0, both.1)
+    gone true k ih = let both = ih k in (ap (λ u. c ∷ u) both.0, both.1)
     gone false k ih = (refl, splits x (c ∷ common) after at h)
 
 pub meets_word : (x : Spot) → Meets x here here NoMore (λ s. Ok (word_here s))
 meets_word x = record {
   steady = word_steady;
   agrees = over_splits x (λ s t. MeetsOutcome x here NoMore (Ok (word_here s)) (Ok (word_here t)))
-      (λ common after at h l. let not_false = word_alike x common after at h l in
+      (λ common after at h l. let both = word_alike x common after at h l in
       inl (
         behind_word at (common ++ instead x),
         (ap (λ u. Ok (record { at = at; text = u }, behind_word at (common ++ instead x))) both.0, both.1),
