@@ -1,10 +1,10 @@
 // Feeding the records of a file.
-ghost use Rattle.std.specs.Prelude.{◌≡◌, ◌+◌, ◌∷◌, ◌++◌, [], true, IfOk, OnOk};
-ghost use Rattle.std.specs.List.{AllByRecursion};
+ghost use Rattle.std.specs.Prelude.{◌≡◌, ◌+◌, ◌∷◌, ◌++◌, [], true, IfOk, IfSome, MatchOption, OnOk};
 ghost use Rattle.history_book.specs.Histories.{AreFronts};
 ghost use Rattle.line_runs.specs.Feeding.{AreFed, CanBeTold, RecordFed, RowFed};
 ghost use Rattle.line_runs.specs.LineWrites.{LineWrote, ran_line};
 ghost use Rattle.mon_points.specs.Fitting.{ReadFits};
+ghost use Rattle.mon_points.specs.Left.{IsNextRead, reads_left};
 ghost use Rattle.mon_points.specs.Records.{reads_of};
 ghost use Rattle.mon_schema.specs.Fits.{fits};
 ghost use Rattle.run_traces.specs.LineFeeds.{refused_at};
@@ -12,7 +12,7 @@ ghost use Rattle.run_traces.specs.LineFeeds.{refused_at};
 use crate::feed_texts::feed_text;
 use crate::lines::LineRan;
 use know::Names;
-use mon_points::{RowRead, RowReads, read_rows};
+use mon_points::{RowRead, RowReader};
 use mon_script::LineForm;
 use mon_store::{Pass, Store};
 use mon_value::{OutOfMemory, Row, RowList, Text};
@@ -83,14 +83,20 @@ fn fed_records<N: Names, R: Wait>(
         fed.accepted fed.refused p.old p.new) }
     ensures fronts { AreFronts p.old.seen p.new.seen }
 {
-    let reads = read_rows(alloc, content, &store.config().schemas)?;
-    match none_fed(alloc, reads.len()) {
-        Ok(fed) => feed_reads(rt, alloc, store, p, reads, fed),
-        Err(failed) => {
-            drop(reads);
-            Err(failed)
+    let mut fed = none_fed(alloc, line_count(content))?;
+    match feed_content(rt, alloc, store, p, content, &mut fed) {
+        Ok(()) => Ok(fed),
+        Err(fault) => {
+            drop(fed);
+            Err(fault)
         }
     }
+}
+
+// How many lines a text has: as many records, where none is empty or goes over several.
+fn line_count(content: &[u8]) -> usize {
+    let ended = content.iter().filter(|byte| **byte == b'\n').count();
+    ended.saturating_add(1)
 }
 
 // No record was fed so far; there is room for so many rows.
@@ -104,52 +110,61 @@ fn none_fed(alloc: Global, count: usize) -> Result<Fed, OutOfMemory>
     })
 }
 
-// Feeds the records that were read of a file.
-fn feed_reads<N: Names, R: Wait>(
+// Feeds all records that a file holds, where none was fed yet.
+fn feed_content<N: Names, R: Wait>(
     rt: &R,
     alloc: Global,
     store: &Store<N>,
     p: &mut Pass<N>,
-    reads: RowReads,
-    fed: Fed,
-) -> Result<Fed, OutOfMemory>
-    requires accepted { fed.accepted ≡ [] }
-    requires refused { fed.refused ≡ [] }
-    requires fit { AllByRecursion (ReadFits store.now.schemas) reads }
-    ensures fed { IfOk result (λ done. AreFed store.now 1 reads done.accepted done.refused p.old p.new) }
-    ensures fronts { AreFronts p.old.seen p.new.seen }
-{
-    let mut fed = fed;
-    match feed_all(rt, alloc, store, p, reads, &mut fed) {
-        Ok(()) => Ok(fed),
-        Err(fault) => {
-            drop(fed);
-            Err(fault)
-        }
-    }
-}
-
-// Feeds all records of a file, where none was fed yet.
-fn feed_all<N: Names, R: Wait>(
-    rt: &R,
-    alloc: Global,
-    store: &Store<N>,
-    p: &mut Pass<N>,
-    reads: RowReads,
+    content: &[u8],
     fed: &mut Fed,
 ) -> Result<(), OutOfMemory>
     requires accepted { fed.old.accepted ≡ [] }
     requires refused { fed.old.refused ≡ [] }
-    requires fit { AllByRecursion (ReadFits store.now.schemas) reads }
-    ensures fed { OnOk result (AreFed store.now 1 reads fed.new.accepted fed.new.refused p.old p.new) }
+    ensures fed { OnOk result (AreFed store.now 1 (reads_of store.now.schemas content.now)
+        fed.new.accepted fed.new.refused p.old p.new) }
+    ensures fronts { AreFronts p.old.seen p.new.seen }
+{
+    let mut reader = RowReader::new(alloc, content);
+    let done = feed_left(rt, alloc, store, p, &mut reader, fed);
+    drop(reader);
+    done
+}
+
+// Feeds the records that a reader has left, each as it is read, where none was fed yet.
+fn feed_left<N: Names, R: Wait>(
+    rt: &R,
+    alloc: Global,
+    store: &Store<N>,
+    p: &mut Pass<N>,
+    reader: &mut RowReader<'_>,
+    fed: &mut Fed,
+) -> Result<(), OutOfMemory>
+    requires accepted { fed.old.accepted ≡ [] }
+    requires refused { fed.old.refused ≡ [] }
+    ensures fed { OnOk result (AreFed store.now 1 (reads_left store.now.schemas reader.old)
+        fed.new.accepted fed.new.refused p.old p.new) }
     ensures fronts { AreFronts p.old.seen p.new.seen }
 {
     let mut number = 0u32;
-    for read in reads {
+    while let Some(read) = next_read(alloc, store, reader)? {
         number = next_number(number)?;
         feed_record(rt, alloc, store, p, number, read, fed)?;
     }
     Ok(())
+}
+
+// What the next record reads as under the store's schemas.
+fn next_read<N: Names>(
+    alloc: Global,
+    store: &Store<N>,
+    reader: &mut RowReader<'_>,
+) -> Result<Option<RowRead>, OutOfMemory>
+    ensures read { IfOk result (λ read. MatchOption read (reader.old ≡ [])
+        (IsNextRead store.now.schemas reader.old reader.new)) }
+    ensures fits { IfOk result (λ read. IfSome read (ReadFits store.now.schemas)) }
+{
+    reader.next(alloc, &store.config().schemas)
 }
 
 // The next record's number. No memory holds so many records that there is none.
