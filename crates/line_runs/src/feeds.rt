@@ -83,7 +83,7 @@ fn fed_records<N: Names, R: Wait>(
         fed.accepted fed.refused p.old p.new) }
     ensures fronts { AreFronts p.old.seen p.new.seen }
 {
-    let mut fed = none_fed(alloc, line_count(content))?;
+    let mut fed = none_fed(alloc, rows_expected(content))?;
     match feed_content(rt, alloc, store, p, content, &mut fed) {
         Ok(()) => Ok(fed),
         Err(fault) => {
@@ -93,10 +93,17 @@ fn fed_records<N: Names, R: Wait>(
     }
 }
 
-// How many lines a text has: as many records, where none is empty or goes over several.
-fn line_count(content: &[u8]) -> usize {
-    let ended = content.iter().filter(|byte| **byte == b'\n').count();
-    ended.saturating_add(1)
+// About how many rows a text has: each stands in a line and has four commas at least. It is a guess of the room that
+// rows will take, and no text makes it more than its bytes are worth.
+fn rows_expected(content: &[u8]) -> usize {
+    let lines = count_of(content, b'\n').saturating_add(1);
+    let rows = count_of(content, b',') / 4;
+    if rows < lines { rows } else { lines }
+}
+
+// How often a byte stands in a text.
+fn count_of(content: &[u8], byte: u8) -> usize {
+    content.iter().filter(|other| **other == byte).count()
 }
 
 // No record was fed so far; there is room for so many rows.
