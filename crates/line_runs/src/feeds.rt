@@ -83,7 +83,7 @@ fn fed_records<N: Names, R: Wait>(
         fed.accepted fed.refused p.old p.new) }
     ensures fronts { AreFronts p.old.seen p.new.seen }
 {
-    let mut fed = none_fed(alloc, likely_rows(content))?;
+    let mut fed = none_fed(alloc, rows_expected(content))?;
     match feed_content(rt, alloc, store, p, content, &mut fed) {
         Ok(()) => Ok(fed),
         Err(fault) => {
@@ -93,15 +93,17 @@ fn fed_records<N: Names, R: Wait>(
     }
 }
 
-// As many rows as a file may well have: each has a line, and five cells at least.
-fn likely_rows(content: &[u8]) -> usize {
+// About how many rows a text has: each stands in a line and has four commas at least. It is a guess of the room that
+// rows will take, and no text makes it more than its bytes are worth.
+fn rows_expected(content: &[u8]) -> usize {
     let lines = count_of(content, b'\n').saturating_add(1);
-    lines.min(count_of(content, b',') / 4)
+    let rows = count_of(content, b',') / 4;
+    if rows < lines { rows } else { lines }
 }
 
-// How often a byte occurs.
-fn count_of(content: &[u8], sought: u8) -> usize {
-    content.iter().filter(|byte| **byte == sought).count()
+// How often a byte stands in a text.
+fn count_of(content: &[u8], byte: u8) -> usize {
+    content.iter().filter(|other| **other == byte).count()
 }
 
 // No record was fed so far; there is room for so many rows.

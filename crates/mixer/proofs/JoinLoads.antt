@@ -22,7 +22,10 @@ use Rattle.mixer.proofs.LevelledTrees.{AreLevelled}
 use Rattle.mixer.proofs.LocalTrees.{IsLocal}
 use Rattle.mixer.proofs.MixedTrees.{any_use, drop_parts, rows_mixed-meant, tables_of, take_parts}
 use Rattle.mixer.proofs.SameTables.{SameTables, rows_mixed-same, same_drop, same_take}
-use Rattle.mixer.proofs.PartLoads.{uncounted}
+
+pub uncounted : (b : Bool) (n : ℕ) → b ≡ false → counted_if b n ≡ 0
+uncounted true n e = absurd cc
+uncounted false n e = refl
 
 -- ---- tables whose rows stand in another order
 

@@ -17,7 +17,7 @@ use Rattle.mql_types.specs.Nodes.{NodeTree, columns_of, level_of}
 use Rattle.mql_types.specs.declared.levels.Level.{Level}
 use Rattle.mql_types.specs.declared.levels.Level.TheVariants as level
 use Rattle.mql_types.proofs.TypedTrees.{AreRows}
-use Rattle.mixer.proofs.JoinLoads.{IsClosed, local_closed}
+use Rattle.mixer.proofs.JoinLoads.{IsClosed, local_closed, uncounted}
 use Rattle.mixer.proofs.LeafHomes.{TargetSays}
 use Rattle.mixer.proofs.PointLevels.{points_level}
 use Rattle.mixer.proofs.LevelledTrees.{AreLevelled, leaf_local, moved, no_top, zone_higher}
@@ -25,10 +25,6 @@ use Rattle.mixer.proofs.LevelledTrees.{AreLevelled, leaf_local, moved, no_top, z
 counted : (b : Bool) (n : ℕ) → b ≡ true → counted_if b n ≡ n
 counted true n e = refl
 counted false n e = absurd cc
-
-pub uncounted : (b : Bool) (n : ℕ) → b ≡ false → counted_if b n ≡ 0
-uncounted true n e = absurd cc
-uncounted false n e = refl
 
 split_by : (b : Bool) (use_of : PartUse) (tree : NodeTree) (rest : List TopPart) (f : TopPart → ℕ) (n : ℕ)
     → (b ≡ true → n ≡ f (use_of, tree)) → (b ≡ false → n ≡ sum_by f rest)

@@ -5,6 +5,7 @@ ghost use Rattle.mon_value.specs.Groups.{counts_added, counts_of, merged_of};
 ghost use Rattle.mon_value.specs.Values.{greatest_sum};
 ghost use Rattle.mon_value.specs.Parts.{is_any, IsZero};
 ghost use Rattle.mon_value.proofs.CountsPartLemmas as parts;
+ghost use Rattle.mon_value.proofs.PlainLemmas as plain;
 ghost use Rattle.mon_value.proofs.NumberPartLemmas as numbers;
 ghost use Rattle.mon_value.proofs.CountsLemmas as counted;
 
@@ -123,7 +124,7 @@ impl Fold for MergeFold {
       commutes = λ a b.
           Prim.rw (counted.counts_added-comm a.counts b.counts, parts.or-comm a.any b.any);
       associates = λ a b c.
-          Prim.rw (counted.counts_added-assoc a.counts b.counts c.counts, parts.or-assoc a.any b.any c.any);
+          Prim.rw (counted.counts_added-assoc a.counts b.counts c.counts, plain.or_assoc a.any b.any c.any);
       fitting_alike = λ _ _ fits. fits.0;
       chosen_fit = λ fold xs ys zs same fits. (
         parts.lengths-chosen (length fold.zero) xs ys zs same fits.0,

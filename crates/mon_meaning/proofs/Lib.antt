@@ -14,7 +14,7 @@ mod MetricSeries
 mod OperationLemmas
 pub mod OperationOrders
 pub mod PartLemmas
-mod PartsToComeLemmas
+pub mod PartsToComeLemmas
 pub mod PathLemmas
 mod ReachLemmas
 mod ReadyLemmas
@@ -23,5 +23,5 @@ mod SeriesOrders
 mod SideLemmas
 pub mod StandingPieces
 mod TopLemmas
-mod WalkLemmas
+pub mod WalkLemmas
 mod WindowLemmas

@@ -13,10 +13,15 @@ use Rattle.mon_value.specs.Grids.{IsLawfulGrid, least_time, EndsRise}
 use Rattle.mon_value.specs.declared.limits.TheConstants.{LONGEST_DURATION}
 use Rattle.mon_value.specs.declared.grids.Grid.{Grid}
 use Rattle.mon_value.specs.declared.rows.Point.{Point}
-use Rattle.mon_series.proofs.EndsRiseLemmas.{after_at}
 
 abbrev EndsAfter : ℤ → List Point → Type 0
 EndsAfter end points = AllByRecursion (λ (later : Point). end <ℤ later.end) points
+
+after_at : (first : ℤ) (ps : List Point) (i : ℕ) (d : Point) → EndsAfter first ps → i < length ps
+    → first <ℤ (get_or ps i d).end
+after_at first [] i d h l = absurd (omega arith)
+after_at first (p ∷ ps) zero d h l = h.0
+after_at first (p ∷ ps) (suc i) d h l = after_at first ps i d h.1 (omega arith)
 
 -- ---- points whose ends rise
 

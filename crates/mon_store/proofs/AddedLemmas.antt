@@ -27,11 +27,14 @@ use Rattle.mon_store.specs.Writes.{only_in, put_in, written}
 use Rattle.range_cell.specs.Writing.{put_of, with_put_of, with_puts}
 use Rattle.write_core.proofs.AckLemmas.{contains_flat, contains_one}
 use Rattle.mon_value.proofs.PlainLemmas.{contains_none, in_map}
-use Rattle.mon_store.proofs.RefusedLemmas.{map_both}
 use Rattle.write_core.specs.Marks.{replica_of, taken_slot, with_fate}
 use Rattle.write_core.specs.declared.marks.Fate.{Fate}
 use Rattle.write_core.specs.declared.marks.Fate.TheVariants as fate
 use Rattle.write_core.specs.declared.marks.Mark.{Mark}
+
+pub map_both : {X Y : Type 0} (f : X → Y) (xs ys : List X) → map f (xs ++ ys) ≡ map f xs ++ map f ys
+map_both f [] ys = refl
+map_both f (x ∷ xs) ys = ap (λ rest. f x ∷ rest) (map_both f xs ys)
 
 -- ---- an entry more
 

@@ -32,6 +32,7 @@ use Rattle.range_cell.specs.Writes.{HasFoundNone, HasGivenUp}
 use Rattle.range_cell.specs.Writing.{with_put_of, with_puts}
 use Rattle.write_core.proofs.AckLemmas.{contains_flat, contains_one}
 use Rattle.mon_value.proofs.PlainLemmas.{contains_none}
+use Rattle.mon_store.proofs.AddedLemmas.{map_both}
 use Rattle.write_core.specs.Invariant.{AreAll, is_decided}
 use Rattle.write_core.specs.Marks.{found_in_mark, found_of, has_taken, replica_of, some_took}
 use Rattle.write_core.specs.RangeAnswers.{lock_answer, refusal, told_unless}
@@ -145,10 +146,6 @@ found_leaf_at mark fate.Waiting d n = absurd cc
 found_leaf_at mark fate.Ready d n = absurd cc
 found_leaf_at mark fate.Took d n = absurd cc
 found_leaf_at mark (fate.Missed cut) d n = refl
-
-pub map_both : {X Y : Type 0} (f : X → Y) (xs ys : List X) → map f (xs ++ ys) ≡ map f xs ++ map f ys
-map_both f [] ys = refl
-map_both f (x ∷ xs) ys = ap (λ rest. f x ∷ rest) (map_both f xs ys)
 
 found_leaves : (marks : List Mark) → AreAll is_decided marks → some_took marks ≡ false
     → map (λ (found : FoundDown). found.leaf) (flat_map found_in_mark marks)

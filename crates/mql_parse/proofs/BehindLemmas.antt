@@ -7,8 +7,8 @@ use Rattle.mql_ast.specs.Tokens.{is_blank, is_letter, is_word_byte, Rest, first_
 use Rattle.mql_ast.specs.Tokens.{behind_blanks, head, behind, skip, sign_at, past, keyword_at, behind_word, word_here}
 use Rattle.mql_ast.specs.Tokens.{name_at}
 use Rattle.mql_parse.specs.Behind.{From, Behind}
-use Rattle.mql_parse.proofs.TokenEndings.{letter_in_word}
-use Rattle.mql_ast.proofs.TokensPrinted.{chosen}
+use Rattle.mql_parse.proofs.ByteLemmas.{chosen}
+use Rattle.mql_parse.proofs.ByteLemmas.{letter_in_word}
 
 pub from_itself : (s : Rest) → From s s
 from_itself s = record { front = []; bytes = refl; place = omega arith }

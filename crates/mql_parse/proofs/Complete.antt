@@ -15,7 +15,7 @@ use Rattle.mql_parse.proofs.BehindLemmas.{chosen_any, sign_taken}
 use Rattle.mql_parse.proofs.Links.{sign_links, past_links, name_links, metric_links, positive_links, signed_links}
 use Rattle.mql_parse.proofs.Links.{duration_links}
 use Rattle.mql_parse.proofs.Loops.{loop_ends}
-use Rattle.mql_parse.proofs.TokenEndings.{and_first}
+use Rattle.mql_parse.proofs.ByteLemmas.{and_first}
 
 pub read_of : {A F : Type 0} (o : Option A) (r : Result A F) (x : A) → o ≡ result_ok r → o ≡ Some x → r ≡ Ok x
 read_of o (Ok y) x e f = cc

@@ -21,7 +21,7 @@ use Rattle.mql_parse.proofs.Firsts.{before_of, before_if, before_if_here, before
 use Rattle.mql_parse.proofs.Firsts.{before_behind_skip, before_part_behind, before_unexpected}
 use Rattle.mql_parse.proofs.FirstBytes.{digit_begins}
 use Rattle.mon_value.proofs.PlainLemmas.{equal_numbers}
-use Rattle.mql_parse.proofs.TokenEndings.{and_first}
+use Rattle.mql_parse.proofs.ByteLemmas.{and_first}
 
 -- readers that go byte by byte and keep a state
 module _ {K A : Type 0} (x : Spot) (read : K → ℕ → List ℕ → Outcome A)

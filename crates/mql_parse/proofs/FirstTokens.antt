@@ -21,8 +21,7 @@ use Rattle.mql_parse.proofs.Firsts.{beyond_first, first_meets, kind_names, passe
 use Rattle.mql_parse.proofs.Firsts.{by_place, if_same, first_by, first_if, first_unexpected, before_of, before_if_here}
 use Rattle.mql_parse.proofs.Firsts.{before_skip, before_behind, before_unexpected}
 use Rattle.mql_parse.proofs.Spots.{beyond}
-use Rattle.mql_parse.proofs.FollowTokens.{not_false}
-use Rattle.mql_parse.proofs.TokenEndings.{letter_in_word}
+use Rattle.mql_parse.proofs.ByteLemmas.{letter_in_word, not_false}
 
 -- a fault here, and a choice by the byte that stands here
 pub meets_unexpected : {A : Type 0} (x : Spot) (to : Rest → ℕ) (G : A → Type 0) (w : What) →
@@ -215,14 +214,14 @@ word_alike x (c ∷ common) after at h l =
         Splits x (if t then behind_word (at + 1) (common ++ after) else record
         { at = at; bytes = c ∷ (common ++ after) }) (if t then behind_word (at + 1) (common ++ instead x) else record
         { at = at; bytes = c ∷ (common ++ instead x) })
-    gone true k ih = let not_false = ih k in (ap (λ u. c ∷ u) both.0, both.1)
+    gone true k ih = let both = ih k in (ap (λ u. c ∷ u) both.0, both.1)
     gone false k ih = (refl, splits x (c ∷ common) after at h)
 
 pub meets_word : (x : Spot) → Meets x here here NoMore (λ s. Ok (word_here s))
 meets_word x = record {
   steady = word_steady;
   agrees = over_splits x (λ s t. MeetsOutcome x here NoMore (Ok (word_here s)) (Ok (word_here t)))
-      (λ common after at h l. let not_false = word_alike x common after at h l in
+      (λ common after at h l. let both = word_alike x common after at h l in
       inl (
         behind_word at (common ++ instead x),
         (ap (λ u. Ok (record { at = at; text = u }, behind_word at (common ++ instead x))) both.0, both.1),

@@ -16,8 +16,8 @@ use Rattle.mql_parse.specs.WordOrder.{rank, stands_alone, allows}
 use Rattle.mql_parse.specs.FaultTokens.{IsReadWhole, IsOneOf, IsBare, aligner_words, fold_words, operation_words}
 use Rattle.mql_parse.proofs.RestLemmas.{skip_off}
 use Rattle.mon_value.proofs.PlainLemmas.{equal_numbers, nothing_is}
-use Rattle.mql_parse.proofs.TokenEndings.{and_first}
 use Rattle.mql_parse.proofs.ValueEndings.{some_before}
+use Rattle.mql_parse.proofs.ByteLemmas.{and_first}
 
 -- the word that letters begin
 abbrev lettered : ℕ → ℕ → What

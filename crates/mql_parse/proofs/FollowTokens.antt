@@ -31,16 +31,15 @@ use Rattle.mql_parse.proofs.Follows.{FollowsPass, beyond, where_failed, ok_any, 
 use Rattle.mql_parse.proofs.Follows.{follows_to, follows_then, follows_map, follows_behind_pass, if_follows}
 use Rattle.mql_parse.proofs.Follows.{head_tests, follows_if, follows_skip, behind_taken, follows_taken, next_taken}
 use Rattle.mql_parse.proofs.Follows.{follows_here, part_taken}
-use Rattle.mql_parse.proofs.TokenEndings.{digit_in_word}
+use Rattle.mql_parse.proofs.ByteLemmas.{digit_in_word, not_false}
+
+pub count_is_digit : (d : ℕ) → counts d ≡ true → is_digit d ≡ true
+count_is_digit d h = grind (arith, nat_tests)
 
 -- words of letters and signs
 abbrev pub no_counts : List ℕ → Bool
 no_counts [] = true
 no_counts (c ∷ cs) = not (counts c) && no_counts cs
-
-pub not_false : (t u : Bool) → (not t && u) ≡ true → (t ≡ false) × (u ≡ true)
-not_false true u h = absurd (cc)
-not_false false u h = (refl, h)
 
 pub exact_follows : (x : Swap) (w : What) (cs : List ℕ) → no_counts cs ≡ true →
     FollowsPass x here here (exact w cs) (exact w cs)
@@ -116,9 +115,6 @@ alike_names a b (inr z) = (
   no_fold a.text z.0 ∙ sym (no_fold b.text z.1),
   no_word a.text (codes "percentile") z.0 refl ∙ sym (no_word b.text (codes "percentile") z.1 refl),
 )
-
-pub count_is_digit : (d : ℕ) → counts d ≡ true → is_digit d ≡ true
-count_is_digit d h = grind (arith, nat_tests)
 
 digit_is_metric : (d : ℕ) → is_digit d ≡ true → is_metric_byte d ≡ true
 digit_is_metric d h = grind (arith, nat_tests)

@@ -1,5 +1,6 @@
 pub mod BehindLemmas
 pub mod BranchViews
+pub mod ByteLemmas
 pub mod Complete
 pub mod Deepens
 pub mod Endings

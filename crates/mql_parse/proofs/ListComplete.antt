@@ -25,7 +25,7 @@ use Rattle.mql_parse.proofs.ListSound.{item_behind, folding_behind}
 use Rattle.mql_parse.proofs.Complete.{bound, mapped, up_to_read, sign_read, exact_read, name_read, ends_here}
 use Rattle.mql_parse.proofs.Complete.{other_byte, not_that_byte, other_sign, first_past}
 use Rattle.mql_parse.proofs.SumComplete.{name_taken, place_of_name, SumEnds, sum_ends_before, sum_read}
-use Rattle.mql_ast.proofs.TokensPrinted.{if_true, if_false}
+use Rattle.mql_parse.proofs.ByteLemmas.{if_true, if_false}
 
 -- a list whose parts are read
 module _ {A : Type 0} (close : ℕ) (comma : (close == 44) ≡ false) (w : What) (part : Rest → Outcome A) where

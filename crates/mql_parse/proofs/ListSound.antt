@@ -27,7 +27,7 @@ use Rattle.mql_parse.proofs.BehindLemmas.{behind_behind, sign_behind, name_behin
 use Rattle.mql_parse.proofs.Sound.{if_sound, bind_sound, sign_sound, exact_sound, name_sound, sign_here, changed_sound}
 use Rattle.mql_parse.proofs.Sound.{repeated_sound, if_turn, if_ok_weaker}
 use Rattle.mql_parse.proofs.SumSound.{IsSum, sum_sound, sum_behind, same_word}
-use Rattle.mql_ast.proofs.TokensPrinted.{chosen, if_true}
+use Rattle.mql_parse.proofs.ByteLemmas.{chosen, if_true}
 
 -- a turn that reads a part, and what stands behind it
 pub on_read_of : {A B : Type 0} (f : A × Rest → Turn B) (o : Outcome A) (P : A × Rest → Type 0) (ends on : B → Rest →

@@ -21,10 +21,11 @@ use Rattle.mql_parse.proofs.BehindLemmas.{sign_taken}
 use Rattle.mql_parse.proofs.Endings.{Worded, Parted, OpensAs, opens_on, Text, join, changed, worded, Default, Cut}
 use Rattle.mql_parse.proofs.Endings.{Smaller, known_smaller, Comes, IfExpected, Finish, finish_as, cut_before, cut_as}
 use Rattle.mql_parse.proofs.Endings.{Ends, behind_read, Reads, ends_before_it, cut_then, ends_as, done_ends, if_ends}
-use Rattle.mql_parse.proofs.TokenEndings.{at_place, and_first, AreBlanks, blank_last, blanks_open, skip_over}
-use Rattle.mql_parse.proofs.TokenEndings.{digit_in_word, outer_no_digit, byte_cut, first_cut}
+use Rattle.mql_parse.proofs.TokenEndings.{at_place, AreBlanks, blank_last, blanks_open, skip_over}
+use Rattle.mql_parse.proofs.TokenEndings.{outer_no_digit, byte_cut, first_cut}
 use Rattle.mql_parse.proofs.TokenEndings.{begun_here, wrong_spaced, SignSpan, minus_sign, sign_cut, Token}
 use Rattle.mql_ast.proofs.NumbersPrinted.{digit_is_no_blank}
+use Rattle.mql_parse.proofs.ByteLemmas.{and_first, digit_in_word}
 
 -- digits behind others: the number that they make
 abbrev IsDigits : ℕ → ℕ → ℕ → List ℕ → Type 0

@@ -35,7 +35,7 @@ use Rattle.mql_parse.proofs.Complete.{positive_read, duration_read, ends_here, o
 use Rattle.mql_parse.proofs.Complete.{first_past}
 use Rattle.mql_parse.proofs.ListComplete.{names_read, items_read, aggregates_read}
 use Rattle.mql_parse.proofs.PredicateComplete.{filter_ends, filter_ends_barred}
-use Rattle.mql_ast.proofs.TokensPrinted.{if_true, if_false}
+use Rattle.mql_parse.proofs.ByteLemmas.{if_true, if_false}
 
 -- a keyword and the blank behind it
 apart_read : (w : What) (m : Rest) → Apart m → apart w m ≡ Ok m

@@ -32,7 +32,7 @@ use Rattle.mql_parse.proofs.PredicateSound.{negation_behind, conjunction_behind}
 use Rattle.mql_parse.proofs.Complete.{read_of, bound, mapped, up_to_read, sign_read, ends_here, other_byte}
 use Rattle.mql_parse.proofs.Complete.{not_that_byte, other_sign, first_past, and_then_given}
 use Rattle.mql_parse.proofs.SumComplete.{name_taken}
-use Rattle.mql_ast.proofs.TokensPrinted.{chosen, if_true, if_false}
+use Rattle.mql_parse.proofs.ByteLemmas.{chosen, if_true, if_false}
 
 -- where the grammar chooses, the reading chooses so
 either_read : {A B : Type 0} (t : Bool) (o p : Option A) (r q : B) (x : A) (y : B) → (t ≡ true → o ≡ Some x → r ≡ y) →

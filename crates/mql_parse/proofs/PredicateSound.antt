@@ -32,7 +32,7 @@ use Rattle.mql_parse.proofs.Links.{text_from_links, pattern_from_links}
 use Rattle.mql_parse.proofs.Sound.{if_sound, bind_sound, linked, sign_sound, exact_sound, signed_sound, sign_here}
 use Rattle.mql_parse.proofs.Sound.{changed_sound, repeated_sound, if_turn}
 use Rattle.mql_parse.proofs.SumSound.{name_here}
-use Rattle.mql_ast.proofs.TokensPrinted.{if_true, if_false}
+use Rattle.mql_parse.proofs.ByteLemmas.{if_true, if_false}
 
 -- how a condition compares
 abbrev ComparesAt : Rest → Compared × Rest → Type 0

@@ -13,8 +13,9 @@ use Rattle.mql_parse.proofs.TokenFronts.{WordOf}
 use Rattle.mql_parse.proofs.Endings.{is_inner, Anyhow, Worded, Parted, Text, Then, join, Default, Smaller, IfTooLarge}
 use Rattle.mql_parse.proofs.Endings.{if_too_large, ComesBy, Comes, IfExpected, if_expected, Finish, Ends, bind_ends}
 use Rattle.mql_parse.proofs.Endings.{ends_as}
-use Rattle.mql_parse.proofs.TokenEndings.{digit_in_word, and_first, begun_here, all_nonzero, word_ends, SpacedSpan}
+use Rattle.mql_parse.proofs.TokenEndings.{begun_here, all_nonzero, word_ends, SpacedSpan}
 use Rattle.mql_parse.proofs.TokenEndings.{spaced}
+use Rattle.mql_parse.proofs.ByteLemmas.{and_first, digit_in_word}
 
 no_parts : (a b : List ℕ) → [] ≡ a ++ b → b ≡ []
 no_parts [] b h = sym h

@@ -21,7 +21,7 @@ use Rattle.mql_parse.proofs.Sound.{repeated_again}
 use Rattle.mql_parse.proofs.SumSound.{term_behind}
 use Rattle.mql_parse.proofs.Complete.{bound, mapped, sign_read, name_read, positive_read, signed_read, ends_here}
 use Rattle.mql_parse.proofs.Complete.{not_that_byte, other_sign, signed_begins}
-use Rattle.mql_ast.proofs.TokensPrinted.{chosen, if_true, if_false}
+use Rattle.mql_parse.proofs.ByteLemmas.{chosen, if_true, if_false}
 
 -- a name that stands here, and its place
 pub name_taken : (s r : Rest) (n : Name) → name_at s ≡ Some (n, r) →

@@ -14,7 +14,7 @@ use Rattle.mql_parse.specs.PipeReading as pipes
 use Rattle.mql_parse.proofs.RestLemmas.{skip_off}
 use Rattle.mql_parse.proofs.Complete.{bound}
 use Rattle.mql_parse.proofs.PipeComplete.{PipeEnds, pipe_read}
-use Rattle.mql_ast.proofs.TokensPrinted.{if_true, if_false}
+use Rattle.mql_parse.proofs.ByteLemmas.{if_true, if_false}
 
 -- nothing is left, and so no pipe goes on
 pub end_ends : (r : Rest) → r.bytes ≡ [] → PipeEnds r

@@ -27,7 +27,7 @@ use Rattle.mql_parse.proofs.PipeSteady.{pipe_steady}
 use Rattle.mql_parse.proofs.FrontEndings.{fault_front_begins, fault_within}
 use Rattle.mql_parse.proofs.TextComplete.{query_complete, within_levels}
 use Rattle.mql_parse.proofs.TextSound.{at_length}
-use Rattle.mql_ast.proofs.TokensPrinted.{if_true, if_false}
+use Rattle.mql_parse.proofs.ByteLemmas.{if_true, if_false}
 
 -- whether a text begins with a blank shows at its first byte
 blank_moves : (at : ℕ) (bs : List ℕ) → is_blank (first_of bs) ≡ true → at + 1 ≤ (behind_first at bs).at

@@ -22,8 +22,9 @@ use Rattle.mql_parse.proofs.Endings.{is_inner, Front, Anyhow, Worded, Parted, Op
 use Rattle.mql_parse.proofs.Endings.{Default, Cut, Smaller, IfTooLarge, ComesBy, Closes, Comes, IfExpected, Finish}
 use Rattle.mql_parse.proofs.Endings.{Ends, behind_read, Reads, Leaves, cut_before, cut_as, ends_as, if_ends}
 use Rattle.mon_value.proofs.PlainLemmas.{equal_numbers}
-use Rattle.mql_parse.proofs.FollowTokens.{not_false}
-use Rattle.mql_ast.proofs.TokensPrinted.{behind_word_off, or_false, word_bytes_off, letter_no_blank}
+use Rattle.std.proofs.lemmas.Bool.{or_parts}
+use Rattle.mql_parse.proofs.ByteLemmas.{behind_word_off, word_bytes_off, letter_no_blank}
+use Rattle.mql_parse.proofs.ByteLemmas.{letter_in_word, not_false}
 
 abbrev pub at_place : ℕ → List ℕ → Rest
 at_place at bs = record { at = at; bytes = bs }
@@ -32,28 +33,14 @@ at_place at bs = record { at = at; bytes = bs }
 pub blank_outer : (b : ℕ) → is_blank b ≡ true → is_inner b ≡ false
 blank_outer b h = grind (arith, nat_tests)
 
-pub letter_in_word : (b : ℕ) → is_letter b ≡ true → is_word_byte b ≡ true
-letter_in_word b h = ap (λ t. t || is_digit b) h
-
-pub digit_in_word : (b : ℕ) → is_digit b ≡ true → is_word_byte b ≡ true
-digit_in_word b h = either (is_letter b)
-  where
-    either : (t : Bool) → (t || is_digit b) ≡ true
-    either true = refl
-    either false = h
-
-pub and_first : (a b : Bool) → (a && b) ≡ true → a ≡ true
-and_first true b h = refl
-and_first false b h = h
-
 pub outer_no_metric : (b : ℕ) → is_inner b ≡ false → (is_metric_byte b ≡ false) × ((b == 47) ≡ false)
-outer_no_metric b h = or_false (is_metric_byte b) (b == 47) h
+outer_no_metric b h = or_parts (is_metric_byte b) (b == 47) h
 
 pub outer_no_word : (b : ℕ) → is_inner b ≡ false → is_word_byte b ≡ false
-outer_no_word b h = (or_false (is_word_byte b) (b == 46) (outer_no_metric b h).0).0
+outer_no_word b h = (or_parts (is_word_byte b) (b == 46) (outer_no_metric b h).0).0
 
 pub outer_no_digit : (b : ℕ) → is_inner b ≡ false → is_digit b ≡ false
-outer_no_digit b h = (or_false (is_letter b) (is_digit b) (outer_no_word b h)).1
+outer_no_digit b h = (or_parts (is_letter b) (is_digit b) (outer_no_word b h)).1
 
 -- blanks
 abbrev pub AreBlanks : List ℕ → Type 0
@@ -206,7 +193,7 @@ NamedSpan text x z =
 abbrev pub NameSpan : List ℕ → List ℕ → Type 0
 NameSpan x z = Token name_at x z
 
--- signs: or_false blanks nor what goes on a name
+-- signs: or_parts blanks nor what goes on a name
 abbrev pub IsSign : ℕ → Type 0
 IsSign b = (is_inner b ≡ false) × ((is_blank b ≡ false) × ((b == b ≡ true) × (0 == b ≡ false)))
 

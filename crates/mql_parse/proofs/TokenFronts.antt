@@ -10,7 +10,7 @@ use Rattle.mql_ast.specs.Grammar.{how_word}
 use Rattle.mql_parse.specs.declared.faults.What.{What}
 use Rattle.mql_parse.specs.declared.faults.What.TheVariants as what
 use Rattle.mql_parse.specs.FaultTokens.{IsOneOf, aligner_words, fold_words, operation_words, IsBare}
-use Rattle.mql_parse.proofs.FollowTokens.{not_false}
+use Rattle.mql_parse.proofs.ByteLemmas.{not_false, or_second}
 
 -- whether all was read
 abbrev pub whole : {A : Type 0} → Option (A × Rest) → Bool
@@ -29,10 +29,6 @@ same_itself (x ∷ xs) = let same : nat_eq x x ≡ true = grind (arith, nat_test
 abbrev is_one_of : List (List ℕ) → List ℕ → Bool
 is_one_of [] t = false
 is_one_of (word ∷ words) t = same_bytes t word || is_one_of words t
-
-pub or_second : (a b : Bool) → b ≡ true → (a || b) ≡ true
-or_second true b h = refl
-or_second false b h = h
 
 one_found : (words : List (List ℕ)) (t : List ℕ) → IsOneOf words t → is_one_of words t ≡ true
 one_found [] t h = absurd h

@@ -15,7 +15,7 @@ use Rattle.mql_parse.specs.Faults.{OutsideKind}
 use Rattle.mql_parse.proofs.KindFits.{Outside, Fits, PassFits, outside_itself, outside_before, pass_before, bind_fits}
 use Rattle.mql_parse.proofs.KindFits.{map_fits, pass_then, if_fits, if_pass, byte_outside, skip_outside, part_outside}
 use Rattle.mql_parse.proofs.KindFits.{behind_fits, skip_fits, part_fits, unexpected_fits, unexpected_next, fault_fits}
-use Rattle.mql_parse.proofs.TokenFronts.{or_second}
+use Rattle.mql_parse.proofs.ByteLemmas.{or_second}
 
 -- neither a quote nor none
 abbrev pub plain_bytes : List ℕ → Bool

@@ -5,7 +5,7 @@ use Rattle.std.specs.Prelude.{slice_get}
 use Rattle.std.specs.List.{AllByRecursion, filter, sum_by}
 use Rattle.std.specs.Option.{option_map_or}
 use Rattle.std.specs.Ordering.{int_eq}
-use Rattle.std.proofs.Math.Nat.{mul-le-mul_right, pow-le-pow_right, suc-mul}
+use Rattle.std.proofs.Math.Nat.{mul-le-mul_right, suc-mul}
 use Rattle.std.proofs.lemmas.List.{append_assoc, map-append}
 use Rattle.std.proofs.lemmas.List.Sums.{sum_by-cons}
 use Rattle.mon_value.specs.Grids.{CanAddUnder, CanAlign, SumFits, aligned_values, seconds_of, values_of, IsDuration}
@@ -46,7 +46,7 @@ use Rattle.mql_types.proofs.AlignedValues.{series_within, sum_of_values, valued,
 use Rattle.mql_types.proofs.FetchedPoints.{IsRowOf, IsSeriesOf, series_columns, series_small, series_typed}
 use Rattle.mql_types.proofs.FetchedPoints.{value_small, value_typed}
 use Rattle.mql_types.proofs.GroupSums.{key_sums_within, keys_apart}
-use Rattle.mql_types.proofs.JoinedRows.{FitColumns-append, FitWidths-append, IsRowWide, all-flat_map}
+use Rattle.mql_types.proofs.JoinedRows.{FitColumns-append, FitWidths-append, IsRowWide, all-flat_map, bits_more}
 use Rattle.mql_types.proofs.JoinedRows.{all-made, all-map, column_of_all, place_bound}
 use Rattle.mql_types.proofs.KeptRows.{all-filter, sum_by-flat_map}
 use Rattle.mql_types.proofs.MadeCells.{Side, back, front, length_fit, side_of}
@@ -339,9 +339,6 @@ series_wide target metric =
     all_append IsRowWide (target_columns target.name 0 target.fields) (map (key_column None) metric.fields)
     (target_wide target.name 0 target.fields)
     (metric_wide metric.fields)
-
-pub bits_more : (n cell total : ℕ) → n ≤ 2 ^ (cell + 24) → cell + 24 ≤ total → n ≤ 2 ^ total
-bits_more n cell total h wide = omega (arith, h, pow-le-pow_right {n = 2} (omega arith) wide)
 
 get_same : {A : Type 0} (xs ys : List A) (place : ℕ) (x y : A) → slice_get xs place ≡ Some x
     → slice_get (xs ++ ys) place ≡ Some y → slice_get xs place ≡ Some y

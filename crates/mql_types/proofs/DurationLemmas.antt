@@ -1,31 +1,33 @@
 -- The durations of a query that a text spells are ones that a query may name.
-use Rattle.std.proofs.Common.{◌≡◌, ℕ, ℤ, pos, negsuc, List, [], ◌∷◌, ◌++◌, arith}
+use Rattle.std.proofs.Common.{◌≡◌, ℕ, ℤ, pos, negsuc, List, [], ◌∷◌, ◌++◌, Some, arith}
 use Rattle.std.proofs.lemmas.Int.{ints}
 use Rattle.std.specs.List.{AllByRecursion}
 use Rattle.mon_value.specs.Grids.{IsDuration}
 use Rattle.mql_ast.specs.Grammar.{Deed, filter, align_delta, align_next_older, group_by, value, top, every, within}
 use Rattle.mql_ast.specs.Grammar.{Ops, no_ops, more_ops, Pipe, flow, Source, fetch, join, PipeList, two_pipes}
 use Rattle.mql_ast.specs.Grammar.{more_pipes, Spells}
-use Rattle.mql_ast.specs.Tokens.{Rest, skip}
+use Rattle.mql_ast.specs.Tokens.{Rest, skip, duration_at}
 use Rattle.mql_ast.specs.Trees.{DeedTree, OpTree, PipeTree, SourceTree, branches}
 use Rattle.mql_ast.proofs.NumbersPrinted as printed
 use Rattle.mon_value.proofs.PlainLemmas.{all_append}
-use Rattle.mql_ast.proofs.NumbersPrinted.{duration_lawful}
 use Rattle.mql_types.specs.Times.{HasDuration, HasDurations, branch_ops, pipe_ops, source_ops}
 
 from_text : (z : ℤ) → printed.IsDuration z → IsDuration z
 from_text (pos n) (printed.seconds one low) = (omega (arith, ints), omega (arith, ints))
 from_text (negsuc n) h = elim h [ ]
 
+duration_read : (s r : Rest) (z : ℤ) → duration_at s ≡ Some (z, r) → IsDuration z
+duration_read s r z h = from_text z (printed.duration_lawful s r z h)
+
 deed_durations : {d : ℕ} {s r : Rest} {what : DeedTree} → Deed d s r what → HasDuration what
 deed_durations (filter a b p) = tt
-deed_durations (align_delta {j = j} {i = i} {z = z} a b c e h g) = duration_lawful j i z h
-deed_durations (align_next_older {j = j} {i = i} {z = z} a b c e h g) = duration_lawful j i z h
+deed_durations (align_delta {j = j} {i = i} {z = z} a b c e h g) = duration_read j i z h
+deed_durations (align_next_older {j = j} {i = i} {z = z} a b c e h g) = duration_read j i z h
 deed_durations (group_by a b c e) = tt
 deed_durations (value a b c e) = tt
 deed_durations (top a b c e f) = tt
-deed_durations (every {m = m} {r = r} {z = z} a b h) = duration_lawful m r z h
-deed_durations (within {m = m} {r = r} {z = z} a b h) = duration_lawful m r z h
+deed_durations (every {m = m} {r = r} {z = z} a b h) = duration_read m r z h
+deed_durations (within {m = m} {r = r} {z = z} a b h) = duration_read m r z h
 
 -- whether all operations of a list have such durations
 abbrev pub Last : List OpTree → Type 0

@@ -22,7 +22,9 @@ use Rattle.mql_types.proofs.KeptRows.{all-filter}
 use Rattle.mql_types.proofs.Totals.{cell_within, counted, counted_rows, totals_from}
 use Rattle.mql_types.proofs.MadeCells.{kept_shaped, kept_within}
 use Rattle.mon_value.proofs.PlainLemmas.{all_both, all_append}
-use Rattle.mql_types.proofs.AlignedRows.{bits_more}
+
+pub bits_more : (n cell total : ℕ) → n ≤ 2 ^ (cell + 24) → cell + 24 ≤ total → n ≤ 2 ^ total
+bits_more n cell total h wide = omega (arith, h, pow-le-pow_right {n = 2} (omega arith) wide)
 
 -- ---- columns whose sums are bounded by the number of rows
 

@@ -20,7 +20,7 @@ use Rattle.mql_types.proofs.JoinedRows.{column_of_all, row_wide}
 use Rattle.mql_types.proofs.SumBounds.{AreLawful, IsLawful, IsSound, added_by, amount, both_by, column_by, lawful_sum}
 use Rattle.mql_types.proofs.SumBounds.{not_wide, number_within, numbers_at, percentile_column, taken_by}
 use Rattle.mql_types.proofs.SumBounds.{together_within}
-use Rattle.mql_types.proofs.Totals.{counted, total_at}
+use Rattle.mql_types.proofs.Totals.{counted, total_at, within_by}
 use Rattle.mql_types.proofs.UnitedRows.{both_sums}
 use Rattle.mql_types.proofs.FetchColumnLemmas.{both_none}
 use Rattle.mon_value.proofs.PlainLemmas.{same_item}
@@ -28,10 +28,6 @@ use Rattle.mon_value.proofs.PlainLemmas.{same_item}
 -- how much a sum comes to in a row of a time
 abbrev pub summed : ℤ → List Column → SumTree → TimedRow → ℕ
 summed time columns e row = cond (int_eq row.time time) (amount (sum_value e columns row.cells)) 0
-
-pub within_by : (b : Bool) (n most : ℕ) → n ≤ most → cond b n 0 ≤ most
-within_by true n most h = h
-within_by false n most h = omega arith
 
 -- so many rows come to no more than each does so many times
 each_within : (time : ℤ) (most : ℕ) (f : TimedRow → ℕ) → ((row : TimedRow) → f row ≤ most) → (rows : List TimedRow)

@@ -16,7 +16,10 @@ use Rattle.mon_value.specs.declared.values.Value.{Value}
 use Rattle.mql_ast.specs.Rows.{FitWidths}
 use Rattle.mql_types.specs.Soundness.{TotalsFit}
 use Rattle.mon_value.proofs.PlainLemmas.{nothing_is, same_item}
-use Rattle.mql_types.proofs.SumTotals.{within_by}
+
+pub within_by : (b : Bool) (n most : ℕ) → n ≤ most → cond b n 0 ≤ most
+within_by true n most h = h
+within_by false n most h = omega arith
 
 -- how much a row counts in a column at a time
 abbrev pub counted : ℤ → ℕ → TimedRow → ℕ

@@ -9,7 +9,6 @@ use Rattle.mon_topo.proofs.RangeHistoryLemmas.{all_from}
 use Rattle.query_core.specs.Courses.{found_down}
 use Rattle.query_core.specs.declared.answers.RoundFault.TheVariants as fault
 use Rattle.query_core.proofs.FoundsTold.{EndDown, StageDown, ToldDown, settles_down, told_down}
-use Rattle.mon_value.proofs.CountsPartLemmas.{All-front, All-back}
 use Rattle.query_core.specs.Machine.{Query, new_query, slots_at}
 use Rattle.query_core.specs.Program.{after}
 use Rattle.query_core.specs.Sessions as session
@@ -22,6 +21,7 @@ use Rattle.query_core.specs.declared.asks.Told.{Told}
 use Rattle.query_core.specs.declared.asks.Told.TheVariants as told
 use Rattle.query_core.specs.declared.stages.Stage.{Stage}
 use Rattle.query_core.specs.declared.stages.Stage.TheVariants as at
+use Rattle.mon_value.proofs.PlainLemmas.{all_front, all_back}
 
 module _ (Is : FoundDown → Type 0) where
   abbrev Down : Leaf → ℕ → Type 0
@@ -54,9 +54,9 @@ module _ (Is : FoundDown → Type 0) where
         session_down events event.view next
         (settles_down Down setting (after setting query.stage event.answer) event.stage
         (told_down Down store setting moment before event.view query.avoided (slots_at query) query.stage event.answer h
-        (told_one query.stage event.answer (All-front Is first rest all)) licensed.0.true_then)
+        (told_one query.stage event.answer (all_front Is first rest all)) licensed.0.true_then)
         licensed.0.goes_on)
-        (All-back Is first rest all) licensed.1
+        (all_back Is first rest all) licensed.1
 
     end_names : (end : Result Answer RoundFault) → EndDown Down end → EndNames Is end
     end_names (Ok answer) h = h

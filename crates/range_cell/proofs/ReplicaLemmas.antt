@@ -143,7 +143,7 @@ module _ (setting : Setting) (range : Range) (leaf : Leaf) (history : List Range
     home = λ row among. all_at (IsAtHome setting.held setting.zones range) (acknowledged_rows history) row
         (holding.home some)
         (subst (λ (xs : List Row). Contains xs row) is among);
-    source = subst Rattle.mon_value.specs.Sources.IsSource (sym is) holding.source;
+    source = subst Rattle.mon_value.specs.LeafHistories.IsSource (sym is) holding.source;
   }
 
   -- ---- it was opened there

@@ -57,7 +57,7 @@ use Rattle.write_core.specs.declared.copies.Denial.{Denial}
 use Rattle.write_core.specs.declared.copies.Denial.TheVariants as denial
 use Rattle.write_core.specs.declared.refusals.Refused.{Refused}
 use Rattle.write_core.specs.declared.refusals.Refused.TheVariants as ranged
-use Rattle.run_traces.proofs.ListFacts.{all_as, all_at, any_at}
+use Rattle.run_traces.proofs.ListFacts.{all_as, all_at, any_at, or_either}
 use Rattle.run_traces.proofs.RunFacts.{InPlace, There, book_length, greater_by, range_length, wider}
 
 -- ---- lists
@@ -69,10 +69,6 @@ take_front (suc n) (suc m) [] le = refl
 take_front (suc n) (suc m) (x ∷ xs) le = ap (λ w. x ∷ w) (take_front n m xs (omega arith))
 
 -- ---- tests of lists
-
-pub or_either : (a b : Bool) (C : Type 0) → (a || b) ≡ true → (a ≡ true → C) → (b ≡ true → C) → C
-or_either true b C is here there = here refl
-or_either false b C is here there = there is
 
 module _ {X : Type 0} (test : X → Bool) where
   any_split : (xs ys : List X) (C : Type 0) → list_any test (xs ++ ys) ≡ true → (list_any test xs ≡ true → C)

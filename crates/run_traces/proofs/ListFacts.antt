@@ -4,7 +4,10 @@ use Rattle.std.proofs.Common.{filter, take, slice_get, Some, refl, subst, arith,
 use Rattle.std.specs.List.{AllByRecursion, flat_map, list_any}
 use Rattle.std.proofs.lemmas.Bool.{false≢true}
 use Rattle.run_theory.specs.Parts.{between}
-use Rattle.run_traces.proofs.Causes.{or_either}
+
+pub or_either : (a b : Bool) (C : Type 0) → (a || b) ≡ true → (a ≡ true → C) → (b ≡ true → C) → C
+or_either true b C is here there = here refl
+or_either false b C is here there = there is
 
 module _ {X : Type 0} where
   pub both_all : (P : X → Type 0) (xs ys : List X) → AllByRecursion P xs → AllByRecursion P ys

@@ -34,7 +34,9 @@ use Rattle.write_core.proofs.MeetLemmas.{base_range, base_up, base_whole, inside
 use Rattle.write_core.proofs.OpeningLemmas.{replica_at_home}
 use Rattle.write_core.proofs.StepLemmas.{IsStep, recover_at_leaf, recover_at_range, recovery_of}
 use Rattle.write_core.proofs.ViewLemmas.{within_itself}
-use Rattle.write_core.proofs.RangeEventLemmas.{some_is_not_none}
+
+pub some_is_not_none : (i : ℕ) → Some i ≡ None → ⊥
+some_is_not_none i e = cc
 
 -- ---- what was found down
 

@@ -34,7 +34,7 @@ use Rattle.write_core.specs.declared.marks.Mark.{Mark}
 use Rattle.write_core.specs.declared.refusals.Refused.{Refused}
 use Rattle.write_core.proofs.AckLemmas.{all_map_from, contains_filter, contains_map, is_named_missed, missed_in, named}
 use Rattle.write_core.proofs.AckLemmas.{none_took, some_taken, taken_in, took_from}
-use Rattle.write_core.proofs.CopyAsking.{found_moves}
+use Rattle.write_core.proofs.CopyAsking.{found_moves, some_is_not_none}
 use Rattle.write_core.proofs.ChangeLemmas.{range_entry_sound, range_entry_up, range_entry_within}
 use Rattle.write_core.proofs.DeedLemmas.{acks_stay, anothers_ack, done_acked, done_locked, done_none}
 use Rattle.write_core.proofs.MeetLemmas as meet
@@ -47,9 +47,6 @@ use Rattle.write_core.proofs.StageLemmas.{at_reserving}
 use Rattle.write_core.proofs.StepLemmas.{IsStep, ChangesRange, write_at_range, writer_of}
 use Rattle.write_core.proofs.UnavailableLemmas.{all_found}
 use Rattle.write_core.proofs.ViewLemmas.{within_itself}
-
-pub some_is_not_none : (i : ℕ) → Some i ≡ None → ⊥
-some_is_not_none i e = cc
 
 map_waiting : (replicas : List SlotLeaf) → map replica_of (map waiting replicas) ≡ replicas
 map_waiting [] = refl
