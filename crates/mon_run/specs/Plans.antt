@@ -17,7 +17,7 @@ use Rattle.run_traces.specs.LineDues.{lines_status}
 use Rattle.run_traces.specs.LineTexts.{line_text}
 use Rattle.run_traces.specs.RanLines.{RanLine, parts_of, ran_lines}
 use Rattle.run_traces.specs.declared.traces.LineTrace.{LineTrace}
-use Rattle.run_traces.specs.declared.traces.LineTrace.TheVariants as came
+use Rattle.run_traces.specs.declared.traces.LineTrace.TheVariants as a_trace
 use Rattle.mon_value.specs.Same.{same_text}
 use Rattle.mon_config.specs.Configs.{config_in}
 use Rattle.mon_config.specs.declared.faults.ConfigFault.{ConfigFault}
@@ -40,7 +40,7 @@ starved_plan = plan [] 6
 
 -- the lines of a block end, with what begins and what ends it, and then their texts are written
 abbrev pub block_steps : (RanLine → List ℕ) → List RanLine → List Step
-block_steps text lines = End came.Done ∷ (map (λ line. End line.trace) lines ++ End came.Done
+block_steps text lines = End a_trace.Done ∷ (map (λ line. End line.trace) lines ++ End a_trace.Done
     ∷ map (λ line. Write (text line)) lines)
 
 module _ (files : Files) where
