@@ -1,3 +1,4 @@
 pub mod EntryLemmas
 pub mod HashLemmas
+pub mod SeekLemmas
 pub mod TreeLemmas

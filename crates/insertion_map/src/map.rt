@@ -12,6 +12,7 @@ ghost use Rattle.indexmap.specs.IndexMap.{values, get, get_by, get_key_by, hashe
 ghost use Rattle.indexmap.specs.IndexMap.{index_of_by, insert_entry, insert_index, spare};
 ghost use Rattle.indexmap.specs.IndexMap.{IsEmpty, IsUnchanged, IsUnique, KeepsRoom, Updates};
 ghost use Rattle.indexmap.specs.Layout.{hash_map};
+ghost use Rattle.std_collections.specs.Layout.HashMap.{position};
 ghost use Rattle.insertion_map.specs.Hashes.{key_hash};
 ghost use Rattle.insertion_map.specs.Lends.{lends_at, lends_get, lends_index};
 
@@ -22,6 +23,9 @@ use std::alloc::{AllocError, AllocFailed, Global};
 use std::hash::{BuildHasher, BuildHasherDefault, Hash};
 use std::marker::Model;
 use std::mem::replace;
+
+// Up to so many entries a map looks at one after another.
+const FEW: usize = 8;
 
 /// A map whose entries keep the order in which their keys were inserted. Keys are found by SipHash of 64 bits.
 ///
@@ -167,7 +171,7 @@ impl<K: Eq + Hash, V, S: BuildHasher> InsertionMap<K, V, S> {
         ensures value { IfSome result (λ i. slice_get (values self.now) i ≡ get_by (Q.equivalent key) self.now) }
         ensures unique { IsUnique K.eq self.now }
     {
-        self.find(self.hash_of(key), key)
+        self.seek(key)
     }
 
     /// The index of `key`, which is tried first at a guess: a right guess costs one comparison and no hash.
@@ -334,8 +338,28 @@ impl<K: Eq + Hash, V, S: BuildHasher> InsertionMap<K, V, S> {
         if self.is_at(guess, key) {
             return Ok(guess);
         }
-        let hash = self.hash_of(key);
-        self.find(hash, key).ok_or(hash)
+        let entries = self.entries();
+        if entries.len() > FEW {
+            let hash = self.hash_of(key);
+            return self.find(hash, key).ok_or(hash);
+        }
+        match first_with(entries, key) {
+            Some(i) => Ok(i),
+            None => Err(self.hash_of(key)),
+        }
+    }
+
+    // Where the key's entry is. Among few entries it is looked for one after another, which costs less than a hash.
+    #[inline(always)]
+    fn seek<Q: Equivalent<K>>(&self, key: Q) -> Option<usize>
+        ensures index { result ≡ index_of_by (Q.equivalent key) self.now }
+        ensures unique { IsUnique K.eq self.now }
+    {
+        let entries = self.entries();
+        if entries.len() > FEW {
+            return self.find(self.hash_of(key), key);
+        }
+        first_with(entries, key)
     }
 
     // Whether the entry at an index has the key.
@@ -411,4 +435,16 @@ impl<K: Eq + Hash, V, S: BuildHasher> InsertionMap<K, V, S> {
         self.tree.push(hash);
         self.entries.push_reserved((key, value));
     }
+}
+
+// The place of the first entry with the key.
+fn first_with<K: Eq + Hash, V, Q: Equivalent<K>>(entries: &[(K, V)], key: Q) -> Option<usize>
+    ensures first { result ≡ position (Q.equivalent key) entries.now }
+{
+    for (i, entry) in entries.iter().enumerate() {
+        if key.equivalent(&entry.0) {
+            return Some(i);
+        }
+    }
+    None
 }

@@ -5,10 +5,10 @@ use Rattle.insertion_map.proofs.map.InsertionMap.get_index_of.Goals as goal
 
 pub returns-clause-found : goal.returns-clause-found
 returns-clause-found g c =
-    ap is_some c.find.ensures.index ∙ some_index (g.Q.Equivalent.equivalent c.args.key) c.args.self.now.entries
+    ap is_some c.seek.ensures.index ∙ some_index (g.Q.Equivalent.equivalent c.args.key) c.args.self.now.entries
 
 pub returns-clause-value : goal.returns-clause-value
 returns-clause-value g c =
     let test = g.Q.Equivalent.equivalent c.args.key in
     subst (λ r. IfSome r (λ i. slice_get (values c.args.self.now) i ≡ get_by test c.args.self.now))
-    (sym c.find.ensures.index) (value_index test c.args.self.now.entries)
+    (sym c.seek.ensures.index) (value_index test c.args.self.now.entries)
