@@ -30,10 +30,10 @@ def behind(state, word):
 
 
 def words_of(part):
-    """The words of one write: eight bytes in each, and in the last one those that are left, behind their count."""
-    whole = len(part) - len(part) % 8
-    words = [int.from_bytes(part[at : at + 8], "big") for at in range(0, whole, 8)]
-    return words + [(len(part) % 8) << 8 * (len(part) % 8) | int.from_bytes(part[whole:], "big")]
+    """The words of one write: eight bytes in each, and in a last one those that are left, behind their count."""
+    left = part[len(part) - len(part) % 8 :]
+    words = [int.from_bytes(part[at : at + 8], "little") for at in range(0, len(part) - len(left), 8)]
+    return words + [len(left) << 8 * len(left) | int.from_bytes(left, "big")] * bool(left)
 
 
 def written(*parts):

@@ -1,7 +1,7 @@
 -- SipHash-1-3 over the words of what is written, as functions of a hasher's state.
 use Rattle.std.specs.Prelude.{ℕ, zero, suc, ◌+◌, ◌*◌, ◌%◌, ◌^◌, cond, nat_lt, bit_or, bit_xor}
 use Rattle.std.specs.Prelude.{List, [], ◌∷◌, take, drop, length}
-use Rattle.std.specs.Int.{w64, rotate_left}
+use Rattle.std.specs.Int.{w64, rotate_left, from_le_bytes}
 use Rattle.std.specs.List.{fold}
 use Rattle.insertion_map.specs.declared.hash.WordHasher.{WordHasher}
 
@@ -47,18 +47,22 @@ word_of start bytes = fold with_byte start bytes
 
 -- the first eight of some bytes, as a word
 abbrev pub first_word : List ℕ → ℕ
-first_word bytes = word_of 0 (take 8 bytes)
+first_word bytes = from_le_bytes w64 (take 8 bytes)
 
 -- fewer bytes than eight, as a word behind their count
 abbrev pub last_word : List ℕ → ℕ
 last_word bytes = word_of (length bytes) bytes
 
--- the words of some bytes: eight in each, and in the last one those that are left, behind their count; n is at least
--- the number of bytes
+-- no word for no bytes
+abbrev pub last_words : List ℕ → List ℕ
+last_words [] = []
+last_words (byte ∷ bytes) = last_word (byte ∷ bytes) ∷ []
+
+-- the words of some bytes: eight in each, and in a last one those that are left, behind their count; n is at least the
+-- number of bytes
 unfoldable pub words : ℕ → List ℕ → List ℕ
-words zero bytes = last_word bytes ∷ []
-words (suc n) bytes =
-    cond (nat_lt (length bytes) 8) (last_word bytes ∷ []) (first_word bytes ∷ words n (drop 8 bytes))
+words zero bytes = last_words bytes
+words (suc n) bytes = cond (nat_lt (length bytes) 8) (last_words bytes) (first_word bytes ∷ words n (drop 8 bytes))
 
 -- the state after a write
 unfoldable pub write : WordHasher → List ℕ → WordHasher

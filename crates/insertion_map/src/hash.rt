@@ -5,8 +5,8 @@ ghost use Rattle.insertion_map.specs.WordHasher as spec;
 use std::hash::Hasher;
 
 /// SipHash-1-3 (Aumasson and Bernstein 2012) over words: what one call writes goes in as words of eight bytes, and what
-/// is left as a last word with its count in front, so that no write waits for the next one to fill a word. With its
-/// keys fixed it still takes as many trials as there are hashes to find a key of a given hash.
+/// is left, if anything, as a last word with its count in front, so that no write waits for the next one to fill a word.
+/// With its keys fixed it still takes as many trials as there are hashes to find a key of a given hash.
 #[derive(Clone, Copy)]
 pub struct WordHasher {
     v0: u64,
@@ -74,12 +74,13 @@ impl Hasher for WordHasher {
 
     fn write(&mut self, bytes: &[u8]) {
         let mut rest = bytes;
-        while rest.len() >= 8 {
-            let (word, behind) = rest.split_at(8);
-            self.absorb(word_of(0, word));
+        while let Some((word, behind)) = rest.split_first_chunk::<8>() {
+            self.absorb(u64::from_le_bytes(*word));
             rest = behind;
         }
-        self.absorb(word_of(rest.len() as u64, rest));
+        if !rest.is_empty() {
+            self.absorb(word_of(rest.len() as u64, rest));
+        }
     }
 
     fn finish(&self) -> u64 {
