@@ -4,6 +4,7 @@ mod EntryLemmas
 pub mod FollowLemmas
 mod GuessLemmas
 mod KeptEntryLemmas
+mod RunLemmas
 mod KnownLemmas
 mod ReplicaLemmas
 mod SeriesNumberLemmas

@@ -153,18 +153,18 @@ there_at replicas [] i d there below = absurd (omega arith)
 there_at replicas (k ∷ ks) zero d there below = there.0
 there_at replicas (k ∷ ks) (suc i) d there below = there_at replicas ks i d there.1 (omega arith)
 
-pub kept_next : (range : Range) (slot : Slot) (rows more : List Row) (replicas : Replicas) (ks : List Kept) (i : ℕ)
-    (k : Kept) → AllHaveRows replicas ks → slice_get ks i ≡ Some k
-    → IfSome (entry_of replicas k) (λ e. more ≡ rows ++ entry_rows range slot e) → rows ≡ replica_rows range slot
-    (shown_entries replicas (take i ks))
-    → more ≡ replica_rows range slot (shown_entries replicas (take (i + 1) ks))
-kept_next range slot rows more replicas ks i k there is added so_far =
+pub kept_next : (range : Range) (slot : Slot) (before rows more : List Row) (replicas : Replicas) (ks : List Kept)
+    (i : ℕ) (k : Kept) → AllHaveRows replicas ks → slice_get ks i ≡ Some k
+    → IfSome (entry_of replicas k) (λ e. more ≡ rows ++ entry_rows range slot e)
+    → rows ≡ before ++ replica_rows range slot (shown_entries replicas (take i ks))
+    → more ≡ before ++ replica_rows range slot (shown_entries replicas (take (i + 1) ks))
+kept_next range slot before rows more replicas ks i k there is added so_far =
     let below = slice_get_within ks i k is in
     let same : get_or ks i k ≡ k = get_or_from_slice_get ks i k k is in
-    kept_more range slot [] rows more replicas (take i ks) k
+    kept_more range slot before rows more replicas (take i ks) k
     (subst (λ (own : Kept). is_some (entry_of replicas own) ≡ true) same (there_at replicas ks i k there below)) added
     so_far
-    ∙ ap (λ (es : List Kept). replica_rows range slot (shown_entries replicas es))
+    ∙ ap (λ (es : List Kept). before ++ replica_rows range slot (shown_entries replicas es))
     (ap (λ (own : Kept). take i ks ++ own ∷ []) (sym same) ∙ sym (take_more ks i k below))
 
 -- a list's first so many and the next one

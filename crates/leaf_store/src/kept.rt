@@ -1,11 +1,11 @@
 // Entries of a history whose rows are with their replicas.
-ghost use Rattle.std.specs.Prelude.{◌≡◌, ◌++◌, ◌∷◌, ◌<◌, ◌≤◌, ◌^◌, [], length, slice_get, Some, OnOk};
-ghost use Rattle.leaf_store.specs.within.KeptEntries.{kept_of};
+ghost use Rattle.std.specs.Prelude.{◌≡◌, ◌++◌, ◌∷◌, ◌<◌, ◌≤◌, ◌^◌, [], length, OnOk};
+ghost use Rattle.leaf_store.specs.within.KeptEntries.{entries_of};
 
+use crate::runs::Run;
 use mon_value::{OutOfMemory, RoomListOf};
-use std::alloc::Global;
+use std::alloc::{AllocError, Global};
 use std::marker::Model;
-use std::mem::size_of;
 
 /// An entry whose rows are with their replica: it tells the number of the replica, and which rows of it are its own.
 #[derive(Clone, Copy)]
@@ -20,38 +20,20 @@ pub(crate) enum Kept {
     Up { pass: u64 },
 }
 
-/// What an entry says.
-#[derive(Clone, Copy)]
-pub(crate) enum Kind {
-    Opened,
-    Put,
-    Down,
-    Up,
-}
+/// How many entries there are at most, which is more than go into memory.
+const MOST_ENTRIES: usize = 1 << 60;
 
-/// The numbers of an entry: its pass, its replica, and how many rows it brought, or the row's number. A switch has its
-/// pass alone.
-#[derive(Clone, Copy)]
-pub(crate) struct Numbers {
-    pass: u64,
-    replica: u32,
-    rows: u32,
-}
-
-const _: () = prove!(size_of::<Kind>() == 1);
-
-const _: () = prove!(size_of::<Numbers>() == 16);
-
-/// Such entries, in their order. Their kinds stand apart from their numbers, so that an entry takes 17 bytes. Contracts
-/// see the entries, and for how many more room was made.
+/// Such entries, in their order. They stand in runs, 24 bytes for each: a feed's rows follow one another in their
+/// replica. Contracts see the entries, and for how many more room was made.
 #[derive(Drop)]
 pub(crate) struct KeptEntries {
-    kinds: RoomListOf<Kind>,
-    numbers: RoomListOf<Numbers>,
+    runs: RoomListOf<Run>,
+    last: Run,
+    count: usize,
 }
 
 impl Model for KeptEntries {
-    ghost use Rattle.std.specs.Prelude.{◌≡◌, length, min};
+    ghost use Rattle.std.specs.Prelude.{◌≡◌, ◌-◌, ◌≤◌, ◌^◌, length, min};
     ghost use Rattle.mon_value.specs.Rooms.{RoomList};
     ghost use Rattle.leaf_store.specs.declared.kept.Kept.{Kept};
 
@@ -60,11 +42,14 @@ impl Model for KeptEntries {
     ghost use Rattle.leaf_store.specs.within.KeptEntries.{entries_of};
 
     ghost view = { λ kept. record {
-      items = entries_of kept.kinds.items kept.numbers.items;
-      spare = min kept.kinds.spare kept.numbers.spare;
+      items = entries_of kept.runs.items kept.last;
+      spare = min kept.runs.spare (2 ^ 60 - kept.count);
     } };
 
-    ghost invariant = { λ kept. length kept.kinds.items ≡ length kept.numbers.items };
+    ghost invariant = { λ kept. record {
+      count : kept.count ≡ length (entries_of kept.runs.items kept.last);
+      few : kept.count ≤ 2 ^ 60;
+    } };
 }
 
 impl KeptEntries {
@@ -73,25 +58,25 @@ impl KeptEntries {
         ensures empty { result.items ≡ [] }
     {
         KeptEntries {
-            kinds: RoomListOf::new(alloc),
-            numbers: RoomListOf::new(alloc),
+            runs: RoomListOf::new(alloc),
+            last: Run::none(),
+            count: 0,
         }
     }
 
-    /// How many entries there are. There are fewer than 2^61, as they lie in memory.
+    /// How many entries there are.
     pub(crate) fn len(&self) -> usize
         ensures count { result ≡ length self.now.items }
         ensures few { result < 2 ^ 61 }
     {
-        self.numbers.as_slice().len()
+        self.count
     }
 
-    /// The entry at a place.
-    pub(crate) fn get(&self, at: usize) -> Kept
-        requires within { at < length self.now.items }
-        ensures entry { slice_get self.now.items at ≡ Some result }
+    /// The runs, and the last one behind them.
+    pub(crate) fn runs(&self) -> (&[Run], Run)
+        ensures runs { self.now.items ≡ entries_of result.0.now result.1 }
     {
-        put_together(*self.kinds.get(at), *self.numbers.get(at))
+        (self.runs.as_slice(), self.last)
     }
 
     /// Makes room for an entry more.
@@ -99,8 +84,10 @@ impl KeptEntries {
         ensures room { OnOk result (1 ≤ self.new.spare) }
         ensures kept { self.new.items ≡ self.old.items }
     {
-        self.kinds.reserve_one()?;
-        self.numbers.reserve_one()
+        if self.count >= MOST_ENTRIES {
+            return Err(AllocError);
+        }
+        self.runs.reserve_one()
     }
 
     /// Adds an entry at the end, in the room that was made for it.
@@ -108,74 +95,13 @@ impl KeptEntries {
         requires room { 1 ≤ self.old.spare }
         ensures added { self.new.items ≡ self.old.items ++ entry ∷ [] }
     {
-        let (kind, numbers) = taken_apart(entry);
-        self.kinds.push(kind);
-        self.numbers.push(numbers);
-    }
-}
-
-// The entry of a kind with its numbers.
-fn put_together(kind: Kind, numbers: Numbers) -> Kept
-    ensures entry { result ≡ kept_of kind numbers }
-{
-    let Numbers {
-        pass,
-        replica,
-        rows,
-    } = numbers;
-    match kind {
-        Kind::Opened => Kept::Opened {
-            pass,
-            replica,
-            count: rows,
-        },
-        Kind::Put => Kept::Put {
-            pass,
-            replica,
-            row: rows,
-        },
-        Kind::Down => Kept::Down { pass },
-        Kind::Up => Kept::Up { pass },
-    }
-}
-
-// The kind of an entry and its numbers.
-fn taken_apart(entry: Kept) -> (Kind, Numbers)
-    ensures entry { kept_of result.0 result.1 ≡ entry }
-{
-    match entry {
-        Kept::Opened {
-            pass,
-            replica,
-            count,
-        } => (
-            Kind::Opened,
-            Numbers {
-                pass,
-                replica,
-                rows: count,
-            },
-        ),
-        Kept::Put { pass, replica, row } => (
-            Kind::Put,
-            Numbers {
-                pass,
-                replica,
-                rows: row,
-            },
-        ),
-        Kept::Down { pass } => (Kind::Down, of_pass(pass)),
-        Kept::Up { pass } => (Kind::Up, of_pass(pass)),
-    }
-}
-
-// The numbers of a switch.
-fn of_pass(pass: u64) -> Numbers
-    ensures pass { result.pass ≡ pass }
-{
-    Numbers {
-        pass,
-        replica: 0,
-        rows: 0,
+        match self.last.with(entry) {
+            Some(longer) => self.last = longer,
+            None => {
+                self.runs.push(self.last);
+                self.last = Run::of(entry);
+            }
+        }
+        self.count += 1;
     }
 }

@@ -8,6 +8,7 @@ mod leaf_state;
 mod raised;
 mod replays;
 mod replicas;
+mod runs;
 mod slot_rows;
 
 pub use leaf_state::LeafState;

@@ -1,7 +1,8 @@
 // How the entries of a history reach replicas, and what they brought to one.
-ghost use Rattle.std.specs.Prelude.{◌≡◌, ◌≤◌, ◌++◌, length, drop, take, is_some, IfOk, IfSome, OnOk, true};
+ghost use Rattle.std.specs.Prelude.{◌≡◌, ◌≤◌, ◌++◌, ◌-◌, length, drop, take, is_some, IfOk, IfSome, OnOk, true};
 ghost use Rattle.mon_value.specs.LeafHistories.{entry_rows, replica_rows};
 ghost use Rattle.leaf_store.specs.within.FreshEntries.{AreNumbered, entries_in};
+ghost use Rattle.leaf_store.specs.within.KeptEntries.{run_entries};
 ghost use Rattle.leaf_store.specs.within.Replicas.{AllHaveRows, IsInTwoParts, SameHistory, rows_if_kept, entry_of};
 ghost use Rattle.leaf_store.specs.within.Replicas.{rows_held};
 ghost use Rattle.leaf_store.specs.within.Replicas.{shown_entries};
@@ -10,6 +11,7 @@ use crate::fresh::FreshEntry;
 use crate::guess::Guess;
 use crate::kept::{Kept, KeptEntries};
 use crate::replicas::{Replica, Replicas, is_same, own_rows, rows_of, settle_entry};
+use crate::runs::Run;
 use crate::slot_rows::SlotRows;
 use mon_value::{Entry, OutOfMemory, Row, RowList, TryCopy};
 use std::alloc::Global;
@@ -58,13 +60,39 @@ pub(crate) fn rows_kept(
     ensures rows { IfOk result (λ rows.
         rows ≡ replica_rows replica.range replica.slot (shown_entries replicas.now.entries (take cut kept.now.items))) }
 {
+    let (runs, last) = kept.runs();
     let mut rows = RowList::new(alloc);
+    let mut left = cut;
+    for run in runs {
+        left = push_run(alloc, &mut rows, replicas, replica, *run, left)?;
+    }
+    push_run(alloc, &mut rows, replicas, replica, last, left)?;
+    Ok(rows)
+}
+
+// Adds copies of the rows that the first so many entries of a run brought to a replica, and tells how many entries are
+// left behind the run.
+fn push_run(
+    alloc: Global,
+    rows: &mut RowList,
+    replicas: &Replicas,
+    replica: Replica,
+    run: Run,
+    left: usize,
+) -> Result<usize, OutOfMemory>
+    requires there { AllHaveRows replicas.now.entries (run_entries run) }
+    ensures added { OnOk result (rows.new ≡ rows.old ++ replica_rows replica.range replica.slot
+        (shown_entries replicas.now.entries (take left (run_entries run)))) }
+    ensures left { IfOk result (λ behind. behind ≡ left - length (run_entries run)) }
+{
+    let count = run.len();
+    let own = count.min(left);
     let mut number = 0;
-    while number < cut {
-        push_kept(alloc, &mut rows, replicas, replica, kept.get(number))?;
+    while number < own {
+        push_kept(alloc, rows, replicas, replica, run.entry(number))?;
         number += 1;
     }
-    Ok(rows)
+    Ok(left - own)
 }
 
 // Adds copies of the rows that a kept entry brought to a replica.

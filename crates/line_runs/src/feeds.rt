@@ -15,16 +15,16 @@ use know::Names;
 use mon_points::{RowRead, RowReader};
 use mon_script::LineForm;
 use mon_store::{Pass, Store};
-use mon_value::{OutOfMemory, Row, RowList, Text};
+use mon_value::{OutOfMemory, Row, Text};
 use range_cell::WriteFault;
-use run_traces::{LineTrace, RowRefusal, RowRefusals, RowRefused};
+use run_traces::{FedRows, LineTrace, RowRefusal, RowRefusals, RowRefused};
 use std::alloc::{AllocError, Global};
 use std::sync::Wait;
 
 /// The rows that a feed accepted, and the records that it refused.
 #[derive(Drop)]
 pub(crate) struct Fed {
-    pub accepted: RowList,
+    pub accepted: FedRows,
     pub refused: RowRefusals,
 }
 
@@ -83,7 +83,7 @@ fn fed_records<N: Names, R: Wait>(
         fed.accepted fed.refused p.old p.new) }
     ensures fronts { AreFronts p.old.seen p.new.seen }
 {
-    let mut fed = none_fed(alloc, rows_expected(content))?;
+    let mut fed = none_fed(alloc);
     match feed_content(rt, alloc, store, p, content, &mut fed) {
         Ok(()) => Ok(fed),
         Err(fault) => {
@@ -93,28 +93,15 @@ fn fed_records<N: Names, R: Wait>(
     }
 }
 
-// About how many rows a text has: each stands in a line and has four commas at least. It is a guess of the room that
-// rows will take, and no text makes it more than its bytes are worth.
-fn rows_expected(content: &[u8]) -> usize {
-    let lines = count_of(content, b'\n').saturating_add(1);
-    let rows = count_of(content, b',') / 4;
-    if rows < lines { rows } else { lines }
-}
-
-// How often a byte stands in a text.
-fn count_of(content: &[u8], byte: u8) -> usize {
-    content.iter().filter(|other| **other == byte).count()
-}
-
-// No record was fed so far; there is room for so many rows.
-fn none_fed(alloc: Global, count: usize) -> Result<Fed, OutOfMemory>
-    ensures accepted { IfOk result (λ fed. fed.accepted ≡ []) }
-    ensures refused { IfOk result (λ fed. fed.refused ≡ []) }
+// No record was fed so far.
+fn none_fed(alloc: Global) -> Fed
+    ensures accepted { result.accepted ≡ [] }
+    ensures refused { result.refused ≡ [] }
 {
-    Ok(Fed {
-        accepted: RowList::from_vec(Vec::with_capacity(alloc, count)?),
+    Fed {
+        accepted: FedRows::new(alloc),
         refused: RowRefusals::new(alloc),
-    })
+    }
 }
 
 // Feeds all records that a file holds, where none was fed yet.

@@ -1,6 +1,7 @@
 // What a line came to.
+use crate::fed_rows::FedRows;
 use mon_points::RowFault;
-use mon_value::{Founds, ListOf, Range, RowList, Slot};
+use mon_value::{Founds, ListOf, Range, Slot};
 use mql_parse::ParseFault;
 use mql_types::TypeFault;
 use query_core::Trace;
@@ -86,7 +87,7 @@ pub enum LineTrace {
     /// A feed: the number of its caller, the rows that were accepted and the records that were refused.
     Fed {
         pass: u64,
-        accepted: RowList,
+        accepted: FedRows,
         refused: RowRefusals,
     },
     /// What was looked at for a table, at a moment in seconds from the epoch.

@@ -23,5 +23,6 @@ pub use laws::{
 pub use machine::WriteMachine;
 pub use marks::{Fate, Mark};
 pub use mon_value::{Ack, Miss, Misses};
+pub use pieces::PiecesOf;
 pub use refusals::Refused;
 pub use replays::RangeReplay;

@@ -19,7 +19,7 @@ const MOST_IN_PIECE: usize = 1024;
 /// A list that grows piece by piece: no item is moved, and no old list stands beside a new one. Contracts see its
 /// items, and for how many more room was made.
 #[derive(Drop)]
-pub(crate) struct PiecesOf<T> {
+pub struct PiecesOf<T> {
     alloc: Global,
     full: Vec<ListOf<T>>,
     last: Vec<T>,
@@ -46,7 +46,7 @@ impl<T> Model for PiecesOf<T> {
 
 impl<T: Drop> PiecesOf<T> {
     /// The empty list, which grows from `alloc`.
-    pub(crate) fn new(alloc: Global) -> PiecesOf<T>
+    pub fn new(alloc: Global) -> PiecesOf<T>
         ensures empty { result.items ≡ [] }
     {
         PiecesOf {
@@ -58,7 +58,7 @@ impl<T: Drop> PiecesOf<T> {
     }
 
     /// How many items there are.
-    pub(crate) fn len(&self) -> usize
+    pub fn len(&self) -> usize
         ensures count { result ≡ length self.now.items }
         ensures few { result < 2 ^ 61 }
     {
@@ -66,7 +66,7 @@ impl<T: Drop> PiecesOf<T> {
     }
 
     /// Makes room for an item more.
-    pub(crate) fn reserve_one(&mut self) -> Result<(), OutOfMemory>
+    pub fn reserve_one(&mut self) -> Result<(), OutOfMemory>
         ensures room { OnOk result (1 ≤ self.new.spare) }
         ensures kept { self.new.items ≡ self.old.items }
     {
@@ -81,7 +81,7 @@ impl<T: Drop> PiecesOf<T> {
     }
 
     /// Adds an item at the end, in the room that was made for it.
-    pub(crate) fn push(&mut self, item: T)
+    pub fn push(&mut self, item: T)
         requires room { 1 ≤ self.old.spare }
         ensures added { self.new.items ≡ self.old.items ++ item ∷ [] }
     {

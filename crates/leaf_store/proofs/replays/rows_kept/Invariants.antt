@@ -1,15 +1,14 @@
--- the rows of the entries so far
-use Rattle.std.proofs.Common.{◌≡◌, ◌≤◌, ◌-◌, take}
+-- the rows of the runs so far, in front of those of the entries that are left, are all
+use Rattle.std.proofs.Common.{◌≡◌, ◌++◌, drop, take}
 use Rattle.mon_value.specs.LeafHistories.{replica_rows}
-use Rattle.leaf_store.specs.within.Replicas.{shown_entries}
+use Rattle.leaf_store.specs.within.KeptEntries.{entries_of}
+use Rattle.leaf_store.specs.within.Replicas.{AllHaveRows, shown_entries}
 use Rattle.leaf_store.proofs.replays.rows_kept.Given as goal
 
-abbrev pub invariant-loop-number : goal.invariant-loop-number
-invariant-loop-number l = record {
-  within : l.number ≤ l.cut;
-  rows : l.rows
-      ≡ replica_rows l.replica.range l.replica.slot (shown_entries l.replicas.entries (take l.number l.kept.items));
+abbrev pub invariant-loop-run : goal.invariant-loop-run
+invariant-loop-run l = record {
+  there : AllHaveRows l.replicas.entries (entries_of (drop l.run-index l.runs) l.last);
+  rows : l.rows ++ replica_rows l.replica.range l.replica.slot
+      (shown_entries l.replicas.entries (take l.left (entries_of (drop l.run-index l.runs) l.last)))
+      ≡ replica_rows l.replica.range l.replica.slot (shown_entries l.replicas.entries (take l.cut l.kept.items));
 }
-
-abbrev pub decreases-loop-number : goal.decreases-loop-number
-decreases-loop-number l = l.cut - l.number
