@@ -7,6 +7,7 @@ use Rattle.std.proofs.lemmas.List.{take_more, map-append}
 use Rattle.std.proofs.lemmas.List.Elements.{filter_map-append}
 use Rattle.std.proofs.lemmas.List.Sums.{sum_by-cons, sum_by-take-le, get_or-le-sum_by}
 use Rattle.std.proofs.lemmas.Bool.{cond_both}
+use Rattle.std.proofs.lemmas.Int.{ints}
 use Rattle.std.proofs.lemmas.Option.{same_Some}
 use Rattle.mon_value.specs.Groups.{where_any, sum_of, counts_added, counts_of, number_in, counts_in, numbers_in}
 use Rattle.mon_value.specs.Groups.{distributions_in, total_of}
@@ -67,6 +68,13 @@ sum_more points i p is h =
     (numbers_in ((get_or points i p).value ∷ [])) in
     subst (λ (q : Point). sum_of (numbers_in (values_of (take (i + 1) points)))
     ≡ sum_of (numbers_in (values_of (take i points))) +ℤ sum_of (numbers_in (q.value ∷ []))) (sym is) whole
+
+-- the sum of a single number
+pub sum_single : (v : Value) (number : ℤ) → number_in v ≡ Some number → sum_of (numbers_in (v ∷ [])) ≡ number
+sum_single (value.Int z) number is = let same = same_Some z number is in omega (arith, ints)
+sum_single (value.Bool p) number is = absurd cc
+sum_single (value.Text s) number is = absurd cc
+sum_single (value.Dist counts) number is = absurd cc
 
 sum_by-values : (f : Value → ℕ) (points : List Point) → sum_by f (values_of points) ≡ sum_by (λ (p : Point). f p.value)
     points

@@ -1,6 +1,6 @@
 // Windows that slide over the points of a series from time to time, and what their points add up to.
 ghost use Rattle.std.specs.List.{AllByRecursion};
-ghost use Rattle.std.specs.Prelude.{ℕ, ◌≡◌, ◌≤◌, ◌<◌, ◌+◌, sum, neg_ℤ, ◌≤ℤ◌, IfOk, sum_by, length, get_or, [], ◌∷◌};
+ghost use Rattle.std.specs.Prelude.{ℕ, ◌≡◌, ◌≤◌, ◌<◌, ◌+◌, sum, neg_ℤ, ◌≤ℤ◌, IfOk, IfSome, sum_by, length, get_or, [], ◌∷◌};
 ghost use Rattle.mon_value.specs.Groups.{sum_of, counts_added, counts_of, numbers_in, distributions_in, total_of};
 ghost use Rattle.mon_value.specs.Grids.{CanAdd, CanAddAll, most_aligned, SumFits, value_at, values_of, IsDuration};
 ghost use Rattle.mon_value.specs.Values.{magnitude};
@@ -126,6 +126,29 @@ fn added_value(alloc: Global, window: &[KeptPoint]) -> Result<Option<Value>, Out
 
 // The sum of the points that are numbers.
 fn sum_of_numbers(window: &[KeptPoint]) -> i128
+    requires within { sum_by magnitude (values_of window.now) ≤ most_aligned }
+    ensures { result ≡ sum_of (numbers_in (values_of window.now)) }
+{
+    match short_sum(window) {
+        Some(sum) => sum,
+        None => long_sum(window),
+    }
+}
+
+// The sum of the points, where each is a number that is kept in 64 bits.
+fn short_sum(window: &[KeptPoint]) -> Option<i128>
+    requires within { sum_by magnitude (values_of window.now) ≤ most_aligned }
+    ensures { IfSome result (λ sum. sum ≡ sum_of (numbers_in (values_of window.now))) }
+{
+    let mut sum = 0;
+    for point in window {
+        sum += i128::from(point.short_number()?);
+    }
+    Some(sum)
+}
+
+// The sum of the points that are numbers, of whatever size.
+fn long_sum(window: &[KeptPoint]) -> i128
     requires within { sum_by magnitude (values_of window.now) ≤ most_aligned }
     ensures { result ≡ sum_of (numbers_in (values_of window.now)) }
 {

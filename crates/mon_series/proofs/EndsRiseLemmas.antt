@@ -1,5 +1,5 @@
 -- Points whose ends rise.
-use Rattle.std.proofs.Common.{◌≡◌, inl, inr, ℕ, zero, suc, ◌-◌, ◌<◌, ℤ, ◌<ℤ◌, Bool, List, [], ◌∷◌, ◌++◌, length}
+use Rattle.std.proofs.Common.{◌≡◌, inl, inr, ℕ, zero, suc, ◌-◌, ◌<◌, ℤ, ◌<ℤ◌, ◌≤ℤ◌, Bool, List, [], ◌∷◌, ◌++◌, length}
 use Rattle.std.proofs.Common.{get_or, filter, refl, arith, IfSome, option_map}
 use Rattle.std.specs.List.{AllByRecursion, slice_get}
 use Rattle.std.specs.Prelude.{int_le}
@@ -73,3 +73,29 @@ pub EndsRise-filter : (test : Point → Bool) (ps : List Point) → EndsRise ps 
 EndsRise-filter test [] h = tt
 EndsRise-filter test (p ∷ ps) h = cond_both (test p) _ _ EndsRise
     (λ e. (after_filter p.end test ps h.0, EndsRise-filter test ps h.1)) (λ e. EndsRise-filter test ps h.1)
+
+-- where the last point ends by a time, all points do
+pub all_until : (ps : List Point) (time : ℤ) → EndsRise ps → IfSome (last_end ps) (λ last. last ≤ℤ time)
+    → AllByRecursion (λ (point : Point). point.end ≤ℤ time) ps
+all_until [] time h l = tt
+all_until (p ∷ []) time h l = (l, tt)
+all_until (p ∷ q ∷ ps) time h l =
+    let rest = all_until (q ∷ ps) time h.1 l in
+    let first = h.0.0 in
+    let next = rest.0 in
+    let ends : p.end ≤ℤ time = omega (arith, ints) in
+    (ends, rest)
+
+-- what ends after a later time ends after an earlier one
+after_earlier : (time first : ℤ) (ps : List Point) → time <ℤ first → EndsAfter first ps → EndsAfter time ps
+after_earlier time first [] l h = tt
+after_earlier time first (p ∷ ps) l h =
+    let end = h.0 in
+    let ends : time <ℤ p.end = omega (arith, ints) in
+    (ends, after_earlier time first ps l h.1)
+
+-- where the first point ends after a time, all points do
+pub all_after : (ps : List Point) (time : ℤ) → EndsRise ps
+    → IfSome (slice_get ps 0) (λ (first : Point). time <ℤ first.end) → EndsAfter time ps
+all_after [] time h l = tt
+all_after (p ∷ ps) time h l = (l, after_earlier time p.end ps l h.0)

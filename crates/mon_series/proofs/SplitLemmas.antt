@@ -1,15 +1,15 @@
 -- Points on both sides of a time, and places of items in a list.
-use Rattle.std.proofs.Common.{◌≡◌, ◌∙◌, inl, inr, ℕ, zero, suc, ◌+◌, ◌-◌, ◌≤◌, ℤ, ◌≤ℤ◌, ◌-ℤ◌, pos, Bool, true, false}
+use Rattle.std.proofs.Common.{◌≡◌, ◌∙◌, inl, inr, ℕ, zero, suc, ◌+◌, ◌-◌, ◌≤◌, ℤ, ◌≤ℤ◌, ◌<ℤ◌, ◌-ℤ◌, pos, Bool, true, false}
 use Rattle.std.proofs.Common.{◌&&◌, List, [], ◌∷◌, ◌++◌, length, take, drop, filter, refl, sym, ap, arith}
-use Rattle.std.specs.List.{AllWithin}
-use Rattle.std.specs.Prelude.{int_le}
+use Rattle.std.specs.List.{AllByRecursion, AllWithin}
+use Rattle.std.specs.Prelude.{int_le, int_lt}
 use Rattle.std.proofs.Math.Seq.{take-nil, drop-nil, take-append_seam, drop-append_seam}
 use Rattle.std.proofs.lemmas.List.{drop-take}
 use Rattle.std.proofs.lemmas.List.Elements.{filter_agree}
 use Rattle.std.proofs.lemmas.Bool.{cases_Bool, cond-true, cond-false}
 use Rattle.std.proofs.lemmas.Int.{ints}
 use Rattle.mon_value.specs.declared.rows.Point.{Point}
-use Rattle.mon_series.specs.Splits.{points_until}
+use Rattle.mon_series.specs.Splits.{points_after, points_until}
 use Rattle.mon_value.proofs.PlainLemmas.{and_implied}
 
 -- the first points of a list, which pass a test that the others fail
@@ -70,3 +70,29 @@ pub items_between : {X : Type 0} (start end : ℕ) (xs : List X) → start ≤ e
 items_between start end xs h =
     let sum : start + (end - start) ≡ end = omega arith in
     sym (drop-take start (end - start) xs) ∙ ap (λ n. drop start (take n xs)) sum
+
+-- where all points end by a time, none ends after it
+pub until_all : (time until : ℤ) (ps : List Point) → until ≡ time → AllByRecursion (λ (p : Point). p.end ≤ℤ until) ps
+    → (points_until time ps ≡ ps) × (points_after time ps ≡ [])
+until_all time until [] same all = (refl, refl)
+until_all time until (p ∷ ps) same all =
+    let rest = until_all time until ps same all.1 in
+    let end = all.0 in
+    let ended : int_le p.end time ≡ true = grind (arith, ints) in
+    let later : int_lt time p.end ≡ false = grind (arith, ints) in (
+      cond-true (int_le p.end time) _ _ ended ∙ ap (λ qs. p ∷ qs) rest.0,
+      cond-false (int_lt time p.end) _ _ later ∙ rest.1,
+    )
+
+-- where all points end after a time, none ends by it
+pub after_all : (time after : ℤ) (ps : List Point) → after ≡ time → AllByRecursion (λ (p : Point). after <ℤ p.end) ps
+    → (points_until time ps ≡ []) × (points_after time ps ≡ ps)
+after_all time after [] same all = (refl, refl)
+after_all time after (p ∷ ps) same all =
+    let rest = after_all time after ps same all.1 in
+    let end = all.0 in
+    let ended : int_le p.end time ≡ false = grind (arith, ints) in
+    let later : int_lt time p.end ≡ true = grind (arith, ints) in (
+      cond-false (int_le p.end time) _ _ ended ∙ rest.0,
+      cond-true (int_lt time p.end) _ _ later ∙ ap (λ qs. p ∷ qs) rest.1,
+    )

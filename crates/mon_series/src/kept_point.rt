@@ -1,5 +1,5 @@
 // A point as its series keeps it.
-ghost use Rattle.std.specs.Prelude.{◌≡◌, IfErr, IfOk, IfSome};
+ghost use Rattle.std.specs.Prelude.{◌≡◌, IfErr, IfOk, IfSome, Some};
 ghost use Rattle.std.specs.Option.{option_copied};
 ghost use Rattle.mon_value.specs.Groups.{counts_in, number_in};
 ghost use Rattle.mon_series.specs.within.KeptPoints.{StartFits, point_of};
@@ -103,6 +103,16 @@ impl KeptPoint {
             Form::Number { number, .. } => Some(i128::from(*number)),
             Form::Truth { .. } => None,
             Form::Boxed(point) => whole_of(&point.value),
+        }
+    }
+
+    /// The number that the point's value is, if it is kept in 64 bits.
+    pub fn short_number(&self) -> Option<i64>
+        ensures number { IfSome result (λ number. number_in self.now.value ≡ Some number) }
+    {
+        match &self.form {
+            Form::Number { number, .. } => Some(*number),
+            Form::Truth { .. } | Form::Boxed(_) => None,
         }
     }
 

@@ -1,6 +1,7 @@
 // A series and its windows.
 ghost use Rattle.std.specs.Prelude.{◌≡◌, ◌+◌, ◌-◌, ◌≤◌, ◌<◌, ◌^◌, ◌==◌, ◌-ℤ◌, ◌<ℤ◌, ◌≤ℤ◌, neg_ℤ, [], ◌∷◌, ◌++◌};
-ghost use Rattle.std.specs.Prelude.{length, take, drop, IfOk, IfSome, OnOk};
+ghost use Rattle.std.specs.Prelude.{length, take, drop, IfOk, IfSome, OnOk, IsTrue};
+ghost use Rattle.std.specs.List.{AllByRecursion};
 ghost use Rattle.mon_series.specs.Splits.{points_after, points_until};
 ghost use Rattle.mon_value.specs.Grids.{IsDuration, EndsRise, window_of};
 ghost use Rattle.mon_value.specs.LeafHistories.{last_end};
@@ -106,7 +107,7 @@ impl Series {
     }
 
     /// The points that end in so many seconds up to the time: above `time - seconds` and at most `time`. A
-    /// moment is at least 0, but the times of its grid may lie before it. Two binary searches find the points.
+    /// moment is at least 0, but the times of its grid may lie before it. At most two binary searches find the points.
     pub fn window(&self, time: i64, seconds: i64) -> &[KeptPoint]
         requires time { neg_ℤ LONGEST_DURATION ≤ℤ time }
         requires seconds { IsDuration seconds }
@@ -126,5 +127,43 @@ fn split_at_time(points: &[KeptPoint], time: i64) -> (&[KeptPoint], &[KeptPoint]
     ensures ended { result.0.now ≡ points_until time points.now }
     ensures later { result.1.now ≡ points_after time points.now }
 {
-    points.split_at(points.partition_point(|point| point.end() <= time))
+    points.split_at(count_until(points, time))
+}
+
+// How many points end at `time` or before. Where all do, or none does, nothing is searched.
+fn count_until(points: &[KeptPoint], time: i64) -> usize
+    requires { EndsRise points.now }
+    ensures within { result ≤ length points.now }
+    ensures ended { take result points.now ≡ points_until time points.now }
+    ensures later { drop result points.now ≡ points_after time points.now }
+{
+    if all_end_until(points, time) {
+        points.len()
+    } else if all_end_after(points, time) {
+        0
+    } else {
+        points.partition_point(|point| point.end() <= time)
+    }
+}
+
+// Whether the last point ends at `time` or before, or there is none.
+fn all_end_until(points: &[KeptPoint], time: i64) -> bool
+    requires { EndsRise points.now }
+    ensures { IsTrue result → AllByRecursion (λ point. point.end ≤ℤ time) points.now }
+{
+    match points.last() {
+        Some(last) => last.end() <= time,
+        None => true,
+    }
+}
+
+// Whether the first point ends after `time`.
+fn all_end_after(points: &[KeptPoint], time: i64) -> bool
+    requires { EndsRise points.now }
+    ensures { IsTrue result → AllByRecursion (λ point. time <ℤ point.end) points.now }
+{
+    match points.first() {
+        Some(first) => first.end() > time,
+        None => false,
+    }
 }

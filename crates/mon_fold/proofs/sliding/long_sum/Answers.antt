@@ -1,7 +1,7 @@
 use Rattle.std.proofs.Common.{◌+◌, arith}
 use Rattle.std.proofs.lemmas.Int.{ints}
 use Rattle.mon_fold.proofs.AlignmentLemmas.{sum_bounded, sum_more}
-use Rattle.mon_fold.proofs.sliding.sum_of_numbers.Goals as goal
+use Rattle.mon_fold.proofs.sliding.long_sum.Goals as goal
 
 pub overflow_add-sum : goal.overflow_add-sum
 overflow_add-sum c =
