@@ -5,6 +5,7 @@ pub mod KeyFilters
 pub mod MetSeries
 pub mod PartsToCome
 pub mod Paths
+pub mod PlainFetches
 pub mod Readiness
 pub mod Reach
 pub mod SeriesMeaning

@@ -11,9 +11,10 @@ ghost use Rattle.mon_meaning.specs.within.SeriesMeaning.{load_by_series, rows_by
 use crate::alignments::aligned_rows;
 use crate::meter::{Meter, OverLimit};
 use crate::paths::{Path, path_down};
+use crate::plain_fetches::are_one_fetch;
 use crate::steps::operation_rows;
 use mon_series::KeptRows;
-use mon_value::{Grid, Refusal, TimedRows};
+use mon_value::{Grid, Refusal, TimedRows, TryCopy};
 use mql_types::Node;
 use std::alloc::Global;
 
@@ -44,9 +45,11 @@ pub(crate) fn rows_of(
 {
     let Path { above, source } = path_down(setting.alloc, tree)?;
     let mut above = above;
+    let before = meter.counted();
     let mut rows = source_rows(setting, source, meter)?;
     while let Some(node) = above.pop() {
-        rows = rows_above(setting, node, rows, meter)?;
+        let load = meter.counted() - before;
+        rows = rows_above(setting, node, rows, load, meter)?;
     }
     Ok(rows)
 }
@@ -73,20 +76,21 @@ fn source_rows(
     }
 }
 
-// The rows of an operation on the rows that flow into it first.
+// The rows of an operation on the rows that flow into it first, which have this load.
 #[cycle(evaluation)]
 fn rows_above(
     setting: &EvaluationSetting<'_>,
     node: &Node,
     rows: TimedRows,
+    load: u64,
     meter: &mut Meter,
 ) -> Result<TimedRows, Refusal<OverLimit>>
     requires ready { IsNodeReady setting.now.grid (node_tree node.now) (all_held setting.now.series.now) }
     requires rows { rows
         ≡ rows_by_series setting.now.grid (first_input (node_tree node.now)) (all_held setting.now.series.now) }
-    requires counted { load_by_series setting.now.grid (first_input (node_tree node.now))
-        (all_held setting.now.series.now)
-        ≤ meter.old.load }
+    requires load { load
+        ≡ load_by_series setting.now.grid (first_input (node_tree node.now)) (all_held setting.now.series.now) }
+    requires counted { load ≤ meter.old.load }
     ensures rows { IfOk result (λ rows. rows
         ≡ rows_by_series setting.now.grid (node_tree node.now) (all_held setting.now.series.now)) }
     ensures limit { meter.new.limit ≡ meter.old.limit }
@@ -95,18 +99,24 @@ fn rows_above(
     ensures over { IfErr result (TellsOver meter.old.limit (meter.old.load
         + own_load setting.now.grid (node_tree node.now) (all_held setting.now.series.now))) }
 {
-    let others = other_rows(setting, node, meter)?;
+    let others = other_rows(setting, node, &rows, load, meter)?;
     operation_rows(setting.alloc, node, rows, others, meter)
 }
 
-// The rows of an operation's right side, and none where it has no such side.
+// The rows of an operation's right side, and none where it has no such side. Those that flow in first have this load.
 #[cycle(evaluation)]
 fn other_rows(
     setting: &EvaluationSetting<'_>,
     node: &Node,
+    rows: &TimedRows,
+    load: u64,
     meter: &mut Meter,
 ) -> Result<TimedRows, Refusal<OverLimit>>
     requires ready { IsNodeReady setting.now.grid (node_tree node.now) (all_held setting.now.series.now) }
+    requires rows { rows.now
+        ≡ rows_by_series setting.now.grid (first_input (node_tree node.now)) (all_held setting.now.series.now) }
+    requires load { load
+        ≡ load_by_series setting.now.grid (first_input (node_tree node.now)) (all_held setting.now.series.now) }
     ensures rows { IfOk result (λ rows. rows
         ≡ way.other_rows setting.now.grid (node_tree node.now) (all_held setting.now.series.now)) }
     ensures limit { meter.new.limit ≡ meter.old.limit }
@@ -118,14 +128,58 @@ fn other_rows(
     match node {
         Node::Join {
             info: _,
-            left: _,
+            left,
             right,
-        } => rows_of(setting, right, meter),
+        } => right_rows(setting, left, right, rows, load, meter),
         Node::Union {
             info: _,
-            left: _,
+            left,
             right,
-        } => rows_of(setting, right, meter),
+        } => right_rows(setting, left, right, rows, load, meter),
         _ => Ok(TimedRows::new(setting.alloc)),
     }
+}
+
+// The rows of a right side, beside those of the left one and their load. One fetch on both sides is evaluated once.
+#[cycle(evaluation)]
+fn right_rows(
+    setting: &EvaluationSetting<'_>,
+    left: &Node,
+    right: &Node,
+    rows: &TimedRows,
+    load: u64,
+    meter: &mut Meter,
+) -> Result<TimedRows, Refusal<OverLimit>>
+    requires ready { IsNodeReady setting.now.grid (node_tree right.now) (all_held setting.now.series.now) }
+    requires rows { rows.now
+        ≡ rows_by_series setting.now.grid (node_tree left.now) (all_held setting.now.series.now) }
+    requires load { load ≡ load_by_series setting.now.grid (node_tree left.now) (all_held setting.now.series.now) }
+    ensures rows { IfOk result (λ rows. rows
+        ≡ rows_by_series setting.now.grid (node_tree right.now) (all_held setting.now.series.now)) }
+    ensures limit { meter.new.limit ≡ meter.old.limit }
+    ensures counted { OnOk result (meter.new.load ≡ meter.old.load
+        + load_by_series setting.now.grid (node_tree right.now) (all_held setting.now.series.now)) }
+    ensures over { IfErr result (TellsOver meter.old.limit (meter.old.load
+        + load_by_series setting.now.grid (node_tree right.now) (all_held setting.now.series.now))) }
+{
+    if are_one_fetch(left, right) {
+        return copied_rows(setting.alloc, rows, load, meter);
+    }
+    rows_of(setting, right, meter)
+}
+
+// Rows once more, with their load.
+fn copied_rows(
+    alloc: Global,
+    rows: &TimedRows,
+    load: u64,
+    meter: &mut Meter,
+) -> Result<TimedRows, Refusal<OverLimit>>
+    ensures rows { IfOk result (λ copied. copied ≡ rows.now) }
+    ensures limit { meter.new.limit ≡ meter.old.limit }
+    ensures counted { OnOk result (meter.new.load ≡ meter.old.load + load) }
+    ensures over { IfErr result (TellsOver meter.old.limit (meter.old.load + load)) }
+{
+    meter.add(load as usize)?;
+    Ok(rows.copy(alloc)?)
 }

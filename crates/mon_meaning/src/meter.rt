@@ -52,6 +52,13 @@ impl Meter {
         Ok(())
     }
 
+    /// How much was counted so far.
+    pub(crate) fn counted(&self) -> u64
+        ensures load { result ≡ self.now.load }
+    {
+        self.load
+    }
+
     /// How much more is within the limit.
     pub fn room(&self) -> u64
         ensures room { self.now.load + result ≡ self.now.limit }

@@ -67,7 +67,7 @@ rows_of-rows_above-requires t c =
     let ready : IsNodeReady grid one series = step.ready in
     let flowing : c.loop-node.rows ≡ rows_by_series grid (first_input one) series = step.flowing in
     let within : load_by_series grid (first_input one) series ≤ c.loop-node.meter.load = step.within in
-    let falls : 3 * nodes one + 1 < 3 * nodes top + 2 = omega (arith, step.smaller) in
+    let falls : 4 * nodes one + 2 < 4 * nodes top + 3 = omega (arith, step.smaller) in
     search rules
 
 pub rows_of-returns-in_err-rows-2-clause-over : goal.rows_of-returns-in_err-rows-2-clause-over

@@ -8,13 +8,16 @@ use Rattle.mon_meaning.proofs.WalkLemmas.{Walk}
 use Rattle.mon_meaning.proofs.evaluation.+evaluation.Given as goal
 
 abbrev pub decreases-rows_of : goal.decreases-rows_of
-decreases-rows_of l = 3 * nodes (node_tree l.tree.now) + 2
+decreases-rows_of l = 4 * nodes (node_tree l.tree.now) + 3
 
 abbrev pub decreases-rows_above : goal.decreases-rows_above
-decreases-rows_above l = 3 * nodes (node_tree l.node.now) + 1
+decreases-rows_above l = 4 * nodes (node_tree l.node.now) + 2
 
 abbrev pub decreases-other_rows : goal.decreases-other_rows
-decreases-other_rows l = 3 * nodes (node_tree l.node.now)
+decreases-other_rows l = 4 * nodes (node_tree l.node.now) + 1
+
+abbrev pub decreases-right_rows : goal.decreases-right_rows
+decreases-right_rows l = 4 * nodes (node_tree l.right.now) + 4
 
 abbrev pub invariant-rows_of-loop-node : goal.invariant-rows_of-loop-node
 invariant-rows_of-loop-node l = record {
