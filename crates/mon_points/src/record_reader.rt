@@ -1,5 +1,5 @@
 // The records of a text, one after another.
-ghost use Rattle.std.specs.Prelude.{◌≡◌, ◌∷◌, [], IfOk};
+ghost use Rattle.std.specs.Prelude.{◌≡◌, ◌∷◌, [], IfOk, false};
 ghost use Rattle.std.specs.Bool.{MatchBool};
 ghost use Rattle.csv.specs.Reading.{default_config, records, strip_bom};
 ghost use Rattle.csv.specs.Records.{fields_of};
@@ -42,10 +42,11 @@ impl<'a> RecordReader<'a> {
         }
     }
 
-    /// Takes the cells of the next record, if there is one.
+    /// Takes the cells of the next record, if there is one. Behind the last one there is none from then on.
     pub(crate) fn take(&mut self, cells: &mut ByteRecord) -> Result<bool, OutOfMemory>
         ensures taken { IfOk result (λ taken. MatchBool taken (self.old ≡ fields_of cells.new ∷ self.new)
             (self.old ≡ [])) }
+        ensures ended { IfOk result (λ taken. taken ≡ false → self.new ≡ []) }
     {
         if self.ended {
             return Ok(false);

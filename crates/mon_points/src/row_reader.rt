@@ -1,5 +1,5 @@
 // The records of a points file, each read as it is taken.
-ghost use Rattle.std.specs.Prelude.{◌≡◌, [], IfOk, IfSome, MatchOption};
+ghost use Rattle.std.specs.Prelude.{◌≡◌, [], IfNone, IfOk, IfSome, MatchOption};
 ghost use Rattle.csv.specs.Reading.{default_config, records, strip_bom};
 ghost use Rattle.mon_points.specs.Fitting.{ReadFits};
 ghost use Rattle.mon_points.specs.Left.{IsNextRead};
@@ -45,11 +45,12 @@ impl<'a> RowReader<'a> {
         }
     }
 
-    /// What the next record reads as, or `None` where none is left. The same schemas are best given each time, since
-    /// the keys of series that were read before are tried first.
+    /// What the next record reads as, or `None` where none is left, then and from then on. The same schemas are best
+    /// given each time, since the keys of series that were read before are tried first.
     pub fn next(&mut self, alloc: Global, schemas: &Schemas) -> Result<Option<RowRead>, OutOfMemory>
         ensures read { IfOk result (λ read. MatchOption read (self.old ≡ [])
             (IsNextRead schemas.now self.old self.new)) }
+        ensures ended { IfOk result (λ read. IfNone read (self.new ≡ [])) }
         ensures fits { IfOk result (λ read. IfSome read (ReadFits schemas.now)) }
     {
         if self.records.take(&mut self.cells)? {

@@ -1,4 +1,4 @@
-use Rattle.std.proofs.Common.{◌≡◌, ◌∷◌, [], false, not, subst}
+use Rattle.std.proofs.Common.{◌≡◌, ◌∷◌, [], ap, false, not, subst}
 use Rattle.std.specs.Bool.{MatchBool}
 use Rattle.csv.specs.Records.{fields_of}
 use Rattle.mon_points.specs.Left.{records_left}
@@ -23,4 +23,5 @@ returns c =
       taken = subst (λ all. MatchBool c.in-Ok.found (all ≡ cells ∷ records_left (not c.in-Ok.found) new) (all ≡ []))
           left
           (reads_one c.self.inside.reader new cells is (c.in-Ok.ensures.ready is.plain) c.in-Ok.found read);
+      ended = λ none. ap (λ found. records_left (not found) new) none;
     }
