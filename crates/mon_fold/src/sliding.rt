@@ -1,6 +1,7 @@
 // Windows that slide over the points of a series from time to time, and what their points add up to.
 ghost use Rattle.std.specs.List.{AllByRecursion};
-ghost use Rattle.std.specs.Prelude.{ℕ, ◌≡◌, ◌≤◌, ◌<◌, ◌+◌, sum, neg_ℤ, ◌≤ℤ◌, IfOk, IfSome, sum_by, length, get_or, [], ◌∷◌};
+ghost use Rattle.std.specs.Prelude.{ℕ, ◌≡◌, ◌≤◌, ◌<◌, ◌+◌, neg_ℤ, ◌≤ℤ◌, IfOk, IfSome, [], ◌∷◌};
+ghost use Rattle.std.specs.Prelude.{sum, sum_by, length, get_or};
 ghost use Rattle.mon_value.specs.Groups.{sum_of, counts_added, counts_of, numbers_in, distributions_in, total_of};
 ghost use Rattle.mon_value.specs.Grids.{CanAdd, CanAddAll, most_aligned, SumFits, value_at, values_of, IsDuration};
 ghost use Rattle.mon_value.specs.Values.{magnitude};
