@@ -1,9 +1,7 @@
 // What a write and a recovery answer.
 ghost use Rattle.std.specs.Prelude.{◌≡◌, ◌≤◌, [], length, vec_capacity, IfOk};
 
-use mon_value::{Ack, Founds, Miss, Misses, OutOfMemory, Range, Slot, Slots};
-use std::alloc::Global;
-use std::marker::Model;
+use mon_value::{Founds, Range, Slot};
 
 /// Why a row isn't written.
 #[derive(PartialEq, Eq, Drop)]
@@ -35,66 +33,4 @@ pub enum RecoverFault {
     TargetDown(u64),
     /// Memory ran out.
     OutOfMemory,
-}
-
-/// Room for a copy of an acknowledgement. Contracts see how many replicas may have taken the row, and how many missed
-/// it.
-#[derive(Drop)]
-pub(crate) struct AckRoom {
-    most: usize,
-    took: Vec<Slot>,
-    missed: Vec<Miss>,
-}
-
-impl Model for AckRoom {
-    ghost use Rattle.std.specs.Prelude.{◌≡◌, ◌≤◌, ℕ, [], vec_capacity};
-
-    ghost Value = { ℕ };
-
-    ghost view = { λ room. room.most };
-
-    ghost invariant = { λ room. record {
-      no_slot : room.took.items ≡ [];
-      no_miss : room.missed.items ≡ [];
-      slots : room.most ≤ vec_capacity room.took;
-      misses : room.most ≤ vec_capacity room.missed;
-    } };
-}
-
-impl AckRoom {
-    /// For so many replicas.
-    pub(crate) fn new(alloc: Global, most: usize) -> Result<AckRoom, OutOfMemory>
-        ensures room { IfOk result (λ room. room ≡ most) }
-    {
-        Ok(AckRoom {
-            most,
-            took: Vec::with_capacity(alloc, most)?,
-            missed: Vec::with_capacity(alloc, most)?,
-        })
-    }
-
-    /// The copy. No memory is taken.
-    pub(crate) fn copied(self, ack: &Ack) -> Ack
-        requires took { length ack.now.took ≤ self }
-        requires missed { length ack.now.missed ≤ self }
-        ensures same { result ≡ ack.now }
-    {
-        Ack {
-            range: ack.range,
-            took: Slots::from_vec(filled(self.took, ack.took.as_slice())),
-            missed: Misses::from_vec(filled(self.missed, ack.missed.as_slice())),
-        }
-    }
-}
-
-// The items in room that was made before.
-fn filled<T: Copy + Drop>(mut room: Vec<T>, items: &[T]) -> Vec<T>
-    requires empty { room.items ≡ [] }
-    requires room { length items.now ≤ vec_capacity room }
-    ensures same { result.items ≡ items.now }
-{
-    for item in items {
-        room.push_reserved(*item);
-    }
-    room
 }

@@ -1,5 +1,5 @@
 // What lies under a range's lock.
-ghost use Rattle.std.specs.Prelude.{◌≡◌, ◌<◌, ◌++◌, ◌∷◌, ℕ, [], length, None, Some, IfOk, OnErr, OnOk};
+ghost use Rattle.std.specs.Prelude.{◌≡◌, ◌<◌, ◌≤◌, ◌++◌, ◌∷◌, ℕ, [], length, None, Some, IfOk, OnErr, OnOk};
 ghost use Rattle.history_book.specs.declared.views.BookEntry.TheVariants as one;
 ghost use Rattle.history_book.specs.declared.views.History.TheVariants as of;
 ghost use Rattle.history_book.specs.Histories.{with_book_entry};
@@ -33,13 +33,14 @@ use owners::RangeOwner;
 use std::alloc::Global;
 use std::marker::Brand;
 use std::sync::Wait;
-use write_core::{RangeReplay, WriteEnd, WriteTold};
+use write_core::{AckRoom, RangeReplay, WriteEnd, WriteTold};
 
-/// A range's replay and its owner.
+/// A range's replay and its owner, and room for a copy of what a writer is told.
 #[derive(Drop)]
 pub(crate) struct RangeDesk<N: Names> {
     pub(crate) replay: RangeReplay,
     pub(crate) owner: RangeOwner<N>,
+    pub(crate) copy: AckRoom,
 }
 
 impl<N: Names> RangeDesk<N> {
@@ -75,6 +76,7 @@ impl<N: Names> RangeDesk<N> {
         ensures answered { IfOk result (λ told.
             HasAnswered N.book.leaves self.old.owner.range self.new.replay self.new.owner told know.old know.new) }
         ensures room { OnOk result (HasAckRoom self.new.replay) }
+        ensures copy { OnOk result (length (serving self.old.replay.history) ≤ self.new.copy) }
         ensures history { self.new.replay.history ≡ self.old.replay.history }
         ensures range { self.new.owner.range ≡ self.old.owner.range }
         ensures sound { IsSound N.setting know.new.hints know.new.seen }
@@ -85,7 +87,7 @@ impl<N: Names> RangeDesk<N> {
             × IsRangeAtRest self.old.owner.range.0 self.new.replay self.new.owner) }
     {
         self.receive(tables, know);
-        let told = asked(&mut self.replay, row, limit);
+        let told = asked(&mut self.replay, &mut self.copy, row, limit);
         let hold = is_taken(&told);
         self.owner.part(tables, know, hold);
         told
@@ -112,7 +114,7 @@ impl<N: Names> RangeDesk<N> {
         know: &mut Know<N>,
         key: Shared<SeriesKey>,
         row: Row,
-        ack: Ack,
+        ack: &Ack,
     )
         requires held { IsRangeHeld self.old.owner.range.0 self.old.replay self.old.owner }
         requires holds { 0 < times_range self.old.owner.range know.old.purse.holds }
@@ -120,10 +122,12 @@ impl<N: Names> RangeDesk<N> {
         requires key { key ≡ row.key }
         requires number { (hand_of know.old.purse).own ≡ Some (pass_of know.old) }
         requires may { MayEnter N.setting self.old.owner.range self.old.replay.history
-            (entry.Acked (pass_of know.old) row ack) know.old }
+            (entry.Acked (pass_of know.old) row ack.now) know.old }
+        requires took { length ack.now.took ≤ self.old.copy }
+        requires missed { length ack.now.missed ≤ self.old.copy }
         ensures rest { IsRangeAtRest self.old.owner.range.0 self.new.replay self.new.owner }
         ensures entered { HasEntered N.book.leaves self.old.owner.range self.old.replay.history
-            (entry.Acked (pass_of know.old) row ack) know.old know.new }
+            (entry.Acked (pass_of know.old) row ack.now) know.old know.new }
     {
         let Some(pass) = know.number() else {
             unreachable!();
@@ -140,24 +144,27 @@ impl<N: Names> RangeDesk<N> {
         key: Shared<SeriesKey>,
         pass: u64,
         row: Row,
-        ack: Ack,
+        ack: &Ack,
     )
-        requires named { E.entry ≡ one.Range (entry.Acked pass row ack) }
+        requires named { E.entry ≡ one.Range (entry.Acked pass row ack.now) }
         requires key { key ≡ row.key }
         requires room { HasAckRoom self.old.replay }
+        requires took { length ack.now.took ≤ self.old.copy }
+        requires missed { length ack.now.missed ≤ self.old.copy }
         requires history { range_history self.old.owner.book.seen self.old.owner.range ≡ self.old.replay.history }
         requires number { (hand_of (guest_purse self.old.owner.book.guest)).own ≡ Some pass }
         requires sound { IsSound N.setting self.old.owner.hints
-            (with_book_entry (of.Range self.old.owner.range) (one.Range (entry.Acked pass row ack))
+            (with_book_entry (of.Range self.old.owner.range) (one.Range (entry.Acked pass row ack.now))
             self.old.owner.book.seen) }
-        ensures history { self.new.replay.history ≡ self.old.replay.history ++ entry.Acked pass row ack ∷ [] }
-        ensures book { self.new.owner.book ≡ after_append (one.Range (entry.Acked pass row ack)) self.old.owner.book }
+        ensures history { self.new.replay.history ≡ self.old.replay.history ++ entry.Acked pass row ack.now ∷ [] }
+        ensures book { self.new.owner.book
+            ≡ after_append (one.Range (entry.Acked pass row ack.now)) self.old.owner.book }
         ensures hints { self.new.owner.hints ≡ self.old.owner.hints }
         ensures range { self.new.owner.range ≡ self.old.owner.range }
     {
         let length = self.replay.length();
         prove!(length < 1 << 62);
-        self.replay.acknowledge(key, pass, row, ack);
+        self.replay.acknowledge(key, pass, row, ack, &mut self.copy);
         self.owner.append::<E>(tables, self.replay.sight());
     }
 
@@ -210,6 +217,7 @@ impl<N: Names> RangeDesk<N> {
         requires held { IsRangeHeld self.old.owner.range.0 self.old.replay self.old.owner }
         requires range { range ≡ self.old.owner.range }
         requires room { HasAckRoom self.old.replay }
+        requires copy { length (serving self.old.replay.history) ≤ self.old.copy }
         requires serve { replicas ≡ serving self.old.replay.history }
         requires begins { IsBeginning N.setting range row.now (pass_of know.old)
             (acknowledged_rows self.old.replay.history) replicas know.old }
@@ -241,7 +249,7 @@ impl<N: Names> RangeDesk<N> {
         requires machine { entering.machine.range ≡ range }
         requires room { HasAckRoom self.old.replay }
         requires key { entering.key ≡ entering.copies.row.key }
-        requires answer { entering.answer ≡ length (serving self.old.replay.history) }
+        requires copy { length (serving self.old.replay.history) ≤ self.old.copy }
         requires through { IsConcluding N.setting range entering.copies.row self.old.replay.history know.old
             entering.machine.stage }
         ensures rest { IsRangeAtRest self.old.owner.range.0 self.new.replay self.new.owner }
@@ -255,9 +263,8 @@ impl<N: Names> RangeDesk<N> {
         tell(&mut machine, WriteTold::Done);
         match machine.finish() {
             WriteEnd::Written(ack) => {
-                let answer = entering.answer.copied(&ack);
-                self.acknowledge(tables, know, entering.key, row, ack);
-                Ok(answer)
+                self.acknowledge(tables, know, entering.key, row, &ack);
+                Ok(ack)
             }
             WriteEnd::Unavailable(founds) => {
                 self.give_back(tables, know);
@@ -276,6 +283,7 @@ impl<N: Names> RangeDesk<N> {
         ensures sound { IsSound N.setting self.new.owner.hints self.new.owner.book.seen }
         ensures of_range { IsOfRange N.setting self.new.owner.range self.new.owner.book }
         ensures replay { self.new.replay ≡ self.old.replay }
+        ensures copy { self.new.copy ≡ self.old.copy }
     {
         self.owner.meet(tables, know);
         self.owner.learn(tables);
@@ -293,11 +301,18 @@ fn is_taken(told: &Result<WriteTold, OutOfMemory>) -> bool
 }
 
 // What a write is told, with room for its acknowledgement.
-fn asked(replay: &mut RangeReplay, row: &Row, limit: u64) -> Result<WriteTold, OutOfMemory>
+fn asked(
+    replay: &mut RangeReplay,
+    copy: &mut AckRoom,
+    row: &Row,
+    limit: u64,
+) -> Result<WriteTold, OutOfMemory>
     ensures told { IfOk result (λ told. told ≡ lock_answer limit replay.old.history row.now) }
     ensures history { replay.new.history ≡ replay.old.history }
     ensures room { OnOk result (HasAckRoom replay.new) }
+    ensures copy { OnOk result (length (serving replay.old.history) ≤ copy.new) }
 {
     replay.reserve()?;
+    copy.reserve(replay.serving_count())?;
     replay.answer(row, limit)
 }

@@ -5,7 +5,6 @@ ghost use Rattle.range_cell.specs.Stages.{BeginsSomehow, IsBeginning, IsThroughA
 ghost use Rattle.write_core.specs.Program.{Locking, after};
 ghost use Rattle.write_core.specs.declared.asks.WriteTold.TheVariants as told;
 
-use crate::answers::AckRoom;
 use crate::copies::Copies;
 use crate::loops::write_through;
 use crate::sides::LeafSide;
@@ -16,13 +15,12 @@ use std::sync::Wait;
 use write_core::{WriteMachine, WriteTold};
 
 /// What a write takes along, for which memory is taken before it asks a leaf for anything: its machine, the row for
-/// its range's own entry and for each replica, the key of its series, and room for its answer.
+/// its range's own entry and for each replica, and the key of its series.
 #[derive(Drop)]
 pub(crate) struct Entering {
     pub(crate) machine: WriteMachine,
     pub(crate) copies: Copies,
     pub(crate) key: Shared<SeriesKey>,
-    pub(crate) answer: AckRoom,
 }
 
 /// Takes a row to the leaves of the replicas that serve. Where memory runs out no room is left there, and no row.
@@ -45,7 +43,6 @@ pub(crate) fn enter_leaves<R: Wait, N: Names, S: LeafSide<N>>(
     ensures row { IfOk result (λ entering. entering.copies.row ≡ row.now) }
     ensures key { IfOk result (λ entering. entering.key ≡ row.now.key) }
     ensures range { IfOk result (λ entering. entering.machine.range ≡ range) }
-    ensures answer { IfOk result (λ entering. entering.answer ≡ length replicas) }
 {
     let mut entering = prepared(alloc, range, row, replicas)?;
     write_through(
@@ -72,18 +69,14 @@ fn prepared(
     ensures row { IfOk result (λ entering. entering.copies.row ≡ row.now) }
     ensures left { IfOk result (λ entering. entering.copies.left ≡ length replicas) }
     ensures key { IfOk result (λ entering. entering.key ≡ row.now.key) }
-    ensures answer { IfOk result (λ entering. entering.answer ≡ length replicas) }
 {
-    let count = replicas.len();
     let key = row.key.copy(alloc)?;
-    let copies = Copies::new(alloc, row.copy(alloc)?, count)?;
-    let answer = AckRoom::new(alloc, count)?;
+    let copies = Copies::new(alloc, row.copy(alloc)?, replicas.len())?;
     let mut machine = WriteMachine::new(alloc, range);
     machine.told(WriteTold::Slots(replicas))?;
     Ok(Entering {
         machine,
         copies,
         key,
-        answer,
     })
 }

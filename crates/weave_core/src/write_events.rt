@@ -1,5 +1,5 @@
 // The events of a write, each at the seat that it needs.
-ghost use Rattle.std.specs.Prelude.{◌≡◌, ◌<◌, ◌++◌, ◌∷◌, [], length, IfOk, OnOk};
+ghost use Rattle.std.specs.Prelude.{◌≡◌, ◌<◌, ◌≤◌, ◌++◌, ◌∷◌, [], length, IfOk, OnOk};
 ghost use Rattle.mon_value.specs.LeafHistories.{IsWellFormed};
 ghost use Rattle.mon_topo.specs.Sights.{AreAlike};
 ghost use Rattle.weave_core.specs.WriteEvents.{EntersIf, LetsGo, LocksIf, Puts, RaisesBit, ReservesIf};
@@ -10,9 +10,9 @@ use crate::ranges::RangeSeat;
 use crate::writes::Writing;
 use mon_hints::Buckets;
 use mon_topo::Sight;
-use mon_value::{Entry, Leaf, OutOfMemory, Range, Row, SeriesKey, Shared, Slot, TryCopy};
+use mon_value::{Ack, Entry, Leaf, OutOfMemory, Range, Row, SeriesKey, Shared, Slot, TryCopy};
 use std::alloc::Global;
-use write_core::{WriteEnd, WriteTold};
+use write_core::{AckRoom, WriteEnd, WriteTold};
 
 /// A write takes its range's lock, room is made for its acknowledgement, and it is told whether its row goes in, of a
 /// range that holds so many at most.
@@ -151,10 +151,21 @@ pub(crate) fn let_go(
     ensures lets_go { OnOk result (LetsGo end.now number row range seat.old seat.new sight.old sight.new) }
 {
     if let WriteEnd::Written(ack) = end {
-        let ack = ack.copy(alloc)?;
-        seat.state.acknowledge(key, u64::from(number), row, ack);
+        let mut copy = room_for(alloc, ack)?;
+        seat.state
+            .acknowledge(key, u64::from(number), row, ack, &mut copy);
     }
     seat.holder = None;
     seat.meet(range, sight);
     Ok(())
+}
+
+// Room for a copy of what a writer is told.
+fn room_for(alloc: Global, ack: &Ack) -> Result<AckRoom, OutOfMemory>
+    ensures took { IfOk result (λ room. length ack.now.took ≤ room) }
+    ensures missed { IfOk result (λ room. length ack.now.missed ≤ room) }
+{
+    let mut room = AckRoom::new(alloc);
+    room.reserve(ack.took.len().max(ack.missed.len()))?;
+    Ok(room)
 }

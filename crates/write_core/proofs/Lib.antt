@@ -1,3 +1,4 @@
+mod AckEquality
 pub mod AckLemmas
 pub mod BucketLemmas
 pub mod ChangeLemmas
@@ -25,4 +26,3 @@ pub mod StepLemmas
 pub mod SwitchLemmas
 mod UnavailableLemmas
 pub mod ViewLemmas
-mod WayLemmas

@@ -1,15 +1,14 @@
 // The entries of a range's history, in few bytes.
-ghost use Rattle.std.specs.Prelude.{◌≡◌, ◌++◌, ◌∷◌, ◌<◌, ◌≤◌, ◌^◌, ◌-◌, [], List, length, slice_get, IfSome, Some, OnOk};
+ghost use Rattle.std.specs.Prelude.{◌≡◌, ◌++◌, ◌∷◌, ◌<◌, ◌≤◌, ◌^◌, ◌-◌, [], List, length, slice_get, IfSome, IsTrue, Some, OnOk};
 ghost use Rattle.mon_value.specs.declared.histories.RangeEntry.TheVariants as entry;
 ghost use Rattle.mon_value.specs.declared.rows.Point as a_point;
 ghost use Rattle.write_core.specs.declared.kept_entries.Way as a_way;
-ghost use Rattle.write_core.specs.within.KeptEntries.{Stand, acked, entry_of, pass_of, point_of};
+ghost use Rattle.write_core.specs.within.KeptEntries.{Stand, acked, entry_of, pass_of, point_of, way_of};
 
+use crate::ack_rooms::AckRoom;
 use crate::pieces::PiecesOf;
 use crate::short_points::{Short, short_of};
-use mon_value::{
-    Ack, Leaf, OutOfMemory, Point, RangeEntry, RoomListOf, Row, SeriesKey, Shared, Slot,
-};
+use mon_value::{Ack, Leaf, OutOfMemory, Point, RoomListOf, Row, SeriesKey, Shared, Slot};
 use std::alloc::{AllocError, Global};
 use std::marker::Model;
 use std::mem::size_of;
@@ -19,7 +18,7 @@ const MOST_WAYS: usize = u32::MAX as usize;
 
 /// How rows were acknowledged one after another: the upper half of the number of the pass, and what their writer was
 /// told. The rows of a range differ in it where a replica was opened or missed a row.
-#[derive(PartialEq, Eq, Drop)]
+#[derive(Drop)]
 pub(crate) struct Way {
     high: u32,
     ack: Ack,
@@ -122,32 +121,24 @@ impl KeptEntries {
         self.entries.reserve_one()
     }
 
-    /// Adds an entry at the end, in the room that was made for it.
-    pub(crate) fn push(&mut self, added: RangeEntry)
-        requires room { 1 ≤ self.old.spare }
-        ensures added { self.new.items ≡ self.old.items ++ added ∷ [] }
-    {
-        match added {
-            RangeEntry::Opened { pass, slot, leaf } => self.push_opened(pass, slot, leaf),
-            RangeEntry::Acked { pass, row, ack } => self.push_acked(pass, row, ack),
-        }
-    }
-
-    // Adds the opening of a replica.
-    fn push_opened(&mut self, pass: u64, slot: Slot, leaf: Leaf)
+    /// Adds the opening of a replica, in the room that was made for it.
+    pub(crate) fn push_opened(&mut self, pass: u64, slot: Slot, leaf: Leaf)
         requires room { 1 ≤ self.old.spare }
         ensures added { self.new.items ≡ self.old.items ++ entry.Opened pass slot leaf ∷ [] }
     {
         self.entries.push(Kept::Opened { slot, leaf, pass });
     }
 
-    // Adds an acknowledged row.
-    fn push_acked(&mut self, pass: u64, row: Row, ack: Ack)
+    /// Adds an acknowledged row, in the room that was made for it. What its writer was told is copied where it isn't the
+    /// same as for the row before.
+    pub(crate) fn push_acked(&mut self, pass: u64, row: Row, ack: &Ack, copy: &mut AckRoom)
         requires room { 1 ≤ self.old.spare }
-        ensures added { self.new.items ≡ self.old.items ++ entry.Acked pass row ack ∷ [] }
+        requires took { length ack.now.took ≤ copy.old }
+        requires missed { length ack.now.missed ≤ copy.old }
+        ensures added { self.new.items ≡ self.old.items ++ entry.Acked pass row ack.now ∷ [] }
     {
         let (high, low) = halves(pass);
-        let way = number_of(&mut self.ways, Way { high, ack });
+        let way = number_of(&mut self.ways, high, ack, copy);
         let kept = kept_row(&mut self.points, way, low, row);
         self.entries.push(kept);
     }
@@ -161,32 +152,43 @@ fn halves(pass: u64) -> (u32, u32)
 }
 
 // The number of a way, which is put at the end where it isn't the last one.
-fn number_of(ways: &mut RoomListOf<Way>, way: Way) -> u32
+fn number_of(ways: &mut RoomListOf<Way>, high: u32, ack: &Ack, copy: &mut AckRoom) -> u32
     requires room { 1 ≤ ways.old.spare }
     requires few { length ways.old.items < 2 ^ 32 - 1 }
-    ensures found { slice_get ways.new.items result ≡ Some way }
+    requires took { length ack.now.took ≤ copy.old }
+    requires missed { length ack.now.missed ≤ copy.old }
+    ensures found { slice_get ways.new.items result ≡ Some (way_of high ack.now) }
     ensures stand { Stand ways.old.items ways.new.items }
 {
-    if let Some(number) = number_of_last(ways, &way) {
-        drop(way);
+    if let Some(number) = number_of_last(ways, high, ack) {
         return number;
     }
     let number = ways.len() as u32;
-    ways.push(way);
+    ways.push(Way {
+        high,
+        ack: copy.copied(ack),
+    });
     number
 }
 
 // The number of the last way, if it is this one.
-fn number_of_last(ways: &RoomListOf<Way>, way: &Way) -> Option<u32>
+fn number_of_last(ways: &RoomListOf<Way>, high: u32, ack: &Ack) -> Option<u32>
     requires few { length ways.now.items < 2 ^ 32 - 1 }
-    ensures found { IfSome result (λ number. slice_get ways.now.items number ≡ Some way.now) }
+    ensures found { IfSome result (λ number. slice_get ways.now.items number ≡ Some (way_of high ack.now)) }
 {
     let number = ways.len().checked_sub(1)?;
-    if ways.get(number) == way {
+    if is_way(ways.get(number), high, ack) {
         Some(number as u32)
     } else {
         None
     }
+}
+
+// Whether rows were acknowledged in this way.
+fn is_way(way: &Way, high: u32, ack: &Ack) -> bool
+    ensures same { IsTrue result → way.now ≡ way_of high ack.now }
+{
+    way.high == high && way.ack == *ack
 }
 
 // A row that was acknowledged in the way of a number. A point that doesn't go into the bytes of an entry is put to the

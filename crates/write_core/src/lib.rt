@@ -2,6 +2,7 @@
 //! interleaving of them keeps; and the replay of a range's history, which tells a write whether its row goes in.
 #![tactic(auto)]
 
+mod ack_rooms;
 mod asks;
 mod copies;
 mod ends;
@@ -15,6 +16,7 @@ mod replays;
 mod rounds;
 mod short_points;
 
+pub use ack_rooms::AckRoom;
 pub use asks::{WriteAsk, WriteEnd, WriteTold};
 pub use copies::{CopyAsk, CopyMachine, CopyTold, Denial, Outcome};
 pub use laws::{

@@ -1,5 +1,5 @@
 // The replay of a range's history.
-ghost use Rattle.std.specs.Prelude.{◌≡◌, ◌<◌, ◌^◌, ◌+◌, ◌++◌, ◌∷◌, [], List, filter, length, not, slice_get, None, IfOk};
+ghost use Rattle.std.specs.Prelude.{◌≡◌, ◌<◌, ◌≤◌, ◌^◌, ◌+◌, ◌++◌, ◌∷◌, [], List, filter, length, not, slice_get, None, IfOk};
 ghost use Rattle.std.specs.Prelude.{OnErr, OnOk};
 ghost use Rattle.std.specs.List.{list_any};
 ghost use Rattle.indexmap.specs.IndexMap.{spare};
@@ -15,6 +15,7 @@ ghost use Rattle.write_core.specs.CopySteps.{next_slot};
 ghost use Rattle.write_core.specs.Recovering.{denial_of, denied_by};
 ghost use Rattle.write_core.specs.Replays.{HasAckRoom, HasReplicaRoom, TellsLasts};
 
+use crate::ack_rooms::AckRoom;
 use crate::asks::WriteTold;
 use crate::copies::Denial;
 use crate::kept_entries::KeptEntries;
@@ -115,7 +116,7 @@ impl RangeReplay {
     {
         self.serving.push_reserved(SlotLeaf { slot, leaf });
         self.opened = one_slot_more(self.opened, &self.history);
-        self.history.push(RangeEntry::Opened { pass, slot, leaf });
+        self.history.push_opened(pass, slot, leaf);
     }
 
     /// Why no replica is opened on a leaf, if there is a reason.
@@ -143,6 +144,13 @@ impl RangeReplay {
         Ok(SlotLeaves::from_vec(self.serving.as_slice().to_vec(self.alloc)?))
     }
 
+    /// How many replicas serve.
+    pub fn serving_count(&self) -> usize
+        ensures count { result ≡ length (serving self.now.history) }
+    {
+        self.serving.len()
+    }
+
     /// What a write of a row is told that takes the lock, of a range that holds so many rows at most.
     pub fn answer(&self, row: &Row, limit: u64) -> Result<WriteTold, OutOfMemory>
         ensures told { IfOk result (λ told. told ≡ lock_answer limit self.now.history row.now) }
@@ -165,18 +173,28 @@ impl RangeReplay {
         Ok(())
     }
 
-    /// A row is acknowledged, in room that was made before. The replicas that missed it serve no more.
-    pub fn acknowledge(&mut self, key: Shared<SeriesKey>, pass: u64, row: Row, ack: Ack)
+    /// A row is acknowledged, in room that was made before. The replicas that missed it serve no more. The room for a copy
+    /// of what the writer is told is used where the row before was acknowledged in another way.
+    pub fn acknowledge(
+        &mut self,
+        key: Shared<SeriesKey>,
+        pass: u64,
+        row: Row,
+        ack: &Ack,
+        copy: &mut AckRoom,
+    )
         requires key { key ≡ row.key }
         requires room { HasAckRoom self.old }
-        ensures acknowledged { self.new.history ≡ self.old.history ++ RangeEntry.Acked pass row ack ∷ [] }
+        requires took { length ack.now.took ≤ copy.old }
+        requires missed { length ack.now.missed ≤ copy.old }
+        ensures acknowledged { self.new.history ≡ self.old.history ++ RangeEntry.Acked pass row ack.now ∷ [] }
     {
         let place = note_last(&mut self.lasts, self.next, key, row.point.end);
         self.next = place.wrapping_add(place.wrapping_sub(self.place));
         self.place = place;
         drop_missed(&mut self.serving, ack.missed.as_slice());
         self.count = one_more(self.count, &self.history);
-        self.history.push(RangeEntry::Acked { pass, row, ack });
+        self.history.push_acked(pass, row, ack, copy);
     }
 
     /// The first replica that serves and is on none of these leaves.

@@ -1,6 +1,7 @@
 -- How the entries of a range's history are kept.
 use Rattle.std.specs.Prelude.{◌≡◌, ◌^◌, ◌+◌, ◌*◌, ◌-ℤ◌, ℕ, pos, List, Option, Some, filter_map, option_map, slice_get}
 use Rattle.std.specs.Option.{option_and_then}
+use Rattle.mon_value.specs.declared.histories.Ack.{Ack}
 use Rattle.mon_value.specs.declared.histories.RangeEntry.{RangeEntry}
 use Rattle.mon_value.specs.declared.histories.RangeEntry.TheVariants as entry
 use Rattle.mon_value.specs.declared.rows.Point.{Point}
@@ -15,6 +16,10 @@ use Rattle.write_core.specs.declared.short_points.Short.TheVariants as short
 -- the number of a pass with these halves
 abbrev pub pass_of : ℕ → ℕ → ℕ
 pass_of high low = high * 2 ^ 32 + low
+
+-- the way of a pass with this upper half whose writer was told this
+abbrev pub way_of : ℕ → Ack → Way
+way_of high ack = record { high = high; ack = ack }
 
 -- the point that is kept in few bytes
 abbrev pub point_of : Short → Point

@@ -1,4 +1,4 @@
-use Rattle.std.proofs.Common.{◌≡◌, ℕ, false, Some, [], ◌∷◌, ◌++◌, refl, sym, ap, subst, ◌∙◌}
+use Rattle.std.proofs.Common.{◌≡◌, ◌≤◌, ℕ, false, length, Some, [], ◌∷◌, ◌++◌, refl, sym, ap, subst, ◌∙◌}
 use Rattle.history_book.specs.declared.views.BookEntry.TheVariants as one
 use Rattle.history_book.specs.Seats.{Owner, after_append, guest_purse, hand_of}
 use Rattle.mon_value.specs.Histories.{range_history}
@@ -22,14 +22,16 @@ enter-requires g c =
     let number : Some c.in-Some.pass ≡ (hand_of know.purse).own = c.in-Some.ensures.number in
     let mine = c.requires.number in
     let same : c.in-Some.pass ≡ pass_of know = cc in
-    let e : RangeEntry = entry.Acked c.in-Some.pass c.args.row c.args.ack in
+    let e : RangeEntry = entry.Acked c.in-Some.pass c.args.row c.args.ack.now in
     let may : MayEnter setting desk.owner.range desk.replay.history e know =
-    subst (λ (n : ℕ). MayEnter setting desk.owner.range desk.replay.history (entry.Acked n c.args.row c.args.ack) know)
+    subst (λ (n : ℕ). MayEnter setting desk.owner.range desk.replay.history (entry.Acked n c.args.row c.args.ack.now) know)
     (sym same) c.requires.may in
     record {
       named = refl;
       key = c.requires.key;
       room = subst HasAckRoom (sym c.receive.ensures.replay) c.requires.room;
+      took = subst (λ n. length c.args.ack.now.took ≤ n) (sym c.receive.ensures.copy) c.requires.took;
+      missed = subst (λ n. length c.args.ack.now.missed ≤ n) (sym c.receive.ensures.copy) c.requires.missed;
       history = (λ i. range_history (came.book i).seen (came.range i)) ∙ came.whole ∙ c.requires.held.history
           ∙ ap (λ (r : Replay). r.history) (sym c.receive.ensures.replay);
       number = ap (λ (o : Owner). (hand_of (guest_purse o.guest)).own) came.book ∙ sym number;
@@ -48,9 +50,9 @@ returns g c =
     let number : Some c.in-Some.pass ≡ (hand_of know.purse).own = c.in-Some.ensures.number in
     let mine = c.requires.number in
     let same : c.in-Some.pass ≡ pass_of know = cc in
-    let e : RangeEntry = entry.Acked c.in-Some.pass c.args.row c.args.ack in
+    let e : RangeEntry = entry.Acked c.in-Some.pass c.args.row c.args.ack.now in
     let may : MayEnter setting desk.owner.range desk.replay.history e know =
-    subst (λ (n : ℕ). MayEnter setting desk.owner.range desk.replay.history (entry.Acked n c.args.row c.args.ack) know)
+    subst (λ (n : ℕ). MayEnter setting desk.owner.range desk.replay.history (entry.Acked n c.args.row c.args.ack.now) know)
     (sym same) c.requires.may in
     let entered : RangeView =
     record { range = now.range; hints = now.hints; book = after_append (one.Range e) now.book } in
@@ -64,7 +66,7 @@ returns g c =
           (c.enter.ensures.history ∙ ap (λ (r : Replay). r.history ++ e ∷ []) c.receive.ensures.replay)
           may.rows c.part.new.self (parts ∙ ap (parted_owner false) then_owner);
       entered = subst (λ (n : ℕ). HasEntered leaves desk.owner.range desk.replay.history
-          (entry.Acked n c.args.row c.args.ack) know c.part.new.know) same
+          (entry.Acked n c.args.row c.args.ack.now) know c.part.new.know) same
           (has_entered leaves know desk.owner now c.requires.held.own came desk.replay c.requires.held c.requires.holds e
           c.enter.new.self.owner.hints c.enter.new.self.owner.book c.receive.new.know c.part.new.know
           c.enter.ensures.book c.receive.ensures.left c.part.ensures.know);

@@ -4,4 +4,4 @@ use Rattle.mon_value.specs.declared.histories.RangeEntry.TheVariants as entry
 use Rattle.range_cell.proofs.desks.RangeDesk.acknowledge.Given as goal
 
 abbrev pub ghosts-enter : goal.ghosts-enter
-ghosts-enter g a = record { entry = one.Range (entry.Acked a.pass a.row a.ack) }
+ghosts-enter g a = record { entry = one.Range (entry.Acked a.pass a.row a.ack.now) }

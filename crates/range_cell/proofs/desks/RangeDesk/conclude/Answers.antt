@@ -1,4 +1,4 @@
-use Rattle.std.proofs.Common.{◌≡◌, ◌<◌, ◌≤◌, ℕ, Some, List, length, refl, sym, ap, subst, ◌∙◌}
+use Rattle.std.proofs.Common.{◌≡◌, ◌<◌, ◌≤◌, ℕ, Some, List, length, refl, sym, ap, subst, ◌∙◌, arith}
 use Rattle.history_book.specs.Seats.{times_range}
 use Rattle.mon_value.specs.declared.histories.Ack.{Ack}
 use Rattle.mon_value.specs.declared.histories.RangeEntry.{RangeEntry}
@@ -6,6 +6,7 @@ use Rattle.mon_value.specs.declared.histories.RangeEntry.TheVariants as entry
 use Rattle.mon_value.specs.declared.positions.Range.{Range}
 use Rattle.mon_value.specs.declared.rows.Row.{Row}
 use Rattle.write_core.specs.declared.marks.Mark.{Mark}
+use Rattle.mon_topo.specs.RangeHistories.{serving}
 use Rattle.owners.specs.Puts.{number_or, pass_of}
 use Rattle.range_cell.proofs.BeginLemmas.{marks_count, may_acknowledge, none_taken}
 use Rattle.range_cell.proofs.EndingLemmas.{ended_so, few_missed, few_taken, unavailable_end, written_end}
@@ -31,26 +32,6 @@ finish-requires g c =
     let t = c.requires.through.through in
     ap ask_of (c.tell.ensures.after ∙ ap (λ (s : Stage). after s told.Done) t.stage_is)
 
-pub copied-answer-requires : goal.copied-answer-requires
-copied-answer-requires g c =
-    let t = c.requires.through.through in
-    let range = c.args.range in
-    let g0 = c.args.self.now.replay.history in
-    let marks = t.marks in
-    let last = ended_so range marks c.tell.new.machine.range c.args.entering.machine.stage c.tell.new.machine.stage
-    (end.Written c.in-Written.ack) t.stage_is c.tell.ensures.after
-    (c.tell.ensures.range ∙ c.requires.machine) c.in-Written.ensures.end in
-    let same = (written_end range marks c.in-Written.ack last).1 in
-    let most : length marks ≡ c.args.entering.answer =
-    marks_count g.N.Names.setting range c.args.entering.copies.row c.requires.through.pass g0 c.requires.through.begun
-    c.args.know.now marks t.through c.requires.through.fresh ∙ sym c.requires.answer in
-    record {
-      took = subst (λ (a : Ack). length a.took ≤ c.args.entering.answer) same
-          (subst (λ (n : ℕ). length (ack_of range marks).took ≤ n) most (few_taken marks));
-      missed = subst (λ (a : Ack). length a.missed ≤ c.args.entering.answer) same
-          (subst (λ (n : ℕ). length (ack_of range marks).missed ≤ n) most (few_missed marks));
-    }
-
 pub acknowledge-requires : goal.acknowledge-requires
 acknowledge-requires g c =
     let setting = g.N.Names.setting in
@@ -68,6 +49,12 @@ acknowledge-requires g c =
     (c.tell.ensures.range ∙ c.requires.machine) c.in-Written.ensures.end in
     let both = written_end range marks c.in-Written.ack last in
     let mine : pass_of know ≡ here.pass = ap (number_or 0) writing.number in
+    let most : length marks ≡ length (serving g0) =
+    marks_count setting range row here.pass g0 here.begun know marks t.through here.fresh in
+    let room : length marks ≤ c.args.self.now.copy = subst (λ (n : ℕ). n ≤ c.args.self.now.copy) (sym most)
+    c.requires.copy in
+    let took : length (ack_of range marks).took ≤ length marks = few_taken marks in
+    let missed : length (ack_of range marks).missed ≤ length marks = few_missed marks in
     let e_is : entry.Acked here.pass row (ack_of range marks)
     ≡ entry.Acked (pass_of know) c.into_row-row.result c.in-Written.ack =
     λ i. entry.Acked (sym mine i) (sym c.into_row-row.ensures.row i) (both.1 i) in
@@ -82,6 +69,8 @@ acknowledge-requires g c =
           (subst (λ (e : RangeEntry). MayEnter setting range g0 e know) e_is
           (may_acknowledge setting range row here.pass g0 here.begun know marks t.through here.fresh both.0 here.lies
           here.source here.few));
+      took = subst (λ (a : Ack). length a.took ≤ c.args.self.now.copy) both.1 (omega (arith, took, room));
+      missed = subst (λ (a : Ack). length a.missed ≤ c.args.self.now.copy) both.1 (omega (arith, missed, room));
     }
 
 pub returns-in-Written-clause-ended : goal.returns-in-Written-clause-ended
@@ -98,14 +87,14 @@ returns-in-Written-clause-ended g c pass begun t =
     let both = written_end range marks c.in-Written.ack last in
     let mine : pass_of know ≡ pass = ap (number_or 0) t.through.so_far.writing.number in
     let e_is : entry.Acked (pass_of know) c.into_row-row.result c.in-Written.ack
-    ≡ entry.Acked pass row c.copied-answer.result =
-    λ i. entry.Acked (mine i) (c.into_row-row.ensures.row i) (sym c.copied-answer.ensures.same i) in
+    ≡ entry.Acked pass row c.in-Written.ack =
+    λ i. entry.Acked (mine i) (c.into_row-row.ensures.row i) c.in-Written.ack in
     record {
       mid = know;
       marks = marks;
       through = t.through;
       some = both.0;
-      ack_is = both.1 ∙ sym c.copied-answer.ensures.same;
+      ack_is = both.1;
       entered = subst (λ (e : RangeEntry). HasEntered leaves range g0 e know c.acknowledge.new.know) e_is
           (subst (λ (r : Range). HasEntered leaves r g0
           (entry.Acked (pass_of know) c.into_row-row.result c.in-Written.ack) know c.acknowledge.new.know)

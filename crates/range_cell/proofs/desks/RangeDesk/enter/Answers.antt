@@ -17,7 +17,7 @@ pub append-requires : goal.append-requires
 append-requires g c =
     let owner = c.args.self.now.owner in
     let seen = owner.book.seen in
-    let e : RangeEntry = entry.Acked c.args.pass c.args.row c.args.ack in
+    let e : RangeEntry = entry.Acked c.args.pass c.args.row c.args.ack.now in
     let named : g.E.NewEntry.entry ≡ one.Range e = c.requires.named in
     let grown : range_history (with_book_entry (of.Range owner.range) (one.Range e) seen) owner.range
     ≡ c.args.self.now.replay.history ++ e ∷ [] =

@@ -1,10 +1,10 @@
-use Rattle.std.proofs.Common.{◌≡◌, ◌<◌, ℕ, Some, List, length, rules, sym, ap, subst, ◌∙◌}
+use Rattle.std.proofs.Common.{◌≡◌, ◌<◌, ◌≤◌, ℕ, Some, List, length, rules, sym, ap, subst, ◌∙◌}
 use Rattle.std.specs.Prelude.{option_map}
 use Rattle.history_book.specs.Seats.{hand_of, times_range}
 use Rattle.history_book.specs.declared.views.Kept.{Kept}
 use Rattle.mon_topo.specs.HeldHistories.{IsAtHome}
 use Rattle.range_cell.specs.Rest.{AreUnopened, IsRangeAtRest, IsRangeHeld}
-use Rattle.mon_topo.specs.RangeHistories.{IsLegal, acknowledged_rows, opened_slots}
+use Rattle.mon_topo.specs.RangeHistories.{IsLegal, acknowledged_rows, opened_slots, serving}
 use Rattle.mon_value.specs.Histories.{range_history}
 use Rattle.mon_value.specs.declared.histories.RangeEntry.{RangeEntry}
 use Rattle.mon_value.specs.declared.positions.Range.{Range}
@@ -59,6 +59,8 @@ write_held-requires g c =
           (sym c.begin.ensures.range) both.1;
       range = c.requires.range ∙ sym c.begin.ensures.range;
       room = c.in-Ok-Slots.ensures.room;
+      copy = subst (λ (h : List RangeEntry). length (serving h) ≤ c.begin.new.self.copy) (sym same_history)
+          c.in-Ok-Slots.ensures.copy;
       serve = may.0;
       begins = subst (λ (r : Range). IsBeginning setting r row (pass_of then) (acknowledged_rows history_then) replicas then)
           (sym c.requires.range)

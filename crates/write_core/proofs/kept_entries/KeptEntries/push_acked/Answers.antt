@@ -26,5 +26,5 @@ returns c =
           c.kept_row-kept.ensures.stand c.self.inside.entries.items c.self.invariant _ _
           (c.kept_row-kept.ensures.kept ways _ c.number_of-way.ensures.found)
           ∙ (λ i. (ap (λ (seen : RoomList RangeEntry). seen.items) c.self.view_is i)
-          ++ entry.Acked (c.halves-high.ensures.halves i) c.args.row c.args.ack ∷ []);
+          ++ entry.Acked (c.halves-high.ensures.halves i) c.args.row c.args.ack.now ∷ []);
     }

@@ -14,14 +14,14 @@ invariant_of-self c =
     let row = c.args.row in
     let old = c.self.inside.history.items in
     let rows = acknowledged_rows old in
-    let grown = c.push.ensures.added in
-    let more = acknowledged_rows-push old c.args.pass row c.args.ack in
+    let grown = c.push_acked.ensures.added in
+    let more = acknowledged_rows-push old c.args.pass row c.args.ack.now in
     let plain : to_z w64 (of_z w64 row.point.end) ≡ row.point.end = search rules in
     record {
       serve = c.drop_missed.ensures.dropped
           ∙ (λ i. filter (λ (replica : SlotLeaf). not (is_missed (c.as_slice.ensures.items i) replica))
           (c.self.invariant.serve i))
-          ∙ sym (serving-push old c.args.pass row c.args.ack)
+          ∙ sym (serving-push old c.args.pass row c.args.ack.now)
           ∙ ap serving (sym grown);
       count = c.one_more-self-inside.ensures.more
           ∙ ap (λ n. n + 1) c.self.invariant.count
@@ -29,7 +29,7 @@ invariant_of-self c =
           ∙ ap length (sym more)
           ∙ ap (λ h. length (acknowledged_rows h)) (sym grown);
       opened = c.self.invariant.opened
-          ∙ ap length (sym (opened-acked old c.args.pass row c.args.ack))
+          ∙ ap length (sym (opened-acked old c.args.pass row c.args.ack.now))
           ∙ ap (λ h. length (opened_slots h)) (sym grown);
       lasts = subst (λ (h : List RangeEntry). TellsLasts c.note_last-place.new.lasts.entries (acknowledged_rows h))
           (sym grown)

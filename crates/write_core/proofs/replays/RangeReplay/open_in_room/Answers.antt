@@ -11,7 +11,7 @@ pub invariant_of-self : goal.invariant_of-self
 invariant_of-self c =
     let old = c.self.inside.history.items in
     let replica : SlotLeaf = record { slot = c.args.slot; leaf = c.args.leaf } in
-    let grown = c.push.ensures.added in
+    let grown = c.push_opened.ensures.added in
     let same = acked-opened old c.args.pass c.args.slot c.args.leaf in
     record {
       serve = c.push_reserved.ensures.items

@@ -1,4 +1,4 @@
--- Ways that compare as equal are equal.
+-- Acknowledgements that compare as equal are equal.
 use Rattle.std.proofs.Common.{◌≡◌, ◌&&◌, Decides, true, refl, ap}
 use Rattle.std.specs.Cmp.Lexicographic.{pointwise}
 use Rattle.std.proofs.lemmas.Bool.Decides.{Decides-eqb}
@@ -14,8 +14,6 @@ use Rattle.mon_value.specs.declared.histories.Ack.{Ack}
 use Rattle.mon_value.specs.declared.histories.Miss.{Miss}
 use Rattle.mon_value.specs.declared.positions.Leaf.{Leaf}
 use Rattle.mon_value.specs.declared.positions.Slot.{Slot}
-use Rattle.write_core.specs.contracts.kept_entries.WayPartialEq.TheImpl as derived
-use Rattle.write_core.specs.declared.kept_entries.Way.{Way}
 
 slot_decides : (a b : Slot) → Decides (derived_slot.eq-value.it a b) (a ≡ b)
 slot_decides a b = (
@@ -43,7 +41,7 @@ miss_decides a b = (
       ((Decides-eqb a.cut b.cut).1 (ap (λ (miss : Miss). miss.cut) e))),
 )
 
-same_ack : (a b : Ack) → derived_ack.eq-value.it a b ≡ true → a ≡ b
+pub same_ack : (a b : Ack) → derived_ack.eq-value.it a b ≡ true → a ≡ b
 same_ack a b e =
     let first = and_both _ (pointwise derived_slot.eq-value.it a.took b.took && pointwise derived_miss.eq-value.it a.missed
     b.missed) e in
@@ -52,10 +50,3 @@ same_ack a b e =
     let took = (slice_eq-Decides slot_decides a.took b.took _ refl).0 second.0 in
     let missed = (slice_eq-Decides miss_decides a.missed b.missed _ refl).0 second.1 in
     λ i. record { range = range i; took = took i; missed = missed i }
-
-pub same_way : (a b : Way) → derived.eq-value.it a b ≡ true → a ≡ b
-same_way a b e =
-    let parts = and_both _ (derived_ack.eq-value.it a.ack b.ack) e in
-    let high = (Decides-eqb a.high b.high).0 parts.0 in
-    let ack = same_ack a.ack b.ack parts.1 in
-    λ i. record { high = high i; ack = ack i }

@@ -1,7 +1,7 @@
 -- the items so far, and room for those that are left
 use Rattle.std.proofs.Common.{◌≡◌, ◌≤◌, length, take, vec_len}
 use Rattle.std.specs.Vec.{vec_capacity}
-use Rattle.range_cell.proofs.answers.filled.Given as goal
+use Rattle.write_core.proofs.ack_rooms.filled.Given as goal
 
 abbrev pub invariant-loop-item : goal.invariant-loop-item
 invariant-loop-item g l = record {
