@@ -85,7 +85,8 @@ impl Run {
 
     // The run with a put more.
     fn with_put(self, pass: u64, replica: u32, row: u32) -> Option<Run>
-        ensures longer { IfSome result (λ longer. run_entries longer ≡ run_entries self ++ one.Put pass replica row ∷ []) }
+        ensures longer { IfSome result (λ longer. run_entries longer
+            ≡ run_entries self ++ one.Put pass replica row ∷ []) }
     {
         match self {
             Run::Puts {

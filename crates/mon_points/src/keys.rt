@@ -1,6 +1,8 @@
 // The series of a record, whose key the rows of one series share.
 ghost use Rattle.std.specs.Prelude.{◌≡◌, ◌+◌, ◌-◌, ◌<◌, ◌≤◌, ◌^◌, length, drop, IfOk, IfSome, Ok};
 ghost use Rattle.csv.specs.Records.{fields_of};
+ghost use Rattle.std.specs.Option.{option_copied};
+ghost use Rattle.mon_schema.specs.Names.{metric_named, target_named};
 ghost use Rattle.mon_value.specs.Answers.{Gives};
 ghost use Rattle.mon_points.specs.Records.{fields_read, key_read};
 ghost use Rattle.mon_points.specs.Keys as spec;
@@ -9,6 +11,7 @@ use crate::cells::{read_field, spells_field};
 use crate::faults::RowFault;
 use csv::StringRecord;
 use insertion_map::InsertionMap;
+use mon_schema::Schemas;
 use mon_value::{
     Field, FieldValue, FieldValues, MetricSchema, OutOfMemory, Refusal, SeriesKey, Shared, Target,
     TargetSchema, TryCopy,
@@ -30,6 +33,9 @@ pub(crate) struct KeyCache {
     next: usize,
     // The cells of the record at hand that name its series.
     cells: Vec<u8>,
+    // The places of the last record's schemas, which the next one mostly has too.
+    target: usize,
+    metric: usize,
 }
 
 impl KeyCache {
@@ -40,7 +46,31 @@ impl KeyCache {
             last: 0,
             next: 0,
             cells: Vec::new(alloc),
+            target: 0,
+            metric: 0,
         }
+    }
+
+    /// The target schema of a name, where the last record's is tried first.
+    pub(crate) fn target<'a>(
+        &mut self,
+        schemas: &'a Schemas,
+        name: &[u8],
+    ) -> Option<&'a TargetSchema>
+        ensures found { option_copied result ≡ target_named name.now schemas.now.targets }
+    {
+        schemas.target_near(name, &mut self.target)
+    }
+
+    /// The metric of a name, where the last record's is tried first.
+    pub(crate) fn metric<'a>(
+        &mut self,
+        schemas: &'a Schemas,
+        name: &[u8],
+    ) -> Option<&'a MetricSchema>
+        ensures found { option_copied result ≡ metric_named name.now schemas.now.metrics }
+    {
+        schemas.metric_near(name, &mut self.metric)
     }
 
     /// The key of a record that has a cell for each field.

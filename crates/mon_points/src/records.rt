@@ -162,10 +162,10 @@ fn read_fitting(
     requires behind { 5 ≤ length (fields_of cells.now) }
     ensures row { Gives result (row_read schemas.now (record_cells leading.now (drop 5 (fields_of cells.now)))) }
 {
-    let Some(target) = schemas.target(leading.schema.as_bytes()) else {
+    let Some(target) = keys.target(schemas, leading.schema.as_bytes()) else {
         return Err(Refusal::Fault(RowFault::UnknownSchema));
     };
-    let Some(metric) = schemas.metric(leading.metric.as_bytes()) else {
+    let Some(metric) = keys.metric(schemas, leading.metric.as_bytes()) else {
         return Err(Refusal::Fault(RowFault::UnknownMetric));
     };
     if cells.len() - LEADING != target.fields.as_slice().len() + metric.fields.as_slice().len() {

@@ -1,6 +1,6 @@
 -- A look-up by name finds what stands first under that name.
 use Rattle.std.proofs.Common.{◌≡◌, ◌∙◌, ℕ, Bool, true, false, cond, List, [], ◌∷◌, Option, Some, Vec, map, refl, ap}
-use Rattle.std.proofs.Common.{nat_eq}
+use Rattle.std.proofs.Common.{None, is_some, nat_eq}
 use Rattle.std.specs.Cmp.Lexicographic.{pointwise}
 use Rattle.std.specs.List.{AllByRecursion}
 use Rattle.std.specs.Map.{lookup}
@@ -36,3 +36,8 @@ first_named-name name_of name [] found e = cc
 first_named-name name_of name (schema ∷ schemas) found e =
     first name_of (same_text name (name_of schema)) name schema found (first_named name_of name schemas)
     (same_text-Decides name (name_of schema)).0 (first_named-name name_of name schemas found) e
+
+-- what is no value is none
+pub no_value : {A : Type 0} (o : Option A) → false ≡ is_some o → o ≡ None
+no_value None none = refl
+no_value (Some x) none = absurd cc

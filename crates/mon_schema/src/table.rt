@@ -1,9 +1,9 @@
 // The schemas that are held.
-ghost use Rattle.std.specs.Prelude.{◌≡◌, ◌++◌, ◌∷◌, [], None, IfOk, IsNone, OnOk, OnErr, nat_eq};
+ghost use Rattle.std.specs.Prelude.{◌≡◌, ◌++◌, ◌∷◌, [], None, IfOk, IsNone, OnOk, OnErr, nat_eq, slice_get};
 ghost use Rattle.std.specs.Cmp.Lexicographic.{pointwise};
 ghost use Rattle.std.specs.Map.{lookup};
 ghost use Rattle.std.specs.Option.{option_copied};
-ghost use Rattle.indexmap.specs.IndexMap.{get};
+ghost use Rattle.indexmap.specs.IndexMap.{get, values};
 ghost use Rattle.mon_value.specs.Answers.{AnswersBy};
 ghost use Rattle.mon_value.specs.Same.{same_text};
 ghost use Rattle.mon_schema.specs.Held.{named_entries};
@@ -67,6 +67,25 @@ impl Schemas {
         ensures found { option_copied result ≡ metric_named name.now self.now.metrics }
     {
         self.metrics.get(name)
+    }
+
+    /// The target schema of a name, as `target`. A place is tried first, and is then the schema's: one comparison where
+    /// the same schema is asked for again.
+    pub fn target_near(&self, name: &[u8], place: &mut usize) -> Option<&TargetSchema>
+        ensures found { option_copied result ≡ target_named name.now self.now.targets }
+    {
+        let found = self.targets.get_near(*place, name)?;
+        *place = found;
+        schema_at(&self.targets, found)
+    }
+
+    /// The metric of a name, as `metric`. A place is tried first, and is then the metric's.
+    pub fn metric_near(&self, name: &[u8], place: &mut usize) -> Option<&MetricSchema>
+        ensures found { option_copied result ≡ metric_named name.now self.now.metrics }
+    {
+        let found = self.metrics.get_near(*place, name)?;
+        *place = found;
+        schema_at(&self.metrics, found)
     }
 
     /// Adds a target schema. A fault leaves the schemas as they were.
@@ -243,6 +262,14 @@ fn add_copy<V: TryCopy + Drop>(
     let name = Vec::from_slice(alloc, name)?;
     copied.insert(name, schema.copy(alloc)?)?;
     Ok(())
+}
+
+// The schema at a place.
+fn schema_at<V>(map: &InsertionMap<Vec<u8>, V>, place: usize) -> Option<&V>
+    ensures schema { option_copied result ≡ slice_get (values map.now) place }
+{
+    let (_, schema) = map.get_index(place)?;
+    Some(schema)
 }
 
 // Adds what is new under its name.

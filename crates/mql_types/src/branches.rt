@@ -75,7 +75,7 @@ impl Joined {
             TypeKind::BranchColumns,
         );
         let mut joined = Joined {
-            columns: Columns::new(setting.alloc),
+            columns: room_for(setting.alloc, lefts.columns().len(), rights.columns().len())?,
             common: Columns::new(setting.alloc),
         };
         match joined.push_both(setting, at, lefts, rights, found) {
@@ -249,6 +249,13 @@ fn anchored_with(
     let mut made = column.copy(setting.alloc)?;
     made.anchor = common_anchor(setting, &column.anchor, &other.anchor)?;
     Ok(made)
+}
+
+// No columns, with room for those of both tables: a chain of joins has columns at each of its nodes.
+fn room_for(alloc: Global, lefts: usize, rights: usize) -> Result<Columns, AllocError>
+    ensures none { IfOk result (λ columns. columns ≡ []) }
+{
+    Ok(Columns::from_vec(Vec::with_capacity(alloc, lefts.saturating_add(rights))?))
 }
 
 // Whether some name is common.

@@ -8,6 +8,7 @@ returns-in-Puts c =
     let first = c.in-Puts.first in
     let last = c.in-Puts.last in
     record {
-      count = omega (arith, c.saturating_sub.ensures) ∙ sym (puts_count c.in-Puts.pass c.in-Puts.replica first (last + 1 - first))
+      count = omega (arith, c.saturating_sub.ensures)
+          ∙ sym (puts_count c.in-Puts.pass c.in-Puts.replica first (last + 1 - first))
           ∙ ap (λ run. length (run_entries run)) (sym c.in-Puts.is);
     }
