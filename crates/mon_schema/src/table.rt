@@ -1,5 +1,5 @@
 // The schemas that are held.
-ghost use Rattle.std.specs.Prelude.{◌≡◌, ◌++◌, ◌∷◌, [], None, IfOk, IsNone, OnOk, OnErr, nat_eq, slice_get};
+ghost use Rattle.std.specs.Prelude.{◌≡◌, ◌++◌, ◌∷◌, [], None, Some, IfNone, IfOk, IfSome, IsNone, OnOk, OnErr, nat_eq, slice_get};
 ghost use Rattle.std.specs.Cmp.Lexicographic.{pointwise};
 ghost use Rattle.std.specs.Map.{lookup};
 ghost use Rattle.std.specs.Option.{option_copied};
@@ -73,6 +73,8 @@ impl Schemas {
     /// the same schema is asked for again.
     pub fn target_near(&self, name: &[u8], place: &mut usize) -> Option<&TargetSchema>
         ensures found { option_copied result ≡ target_named name.now self.now.targets }
+        ensures place { IfSome result (λ schema. slice_get self.now.targets place.new ≡ Some schema.now) }
+        ensures stayed { IfNone result (place.new ≡ place.old) }
     {
         let found = self.targets.get_near(*place, name)?;
         *place = found;
@@ -82,6 +84,8 @@ impl Schemas {
     /// The metric of a name, as `metric`. A place is tried first, and is then the metric's.
     pub fn metric_near(&self, name: &[u8], place: &mut usize) -> Option<&MetricSchema>
         ensures found { option_copied result ≡ metric_named name.now self.now.metrics }
+        ensures place { IfSome result (λ schema. slice_get self.now.metrics place.new ≡ Some schema.now) }
+        ensures stayed { IfNone result (place.new ≡ place.old) }
     {
         let found = self.metrics.get_near(*place, name)?;
         *place = found;

@@ -1,3 +1,4 @@
+pub mod LongNumbers
 pub mod MetricNumbers
 pub mod SeriesMaps
 pub mod SeriesPoints

@@ -1,7 +1,8 @@
 // A point as its series keeps it.
-ghost use Rattle.std.specs.Prelude.{◌≡◌, IfErr, IfOk, IfSome, Some};
+ghost use Rattle.std.specs.Prelude.{◌≡◌, IfErr, IfNone, IfOk, IfSome, Some};
 ghost use Rattle.std.specs.Option.{option_copied};
 ghost use Rattle.mon_value.specs.Groups.{counts_in, number_in};
+ghost use Rattle.mon_series.specs.LongNumbers.{IsLong};
 ghost use Rattle.mon_series.specs.within.KeptPoints.{StartFits, point_of};
 
 use mon_value::{Counts, OutOfMemory, Point, TryCopy, Value};
@@ -106,13 +107,15 @@ impl KeptPoint {
         }
     }
 
-    /// The number that the point's value is, if it is kept in 64 bits.
+    /// The number that the point's value is, if it is one of 64 bits.
     pub fn short_number(&self) -> Option<i64>
         ensures number { IfSome result (λ number. number_in self.now.value ≡ Some number) }
+        ensures none { IfNone result (IfSome (number_in self.now.value) IsLong) }
     {
         match &self.form {
             Form::Number { number, .. } => Some(*number),
-            Form::Truth { .. } | Form::Boxed(_) => None,
+            Form::Truth { .. } => None,
+            Form::Boxed(point) => short_number_of(&point.value),
         }
     }
 
@@ -161,6 +164,17 @@ fn whole_of(value: &Value) -> Option<i128>
     match value {
         Value::Int(number) => Some(*number),
         Value::Bool(_) | Value::Text(_) | Value::Dist(_) => None,
+    }
+}
+
+// The number that a value is, if it is one of 64 bits.
+fn short_number_of(value: &Value) -> Option<i64>
+    ensures number { IfSome result (λ number. number_in value.now ≡ Some number) }
+    ensures none { IfNone result (IfSome (number_in value.now) IsLong) }
+{
+    match whole_of(value) {
+        Some(number) => i64::try_from(number).ok(),
+        None => None,
     }
 }
 

@@ -4,8 +4,12 @@ use Rattle.std.specs.Bool.{⊤}
 use Rattle.std.specs.List.{AllByRecursion, list_any}
 use Rattle.run_theory.specs.Parts.{AreApart, Part, lines_of}
 
-module _ {W H E R : Type 0} (content : W → H → List E) (under : E → ℕ)
-    (Makes : ℕ → R → (H → List E) → Type 0) (Finds : W → (H → ℕ) → (H → ℕ) → ℕ → R → Type 0) (grown : W → W → Type 0)
+module _ {W H E R : Type 0}
+    (content : W → H → List E)
+    (under : E → ℕ)
+    (Makes : ℕ → R → (H → List E) → Type 0)
+    (Finds : W → (H → ℕ) → (H → ℕ) → ℕ → R → Type 0)
+    (grown : W → W → Type 0)
     (before after : W) where
   abbrev pub seen_under : ℕ → List E → List E
   seen_under n = filter (λ e. nat_eq (under e) n)

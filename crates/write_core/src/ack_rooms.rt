@@ -1,5 +1,5 @@
 // Room for an acknowledgement.
-ghost use Rattle.std.specs.Prelude.{◌≡◌, ◌≤◌, [], length, vec_capacity, OnOk};
+ghost use Rattle.std.specs.Prelude.{◌≡◌, ◌≤◌, [], length, max, vec_capacity, OnErr, OnOk};
 
 use mon_value::{Ack, Miss, Misses, OutOfMemory, Slot, Slots};
 use std::alloc::Global;
@@ -47,6 +47,8 @@ impl AckRoom {
     /// Makes room for so many replicas. Where there is room for them nothing changes.
     pub fn reserve(&mut self, most: usize) -> Result<(), OutOfMemory>
         ensures room { OnOk result (most ≤ self.new) }
+        ensures exact { OnOk result (self.new ≡ max self.old most) }
+        ensures kept { OnErr result (self.new ≡ self.old) }
     {
         if most <= self.most {
             return Ok(());
@@ -64,6 +66,7 @@ impl AckRoom {
         requires took { length ack.now.took ≤ self.old }
         requires missed { length ack.now.missed ≤ self.old }
         ensures same { result ≡ ack.now }
+        ensures used { self.new ≡ 0 }
     {
         self.most = 0;
         let took = mem::replace(&mut self.took, Vec::new(self.alloc));

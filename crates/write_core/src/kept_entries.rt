@@ -136,6 +136,7 @@ impl KeptEntries {
         requires took { length ack.now.took ≤ copy.old }
         requires missed { length ack.now.missed ≤ copy.old }
         ensures added { self.new.items ≡ self.old.items ++ entry.Acked pass row ack.now ∷ [] }
+        ensures copy { copy.new ≤ copy.old }
     {
         let (high, low) = halves(pass);
         let way = number_of(&mut self.ways, high, ack, copy);
@@ -159,6 +160,7 @@ fn number_of(ways: &mut RoomListOf<Way>, high: u32, ack: &Ack, copy: &mut AckRoo
     requires missed { length ack.now.missed ≤ copy.old }
     ensures found { slice_get ways.new.items result ≡ Some (way_of high ack.now) }
     ensures stand { Stand ways.old.items ways.new.items }
+    ensures copy { copy.new ≤ copy.old }
 {
     if let Some(number) = number_of_last(ways, high, ack) {
         return number;

@@ -84,6 +84,7 @@ impl<T: Drop> PiecesOf<T> {
     pub fn push(&mut self, item: T)
         requires room { 1 ≤ self.old.spare }
         ensures added { self.new.items ≡ self.old.items ++ item ∷ [] }
+        ensures spent { self.new.spare + 1 ≡ self.old.spare }
     {
         self.last.push_reserved(item);
         self.count += 1;

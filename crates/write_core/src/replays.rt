@@ -188,6 +188,7 @@ impl RangeReplay {
         requires took { length ack.now.took ≤ copy.old }
         requires missed { length ack.now.missed ≤ copy.old }
         ensures acknowledged { self.new.history ≡ self.old.history ++ RangeEntry.Acked pass row ack.now ∷ [] }
+        ensures copy { copy.new ≤ copy.old }
     {
         let place = note_last(&mut self.lasts, self.next, key, row.point.end);
         self.next = place.wrapping_add(place.wrapping_sub(self.place));

@@ -27,4 +27,5 @@ returns c =
           (c.kept_row-kept.ensures.kept ways _ c.number_of-way.ensures.found)
           ∙ (λ i. (ap (λ (seen : RoomList RangeEntry). seen.items) c.self.view_is i)
           ++ entry.Acked (c.halves-high.ensures.halves i) c.args.row c.args.ack.now ∷ []);
+      copy = c.number_of-way.ensures.copy;
     }
