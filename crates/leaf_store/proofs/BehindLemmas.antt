@@ -1,6 +1,6 @@
 -- An entry that comes behind all that were brought to their replicas, and is brought at once.
-use Rattle.std.proofs.Common.{◌≡◌, ◌∙◌, Bool, true, false, List, [], ◌∷◌, ◌++◌, drop, length, refl, sym, ap, subst}
-use Rattle.std.proofs.Common.{append-nil}
+use Rattle.std.proofs.Common.{◌≡◌, ◌∙◌, ◌≤◌, ℕ, Bool, true, false, List, [], ◌∷◌, ◌++◌, drop, length, refl, sym, ap, subst}
+use Rattle.std.proofs.Common.{append-nil, arith}
 use Rattle.mon_value.specs.LeafHistories.{IsWellFormed}
 use Rattle.mon_value.specs.declared.histories.Entry.{Entry}
 use Rattle.leaf_store.specs.declared.kept.Kept.{Kept}
@@ -15,10 +15,14 @@ pub none_left : {A : Type 0} (es : List A) → drop (length es) es ≡ []
 none_left [] = refl
 none_left (e ∷ es) = none_left es
 
+pub none_behind : {A : Type 0} (es : List A) (n : ℕ) → n ≤ length es → length es ≤ n → drop n es ≡ []
+none_behind es n within all =
+    let same : n ≡ length es = omega (arith, within, all) in ap (λ (k : ℕ). drop k es) same ∙ none_left es
+
 module _ (replicas : Replicas) (ks : List Kept) (left history : List Entry) (e : Entry)
     (holds : IsInTwoParts replicas ks left) (none : left ≡ [])
     (same : shown_entries replicas ks ++ left ≡ history) where
-  shown : shown_entries replicas ks ≡ history
+  pub shown : shown_entries replicas ks ≡ history
   shown = sym (append-nil (shown_entries replicas ks))
       ∙ ap (λ (es : List Entry). shown_entries replicas ks ++ es) (sym none) ∙ same
 

@@ -157,7 +157,7 @@ module _ (buckets_of : SeriesKey → List ℕ) where
   known_adds replicas set (entry.Up pass) holds known bucket = absurd known
 
   -- nor does one whose series has a number in its replica
-  numbered_adds : (set : ℕ → Bool) (history : List Entry) (e : Entry) (number : ℕ)
+  pub numbered_adds : (set : ℕ → Bool) (history : List Entry) (e : Entry) (number : ℕ)
       → ((bucket : ℕ) → set bucket ≡ is_among bucket (history_buckets buckets_of history)) → HasNumber history e number
       → AddsBuckets set set (rows_buckets buckets_of (brought_rows e))
   numbered_adds set history (entry.Opened pass range slot rows) number has known bucket = absurd known

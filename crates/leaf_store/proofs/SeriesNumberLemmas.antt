@@ -87,7 +87,7 @@ numbered_put history (entry.Put pass range slot row) number has = refl
 numbered_put history (entry.Down pass) number has = absurd has
 numbered_put history (entry.Up pass) number has = absurd has
 
-kept_number : (replicas : Replicas) (history : List Entry) (e : Entry) (number : ℕ) → HoldsHistory replicas history
+pub kept_number : (replicas : Replicas) (history : List Entry) (e : Entry) (number : ℕ) → HoldsHistory replicas history
     → MayFollow history e → HasNumber history e number → HasKeptNumber replicas e number
 kept_number replicas history (entry.Opened pass range slot rows) number holds may has = has
 kept_number replicas history (entry.Put pass range slot row) number holds may has =

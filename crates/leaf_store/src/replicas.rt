@@ -1,5 +1,5 @@
 // The replicas that a leaf keeps, and entries whose rows go to them.
-ghost use Rattle.std.specs.Prelude.{◌≡◌, ◌++◌, ◌∷◌, [], true, false, length, slice_get, option_map, IfOk, IfSome, Some};
+ghost use Rattle.std.specs.Prelude.{◌≡◌, ◌++◌, ◌∷◌, [], true, false, length, slice_get, option_map, IfErr, IfOk, IfSome, Some};
 ghost use Rattle.std.specs.Prelude.{IsTrue, OnErr, OnOk, is_some};
 ghost use Rattle.std.specs.Option.{option_copied};
 ghost use Rattle.mon_value.specs.LeafHistories.{same_replica, IsSource, last_end, points_of, series_of};
@@ -14,7 +14,7 @@ use crate::slot_rows::SlotRows;
 use indexmap::IndexMap;
 use mon_series::KeptSeries;
 use mon_value::{Entry, OutOfMemory, Range, Row, SeriesKey, Shared, Slot, TryCopy};
-use std::alloc::{AllocError, Global};
+use std::alloc::{AllocError, AllocFailed, Global};
 
 /// A replica of a range: what its rows are found by.
 #[derive(Clone, Copy, PartialEq, Eq, Hash)]
@@ -182,7 +182,7 @@ pub(crate) fn settle_entry(
                 range: *range,
                 slot: *slot,
             };
-            let put = put(alloc, replicas, replica, row, series, guess)?;
+            let put = put_copy(alloc, replicas, replica, row, series, guess)?;
             Ok(Kept::Put {
                 pass: *pass,
                 replica: put.replica,
@@ -226,9 +226,8 @@ pub(crate) struct RowPut {
     pub(crate) known: bool,
 }
 
-/// Adds a copy of a row to a replica's rows. The number of its series is guessed where it isn't known. Where memory
-/// runs out the replicas stay.
-pub(crate) fn put(
+/// Adds a copy of a row to a replica's rows, as `put` adds a row.
+pub(crate) fn put_copy(
     alloc: Global,
     replicas: &mut Replicas,
     replica: Replica,
@@ -245,21 +244,83 @@ pub(crate) fn put(
         (rows_if_kept (rows_held replicas.old.entries replica.range replica.slot))) }
     ensures stayed { OnErr result (replicas.new.entries ≡ replicas.old.entries) }
 {
+    Ok(put(replicas, replica, row.copy(alloc)?, series, guess)?)
+}
+
+/// Adds a row to a replica's rows. The number of its series is guessed where it isn't known. Where memory runs out the
+/// replicas stay, and the row is given back.
+pub(crate) fn put(
+    replicas: &mut Replicas,
+    replica: Replica,
+    row: Row,
+    series: Option<u32>,
+    guess: Guess,
+) -> Result<RowPut, AllocFailed<Row>>
+    requires numbered { IfSome series (λ number. slice_get (series_of
+        (rows_if_kept (rows_held replicas.old.entries replica.range replica.slot))) number ≡ Some row.key) }
+    requires later { CanPut replicas.old.entries replica row }
+    ensures put { IfOk result (λ put.
+        IsPut replicas.old.entries replicas.new.entries replica row put.replica put.row) }
+    ensures known { IfOk result (λ put. put.known ≡ has_row_of row.key
+        (rows_if_kept (rows_held replicas.old.entries replica.range replica.slot))) }
+    ensures stayed { OnErr result (replicas.new.entries ≡ replicas.old.entries) }
+    ensures value_returned { IfErr result (λ failed. failed.value ≡ row) }
+{
     let Some(at) = place_of(replicas, replica, guess.place) else {
         unreachable!();
     };
     let Ok(number) = u32::try_from(at) else {
-        return Err(AllocError);
+        return Err(AllocFailed { value: row });
     };
     let Some(slot) = replicas.get_index_mut(at) else {
         unreachable!();
     };
-    let (place, known) = put_in(alloc, slot, row, series, guess.series)?;
+    let (place, known) = put_in(slot, row, series, guess.series)?;
     Ok(RowPut {
         replica: number,
         row: place,
         known,
     })
+}
+
+/// Puts the row of an entry to its replica, where the number of the row's series is known, and gives the entry as it is
+/// kept then. An entry that puts no row is given back, as all are where memory runs out, and the replicas stay.
+pub(crate) fn put_entry(
+    replicas: &mut Replicas,
+    entry: Entry,
+    series: u32,
+    guess: Guess,
+) -> Result<Kept, Entry>
+    requires settles { CanSettle replicas.old.entries entry }
+    requires numbered { HasKeptNumber replicas.old.entries entry series }
+    ensures settled { IfOk result (λ kept. SettlesEntry replicas.old.entries replicas.new.entries entry kept) }
+    ensures stayed { OnErr result (replicas.new.entries ≡ replicas.old.entries) }
+    ensures back { IfErr result (λ own. own ≡ entry) }
+{
+    match entry {
+        Entry::Put {
+            pass,
+            range,
+            slot,
+            row,
+        } => {
+            let replica = Replica { range, slot };
+            match put(replicas, replica, row, Some(series), guess) {
+                Ok(put) => Ok(Kept::Put {
+                    pass,
+                    replica: put.replica,
+                    row: put.row,
+                }),
+                Err(failed) => Err(Entry::Put {
+                    pass,
+                    range,
+                    slot,
+                    row: failed.value,
+                }),
+            }
+        }
+        other => Err(other),
+    }
 }
 
 // The place of a replica. The one that is guessed is looked at first.
@@ -284,24 +345,24 @@ fn is_at(replicas: &Replicas, replica: Replica, place: usize) -> bool
     own_rows(replicas, place, replica).is_some()
 }
 
-// Adds a copy of a row to the rows of a replica, and gives its number and whether its series had a row there.
+// Adds a row to the rows of a replica, and gives its number and whether its series had a row there.
 fn put_in(
-    alloc: Global,
     slot: &mut SlotRows,
-    row: &Row,
+    row: Row,
     series: Option<u32>,
     guess: u32,
-) -> Result<(u32, bool), OutOfMemory>
-    requires numbered { IfSome series (λ number. slice_get (series_of slot.old) number ≡ Some row.now.key) }
-    requires later { IsLater row.now slot.old }
+) -> Result<(u32, bool), AllocFailed<Row>>
+    requires numbered { IfSome series (λ number. slice_get (series_of slot.old) number ≡ Some row.key) }
+    requires later { IsLater row slot.old }
     ensures place { IfOk result (λ at. at.0 ≡ length slot.old) }
-    ensures known { IfOk result (λ at. at.1 ≡ has_row_of row.now.key slot.old) }
-    ensures pushed { OnOk result (slot.new ≡ slot.old ++ row.now ∷ []) }
+    ensures known { IfOk result (λ at. at.1 ≡ has_row_of row.key slot.old) }
+    ensures pushed { OnOk result (slot.new ≡ slot.old ++ row ∷ []) }
     ensures kept { OnErr result (slot.new ≡ slot.old) }
+    ensures value_returned { IfErr result (λ failed. failed.value ≡ row) }
 {
     let Ok(place) = u32::try_from(slot.rows().len()) else {
-        return Err(AllocError);
+        return Err(AllocFailed { value: row });
     };
-    let known = slot.push(row.copy(alloc)?, series, guess)?;
+    let known = slot.push(row, series, guess)?;
     Ok((place, known))
 }

@@ -1,12 +1,12 @@
 // The rows of a replica.
-ghost use Rattle.std.specs.Prelude.{◌≡◌, ◌++◌, ◌∷◌, ◌<◌, ◌<ℤ◌, [], length, slice_get, option_map, Some, IfNone, IfOk};
+ghost use Rattle.std.specs.Prelude.{◌≡◌, ◌++◌, ◌∷◌, ◌<◌, ◌<ℤ◌, [], length, slice_get, option_map, Some, IfErr, IfNone, IfOk};
 ghost use Rattle.std.specs.Prelude.{IfSome, OnErr, OnOk, is_some};
 ghost use Rattle.mon_value.specs.LeafHistories.{IsSource, last_end, points_of, series_of};
 ghost use Rattle.leaf_store.specs.within.Replicas.{has_row_of};
 
 use mon_series::{KeptRows, KeptSeries, Series};
 use mon_value::{OutOfMemory, Row, SeriesKey, Shared};
-use std::alloc::Global;
+use std::alloc::{AllocFailed, Global};
 use std::marker::Model;
 
 /// The rows of a replica, in the order in which they came. Contracts see them as one list. Their series are numbered in
@@ -38,18 +38,19 @@ impl SlotRows {
 
     /// Adds a row at the end, whose point ends later than those of its series, and tells whether the series had a row
     /// before. Where the series' number isn't known, it is found by a guess as by `find`. Where memory runs out the
-    /// rows stay.
+    /// rows stay, and the row is given back.
     pub(crate) fn push(
         &mut self,
         row: Row,
         series: Option<u32>,
         guess: u32,
-    ) -> Result<bool, OutOfMemory>
+    ) -> Result<bool, AllocFailed<Row>>
         requires series { IfSome series (λ number. slice_get (series_of self.old) number ≡ Some row.key) }
         requires later { IfSome (last_end (points_of row.key self.old)) (λ last. last <ℤ row.point.end) }
         ensures known { IfOk result (λ known. known ≡ has_row_of row.key self.old) }
         ensures pushed { OnOk result (self.new ≡ self.old ++ row ∷ []) }
         ensures kept { OnErr result (self.new ≡ self.old) }
+        ensures value_returned { IfErr result (λ failed. failed.value ≡ row) }
     {
         match self.number(&row.key, series, guess) {
             Some(number) => {

@@ -5,6 +5,9 @@ use crate::copying::{TryCopy, copied_items};
 use std::alloc::{AllocError, Global};
 use std::marker::Model;
 
+/// For how many items more a full list that is short gets room.
+const FEW: usize = 4;
+
 /// A list that keeps room for items to come. Contracts see its items and the number of items that
 /// go in without memory.
 #[derive(Drop)]
@@ -64,13 +67,17 @@ impl<T> RoomListOf<T> {
         })
     }
 
-    /// Makes room for one item more, so that the next `push` takes no memory.
+    /// Makes room for one item more, so that the next `push` takes no memory. A long list that is full grows by a
+    /// quarter, so that at most a fifth of its memory lies idle.
     pub fn reserve_one(&mut self) -> Result<(), AllocError>
         ensures room { OnOk result (1 ≤ self.new.spare) }
         ensures kept { self.new.items ≡ self.old.items }
         ensures no_less { self.old.spare ≤ self.new.spare }
     {
-        self.items.reserve(1)
+        if self.items.len() < self.items.capacity() {
+            return Ok(());
+        }
+        self.items.reserve_exact(room_for_more(self.items.len()))
     }
 
     /// Adds an item at the end, in room that was made before.
@@ -81,4 +88,11 @@ impl<T> RoomListOf<T> {
     {
         self.items.push_reserved(item);
     }
+}
+
+// For how many items more a full list of so many gets room.
+fn room_for_more(count: usize) -> usize
+    ensures some { 1 ≤ result }
+{
+    FEW.max(count / 4)
 }

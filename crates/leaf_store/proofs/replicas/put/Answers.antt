@@ -11,7 +11,7 @@ pub put_in-requires : goal.put_in-requires
 put_in-requires c =
     let replicas = c.args.replicas.now.entries in
     let replica = c.args.replica in
-    let row = c.args.row.now in
+    let row = c.args.row in
     let slot = c.in-Some-get_index_mut.slot.now in
     let held = placed_rows replicas replica c.in-Some.at slot (sym c.in-Some.ensures.place)
     c.in-Some-get_index_mut.ensures.value in
@@ -31,7 +31,7 @@ returns-clause-known c =
     let held = placed_rows replicas replica c.in-Some.at slot (sym c.in-Some.ensures.place)
     c.in-Some-get_index_mut.ensures.value in
     c.in_ok-place.ensures.known
-    ∙ ap (λ (o : Option (List Row)). has_row_of c.args.row.now.key (rows_if_kept o)) (sym held)
+    ∙ ap (λ (o : Option (List Row)). has_row_of c.args.row.key (rows_if_kept o)) (sym held)
 
 pub returns-in_err-place-clause-stayed : goal.returns-in_err-place-clause-stayed
 returns-in_err-place-clause-stayed c =
@@ -44,7 +44,7 @@ returns-in_err-place-clause-stayed c =
 pub returns-clause-put : goal.returns-clause-put
 returns-clause-put c =
     let same : c.in-Ok.number ≡ c.in-Some.at = search rules in
-    is_put c.args.replicas.now.entries c.args.replica c.args.row.now c.in-Some.at c.in_ok-place.place c.in-Ok.number
+    is_put c.args.replicas.now.entries c.args.replica c.args.row c.in-Some.at c.in_ok-place.place c.in-Ok.number
     c.in-Some-get_index_mut.slot.now c.put_in.new.slot
     (sym c.in-Some.ensures.place) c.in-Some-get_index_mut.ensures.value c.in_ok-place.ensures.place
     c.in_ok-place.ensures.pushed same

@@ -9,8 +9,8 @@ use Rattle.leaf_store.proofs.EntryLemmas.{down_settles, opened_settles, put_sett
 use Rattle.leaf_store.proofs.StepLemmas.{can_put, is_new}
 use Rattle.leaf_store.proofs.replicas.settle_entry.Goals as goal
 
-pub put-requires : goal.put-requires
-put-requires c =
+pub put_copy-requires : goal.put_copy-requires
+put_copy-requires c =
     let replica : Replica = record { range = c.in-Put.range; slot = c.in-Put.slot } in
     let old = c.args.replicas.now.entries in
     record {
@@ -37,7 +37,7 @@ pub returns-in_ok-put-in-Put-clause-settled : goal.returns-in_ok-put-in-Put-clau
 returns-in_ok-put-in-Put-clause-settled c =
     let replica : Replica = record { range = c.in-Put.range; slot = c.in-Put.slot } in
     let old = c.args.replicas.now.entries in
-    let new = c.put.new.replicas.entries in
+    let new = c.put_copy.new.replicas.entries in
     let at = c.in_ok-put-in-Put.put in
     subst (λ (e : Entry). SettlesEntry old new e (kept.Put c.in-Put.pass at.replica at.row)) (sym c.in-Put.is)
     (put_settles old new c.in-Put.pass replica c.in-Put.row at.replica at.row c.in_ok-put-in-Put.ensures.put)

@@ -53,8 +53,8 @@ invariant_of-self c =
       most = c.self.invariant.most;
     }
 
-pub put-requires : goal.put-requires
-put-requires c =
+pub put_copy-requires : goal.put_copy-requires
+put_copy-requires c =
     let leaf = c.self.inside in
     let replica : Replica = record { range = c.args.range; slot = c.args.slot } in
     let e = entry.Put c.args.pass c.args.range c.args.slot c.args.row.now in
@@ -103,7 +103,7 @@ invariant_of-self-2 c =
     let formed : IsWellFormed (history ++ e ∷ []) =
     subst (λ (v : LeafView). IsWellFormed (v.history ++ e ∷ [])) (sym c.self.view_is) c.requires.follows in
     let two = comes_behind replicas ks (entries_in (drop moved fresh)) history e holds none same formed in
-    let new = c.put.new.replicas.entries in
+    let new = c.put_copy.new.replicas.entries in
     let own = kept.Put c.args.pass c.in_ok-put.put.replica c.in_ok-put.put.row in
     let settles = put_settles replicas new c.args.pass replica c.args.row.now c.in_ok-put.put.replica
     c.in_ok-put.put.row c.in_ok-put.ensures.put in
@@ -163,7 +163,7 @@ returns-clause-put c =
     let formed : IsWellFormed (history ++ e ∷ []) =
     subst (λ (v : LeafView). IsWellFormed (v.history ++ e ∷ [])) (sym c.self.view_is) c.requires.follows in
     let two = comes_behind replicas ks (entries_in (drop moved fresh)) history e holds none same formed in
-    let new = c.put.new.replicas.entries in
+    let new = c.put_copy.new.replicas.entries in
     let own = kept.Put c.args.pass c.in_ok-put.put.replica c.in_ok-put.put.row in
     let settles = put_settles replicas new c.args.pass replica c.args.row.now c.in_ok-put.put.replica
     c.in_ok-put.put.row c.in_ok-put.ensures.put in
