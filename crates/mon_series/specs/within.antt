@@ -1,5 +1,6 @@
--- What only proofs read: how points and rows are kept, and their series by metric.
+-- What only proofs read: how points and rows are kept, the rows' order, and their series by metric.
 pub mod KeptPoints
 pub mod KeptRows
 pub mod Metrics
+pub mod Orders
 pub mod Places

@@ -8,10 +8,11 @@ ghost use Rattle.mon_series.specs.SeriesMaps.{series_held};
 
 use crate::kept_point::KeptPoint;
 use crate::metrics::{ByMetric, add_number, index_of, make_room, numbers_of};
-use crate::placing::{Place, push_first, push_known};
+use crate::order::Order;
+use crate::placing::{push_first, push_known};
 use crate::series::Series;
 use insertion_map::InsertionMap;
-use mon_value::{OutOfMemory, RoomListOf, Row, SeriesKey, Shared, Text, TryCopy};
+use mon_value::{OutOfMemory, Row, SeriesKey, Shared, Text, TryCopy};
 use std::alloc::{AllocError, AllocFailed, Global};
 use std::marker::Model;
 
@@ -27,12 +28,12 @@ pub struct KeptSeries {
 
 /// Rows in the order in which they came. Contracts see them as one list. Each point is kept once, with its series;
 /// beside them stand the places of the points, in order, and the numbers of the series under their metrics. There are
-/// fewer than 2^32 series, and at most as many points of each.
+/// fewer than 2^32 rows.
 #[derive(Drop)]
 pub struct KeptRows {
     alloc: Global,
     series: SeriesMap,
-    order: RoomListOf<Place>,
+    order: Order,
     by_metric: ByMetric,
 }
 
@@ -59,7 +60,7 @@ impl KeptRows {
         KeptRows {
             alloc,
             series: SeriesMap::new(alloc),
-            order: RoomListOf::new(alloc),
+            order: Order::new(alloc),
             by_metric: ByMetric::new(alloc),
         }
     }

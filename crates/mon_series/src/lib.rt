@@ -5,6 +5,7 @@
 mod kept_point;
 mod kept_rows;
 mod metrics;
+mod order;
 mod placing;
 mod series;
 

@@ -9,31 +9,23 @@ ghost use Rattle.mon_series.specs.within.Places.{TakesRow, count_at, place_at, w
 
 use crate::kept_point::KeptPoint;
 use crate::kept_rows::SeriesMap;
+use crate::order::Order;
 use crate::series::Series;
-use mon_value::{OutOfMemory, RoomListOf, Row, SeriesKey, Shared, TryCopy};
+use mon_value::{OutOfMemory, Row, SeriesKey, Shared};
 use std::alloc::{AllocError, AllocFailed, Global};
 
 /// The place of a point: the number of its series, and its own number in that series.
-#[derive(Drop)]
+#[derive(Clone, Copy)]
 pub(crate) struct Place {
     pub(crate) series: u32,
     pub(crate) point: u32,
-}
-
-impl TryCopy for Place {
-    fn copy(&self, _alloc: Global) -> Result<Place, AllocError> {
-        Ok(Place {
-            series: self.series,
-            point: self.point,
-        })
-    }
 }
 
 /// Adds the point of a row to the series of a number, which is the row's. Where memory runs out all stays.
 pub(crate) fn push_known(
     alloc: Global,
     groups: &mut SeriesMap,
-    order: &mut RoomListOf<Place>,
+    order: &mut Order,
     number: u32,
     row: Row,
 ) -> Result<(), AllocFailed<Row>>
@@ -62,7 +54,7 @@ pub(crate) fn push_known(
 pub(crate) fn push_first(
     alloc: Global,
     groups: &mut SeriesMap,
-    order: &mut RoomListOf<Place>,
+    order: &mut Order,
     row: Row,
 ) -> Result<(), AllocFailed<Row>>
     requires absent { lookup (same_series row.key) (series_held groups.old.entries) ≡ None }
@@ -103,11 +95,7 @@ fn parts_of(alloc: Global, row: Row) -> Result<(Shared<SeriesKey>, KeptPoint), A
 }
 
 // Makes room for one point more of a series, and gives its place.
-fn room_for(
-    series: &mut Series,
-    order: &mut RoomListOf<Place>,
-    number: u32,
-) -> Result<Place, OutOfMemory>
+fn room_for(series: &mut Series, order: &mut Order, number: u32) -> Result<Place, OutOfMemory>
     ensures place { IfOk result (λ place. place ≡ place_at number (length series.old.points)) }
     ensures points { series.new.points ≡ series.old.points }
     ensures order { order.new.items ≡ order.old.items }
@@ -129,7 +117,7 @@ fn room_for(
 fn room_for_first(
     groups: &mut SeriesMap,
     series: &mut Series,
-    order: &mut RoomListOf<Place>,
+    order: &mut Order,
 ) -> Result<Place, OutOfMemory>
     ensures place { IfOk result (λ place. place ≡ place_at (length groups.old.entries) (length series.old.points)) }
     ensures few { OnOk result (length groups.old.entries + 1 < 2 ^ 32) }

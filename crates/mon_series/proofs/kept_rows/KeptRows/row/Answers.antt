@@ -14,13 +14,13 @@ get-place-requires c =
 
 pub unreachable-requires : goal.unreachable-requires
 unreachable-requires c =
-    let place = c.get-place.result.now in
+    let place = c.get-place.result in
     place_has_group c.self.invariant.placed c.self.view_is c.args.number place c.get-place.ensures.item
     (held_out c.self.inside.series.entries place.series (sym c.in_default.ensures.entry))
 
 pub unreachable-requires-in_default-point_at : goal.unreachable-requires-in_default-point_at
 unreachable-requires-in_default-point_at c =
-    let place = c.get-place.result.now in
+    let place = c.get-place.result in
     let key = c.in-Some.key.now in
     let series = c.in-Some.series.now in
     place_has_point c.self.invariant.placed c.self.view_is c.args.number place key series.points
@@ -30,7 +30,7 @@ unreachable-requires-in_default-point_at c =
 
 pub returns : goal.returns
 returns c =
-    let place = c.get-place.result.now in
+    let place = c.get-place.result in
     let key = c.in-Some.key.now in
     let series = c.in-Some.series.now in
     let point = c.in-Some-point_at.point.now in
