@@ -9,12 +9,13 @@ ghost use Rattle.mon_value.specs.Answers.{Gives, GivesView};
 ghost use Rattle.serde_json.specs.View.{view};
 
 use crate::faults::ConfigFault;
+use crate::guesses::RangeGuess;
 use crate::held::{Read, with_metrics, with_targets};
 use crate::limits::LONGEST_CONFIGURATION;
 use crate::parts::{Parts, parts_in};
 use crate::paths::path_from_top;
 use mon_schema::Schemas;
-use mon_topo::{Topology, ZoneSpecs, location_of};
+use mon_topo::{Topology, ZoneSpecs, location_near, location_of};
 use mon_value::{OutOfMemory, Range, Refusal, SeriesKey, TryCopy};
 use serde_json::Value;
 use std::alloc::{AllocError, Global};
@@ -43,6 +44,22 @@ impl Config {
         let location = location_of(&self.schemas, &key.target)?;
         let zone = self.topology.zone_of(location.as_bytes())?;
         Some(self.topology.range_of(zone, &key.target))
+    }
+
+    /// The range that a series' target lies in, as `range_of`. What is guessed is tried first, and is then what was
+    /// found: no name is looked up and no bound searched where the target lies in the range that was found last.
+    pub fn range_near(&self, key: &SeriesKey, guess: &mut RangeGuess) -> Option<Range>
+        ensures range { result ≡ range_of_key self.now key.now }
+        ensures there { IfSome result (λ range. range.0 < length (ranges_in self.now.topology)) }
+    {
+        let location = location_near(&self.schemas, &key.target, &mut guess.schema)?;
+        let zone = self
+            .topology
+            .zone_near(location.as_bytes(), &mut guess.location)?;
+        Some(
+            self.topology
+                .range_near(zone, &key.target, &mut guess.range),
+        )
     }
 }
 

@@ -3,6 +3,7 @@
 
 mod config;
 mod faults;
+mod guesses;
 mod held;
 mod keys;
 mod limits;
@@ -15,4 +16,5 @@ mod zones;
 
 pub use config::{Config, read_config};
 pub use faults::ConfigFault;
+pub use guesses::RangeGuess;
 pub use limits::{GREATEST_LIMIT, LONGEST_CONFIGURATION};

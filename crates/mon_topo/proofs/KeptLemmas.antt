@@ -8,11 +8,11 @@ use Rattle.mon_topo.proofs.BoundLemmas.{has_one, point_found}
 use Rattle.mon_topo.proofs.LawfulLemmas.{few, zone_in_order}
 use Rattle.mon_topo.proofs.SizeLemmas.{parts_so_far}
 use Rattle.mon_topo.proofs.SpanLemmas.{get_or-spans_from}
-use Rattle.mon_topo.specs.Locations.{is_bound_below, last_within, range_of, HasOneRange}
+use Rattle.mon_topo.specs.Locations.{is_bound_below, last_within, HasOneRange, IsHeldAt}
 use Rattle.mon_topo.specs.Faults.{AreLawfulZones}
 use Rattle.mon_topo.specs.Indexed.{spans_from}
 use Rattle.mon_value.specs.Histories.{range_numbered}
-use Rattle.mon_topo.specs.Zones.{first_leaf, first_range, no_zone, ranges_in, zone_at, IsRangeOf}
+use Rattle.mon_topo.specs.Zones.{first_leaf, first_range, no_zone, ranges_in, zone_at}
 use Rattle.mon_topo.specs.declared.spans.ZoneSpan.{ZoneSpan}
 use Rattle.mon_topo.specs.declared.zones.RangeSpec.{RangeSpec}
 use Rattle.mon_topo.specs.declared.zones.ZoneSpec.{ZoneSpec}
@@ -45,20 +45,14 @@ ranges_parted zones i target ranges lawful there is =
     (sym is)
     ((zone_in_order zones lawful.ordered i there).parts target)
 
-pub record IsFound (zones : List ZoneSpec) (i : ℕ) (target : Target) (p : ℕ) : Type 0 where
-  pub some : 0 < p
-  pub within : first_range zones i + p ≤ 512
-  pub own : p ≤ length (zone_at zones i).ranges
-  pub all : first_range zones i + length (zone_at zones i).ranges ≤ length (ranges_in zones)
-  pub last : last_within target (zone_at zones i).ranges ≡ Some (p - 1)
-
+-- which is behind the place that is wanted
 pub range_searched : (zones : List ZoneSpec) (i : ℕ) (target : Target) (ranges : List RangeSpec) (p : ℕ)
     → AreLawfulZones zones → i < length zones
     → ranges ≡ (zone_at zones i).ranges → p ≤ length ranges
     → IsPartitionPoint (λ range. is_bound_below range.from target ≡ true) (λ range. is_bound_below range.from target
     ≡ false)
     ranges p
-    → IsFound zones i target p
+    → (0 < p) × (last_within target (zone_at zones i).ranges ≡ Some (p - 1))
 range_searched zones i target ranges p lawful there is le point =
     let own = (zone_at zones i).ranges in
     let order = zone_in_order zones lawful.ordered i there in
@@ -67,26 +61,37 @@ range_searched zones i target ranges p lawful there is le point =
     subst (λ (rs : List RangeSpec). IsPartitionPoint (λ (range : RangeSpec). is_bound_below range.from target ≡ true)
     (λ (range : RangeSpec). is_bound_below range.from target ≡ false) rs p) is point in
     let long : length ranges ≡ length own = ap length is in
-    let found = point_found target own p order (omega arith) at in
-    let most = few zones lawful.few in
+    point_found target own p order (omega arith) at
+
+-- a place that holds the target is the one that is wanted
+pub held_last : (zones : List ZoneSpec) (i : ℕ) (target : Target) (ranges : List RangeSpec) (place : ℕ)
+    → AreLawfulZones zones → i < length zones → ranges ≡ (zone_at zones i).ranges → IsHeldAt target ranges place
+    → last_within target (zone_at zones i).ranges ≡ Some place
+held_last zones i target ranges place lawful there is held =
+    let one = has_one target (zone_at zones i).ranges (zone_in_order zones lawful.ordered i there) in
+    let same : place ≡ one.0 = one.3 place (subst (λ (rs : List RangeSpec). IsHeldAt target rs place) is held) in
+    one.1 ∙ ap Some (sym same)
+
+-- ---- the range at a place of a zone
+
+pub record IsRangeAt (zones : List ZoneSpec) (i place number : ℕ) : Type 0 where
+  pub numbered : number ≡ first_range zones i + place
+  pub small : number < 512
+  pub within : number < length (ranges_in zones)
+
+pub range_there : (own zones : List ZoneSpec) (spans : List ZoneSpan) (i place : ℕ) (span : ZoneSpan)
+    → own ≡ zones → AreLawfulZones own → spans ≡ spans_from 0 0 own → i < length zones
+    → place < length (zone_at zones i).ranges → span ≡ get_or spans i span
+    → IsRangeAt zones i place (span.first_range + place)
+range_there own zones spans i place span is lawful kept there within at =
+    let these = span_kept zones spans i span (kept ∙ ap (spans_from 0 0) is) there at in
+    let most = few zones (subst AreLawfulZones is lawful).few in
     let so_far = parts_so_far (λ (zone : ZoneSpec). zone.ranges) zones i no_zone there in
-    record { some = found.0; within = omega arith; own = omega arith; all = so_far; last = found.1 }
-
-pub range_found : (zones : List ZoneSpec) (i : ℕ) (target : Target) (p first : ℕ) → IsFound zones i target p
-    → first ≡ first_range zones i → range_of zones i target ≡ Some (range_numbered (first + (p - 1)))
-range_found zones i target p first found is =
-    ap (option_map (λ (j : ℕ). range_numbered (first_range zones i + j))) found.last
-    ∙ ap (λ (n : ℕ). Some (range_numbered (n + (p - 1)))) (sym is)
-
--- which is one of the zone's
-pub range_zoned : (zones : List ZoneSpec) (i : ℕ) (target : Target) (p first : ℕ) → IsFound zones i target p
-    → first ≡ first_range zones i → IsRangeOf zones i (range_numbered (first + (p - 1)))
-range_zoned zones i target p first found is =
-    (omega (arith, found.some, is), omega (arith, found.some, found.own, is))
-
-pub range_known : (zones : List ZoneSpec) (i : ℕ) (target : Target) (p first : ℕ) → IsFound zones i target p
-    → first ≡ first_range zones i → first + (p - 1) < length (ranges_in zones)
-range_known zones i target p first found is = omega (arith, found.some, found.own, found.all, is)
+    record {
+      numbered = ap (λ first. first + place) these.first_range;
+      small = omega (arith, within, so_far, these.first_range, most.ranges_few);
+      within = omega (arith, within, so_far, these.first_range);
+    }
 
 -- each target has one range
 pub one_range : (zones : List ZoneSpec) → AreLawfulZones zones → (zone : ℕ) (target : Target) → zone < length zones

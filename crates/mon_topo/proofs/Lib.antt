@@ -1,5 +1,6 @@
 mod BoundLemmas
 mod FindsLemmas
+mod JoinLemmas
 mod KeptLemmas
 pub mod LawfulLemmas
 mod LeadingLemmas

@@ -28,7 +28,8 @@ last_by ranges j (Some k) b earlier is =
 last_by ranges j None true earlier is = let same : ◌≡◌ {A = ℕ} 0 j = cc in omega (arith, same)
 last_by ranges j None false earlier is = absurd cc
 
-last_below : (target : Target) (ranges : List RangeSpec) (j : ℕ) → last_within target ranges ≡ Some j
+-- which is among the zone's ranges
+pub last_below : (target : Target) (ranges : List RangeSpec) (j : ℕ) → last_within target ranges ≡ Some j
     → j < length ranges
 last_below target [] j is = absurd cc
 last_below target (range ∷ ranges) j is =

@@ -1,5 +1,6 @@
 // The bounds of ranges, and how they are compared.
-ghost use Rattle.std.specs.Prelude.{◌≡◌, ◌∷◌};
+ghost use Rattle.std.specs.Prelude.{◌≡◌, ◌∷◌, slice_get, IsTrue};
+ghost use Rattle.std.specs.Option.{option_copied};
 ghost use Rattle.mon_topo.specs.Locations as order;
 ghost use Rattle.mon_topo.specs.Faults as spec;
 ghost use Rattle.mon_topo.specs.Faults.{first_at};
@@ -21,6 +22,29 @@ pub(crate) fn is_within(bound: &FieldValues, target: &Target) -> bool
         FieldValue::Text(schema) => is_text_within(schema, fields, target),
         _ => true,
     }
+}
+
+/// Whether the range at a place is there and holds a target: its bound is not above the target, and the next one's is.
+pub(crate) fn is_held_at(ranges: &[RangeSpec], place: usize, target: &Target) -> bool
+    ensures held { IsTrue result → order.IsHeldAt target.now ranges.now place }
+{
+    let Some(range) = range_at(ranges, place) else {
+        return false;
+    };
+    if !is_within(&range.from, target) {
+        return false;
+    }
+    match range_at(ranges, place + 1) {
+        Some(next) => !is_within(&next.from, target),
+        None => true,
+    }
+}
+
+// The range at a place.
+fn range_at(ranges: &[RangeSpec], place: usize) -> Option<&RangeSpec>
+    ensures range { option_copied result ≡ slice_get ranges.now place }
+{
+    ranges.get(place)
 }
 
 // Whether a bound of a schema's name and fields is not above a target.

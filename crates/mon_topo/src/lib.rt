@@ -28,7 +28,7 @@ pub use laws::{ranges_have_replicas, targets_have_one_range, zones_are_few};
 pub use limits::{
     MOST_LEAVES, MOST_LEAVES_OF_ZONE, MOST_RANGES, MOST_REPLICAS, MOST_SLOTS, MOST_ZONES,
 };
-pub use locations::location_of;
+pub use locations::{location_near, location_of};
 pub use mon_value::{Leaf, LeafCounts, Leaves, Range, Slot, Zone};
 pub use name_texts::{down_text, founds_text, leaf_text, range_text};
 pub use shared_zones::share_zone;

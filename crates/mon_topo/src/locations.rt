@@ -16,6 +16,20 @@ pub fn location_of<'a>(schemas: &Schemas, target: &'a Target) -> Option<&'a Text
     }
 }
 
+/// The location of a target, as `location_of`. A place among the schemas is tried first, and is then the schema's.
+pub fn location_near<'a>(
+    schemas: &Schemas,
+    target: &'a Target,
+    place: &mut usize,
+) -> Option<&'a Text>
+    ensures location { option_copied result ≡ spec.location_of schemas.now target.now }
+{
+    match schemas.target_near(target.schema.as_bytes(), place) {
+        None => None,
+        Some(schema) => location_in(schema.fields.as_slice(), target.fields.as_slice()),
+    }
+}
+
 // The value of the location field.
 fn location_in<'a>(fields: &[Field], values: &'a [FieldValue]) -> Option<&'a Text>
     ensures location { option_copied result ≡ spec.location_in fields.now values.now }

@@ -1,5 +1,6 @@
 // Names that are found with their numbers.
-ghost use Rattle.std.specs.Prelude.{◌≡◌, ◌<◌, not, length, IfOk, OnOk};
+ghost use Rattle.std.specs.Prelude.{◌≡◌, ◌<◌, not, length, slice_get, IfOk, OnOk};
+ghost use Rattle.indexmap.specs.IndexMap.{values};
 ghost use Rattle.std.specs.List.{list_any};
 ghost use Rattle.std.specs.Map.{keys_of, lookup};
 ghost use Rattle.mon_value.specs.Same.{same_text};
@@ -54,6 +55,15 @@ impl NameMap {
         self.numbers.get(name).copied()
     }
 
+    /// The number of a name, which is tried first at a place. The place is then the name's.
+    pub(crate) fn get_near(&self, name: &[u8], place: &mut usize) -> Option<u32>
+        ensures found { result ≡ lookup (same_text name.now) self.now }
+    {
+        let found = self.numbers.get_near(*place, name)?;
+        *place = found;
+        number_at(&self.numbers, found)
+    }
+
     /// Adds a name with its number, and says whether the name is new. One that is there keeps its number.
     pub(crate) fn add(&mut self, name: &[u8], number: u32) -> Result<bool, OutOfMemory>
         ensures new { IfOk result (λ new. new ≡ not (list_any (same_text name.now) (keys_of self.old))) }
@@ -66,6 +76,14 @@ impl NameMap {
         self.numbers.insert(key, number)?;
         Ok(true)
     }
+}
+
+// The number at a place.
+fn number_at(numbers: &InsertionMap<Vec<u8>, u32>, place: usize) -> Option<u32>
+    ensures number { result ≡ slice_get (values numbers.now) place }
+{
+    let (_, number) = numbers.get_index(place)?;
+    Some(*number)
 }
 
 /// The names of zones: each zone's with its number, each location with the number of its zone, and each

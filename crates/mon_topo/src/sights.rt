@@ -111,9 +111,14 @@ fn join_ranges(mine: &mut [RangeSight], theirs: &[RangeSight])
     requires alike { length mine.old ≡ length theirs.now }
     ensures joined { mine.new ≡ farther_each (λ range. range.length) mine.old theirs.now }
 {
-    for (i, other) in theirs.iter().enumerate() {
-        if mine[i].length < other.length {
-            mine[i] = *other;
+    let mut left = theirs;
+    for own in mine.iter_mut() {
+        let Some((other, rest)) = left.split_first() else {
+            return;
+        };
+        if own.length < other.length {
+            *own = *other;
         }
+        left = rest;
     }
 }

@@ -1,15 +1,16 @@
 // The topology of a store.
-ghost use Rattle.std.specs.Prelude.{◌≡◌, ◌<◌, Some, None, length, map, slice_get, IfOk, IfSome, OnOk};
+ghost use Rattle.std.specs.Prelude.{◌≡◌, ◌+◌, ◌<◌, Some, None, length, map, slice_get, IfOk, IfSome, OnOk};
 ghost use Rattle.std.specs.Option.{option_or};
 ghost use Rattle.mon_value.specs.Answers.{AnswersBy};
-ghost use Rattle.mon_topo.specs.Locations.{range_of};
+ghost use Rattle.mon_topo.specs.Locations.{last_within, range_of};
 ghost use Rattle.mon_topo.specs.Faults as spec_faults;
 ghost use Rattle.mon_topo.specs.Faults.{topology_fault, AreLawfulZones};
 ghost use Rattle.mon_topo.specs.Indexed as kept;
 ghost use Rattle.mon_topo.specs.Zones as spec;
 ghost use Rattle.mon_topo.specs.Zones.{zone_at};
+ghost use Rattle.mon_value.specs.Histories.{range_numbered};
 
-use crate::bounds::{bad_bound, disorder, is_within};
+use crate::bounds::{bad_bound, disorder, is_held_at, is_within};
 use crate::faults::{TopoFault, TopoKind, refused_at};
 use crate::lists::{leaf_names_of, range_names_of, replicas_of};
 use crate::names::{NameMap, Names};
@@ -77,6 +78,18 @@ impl Topology {
         }
     }
 
+    /// The zone that lists a location, as `zone_of`. A place among all locations is tried first, and is then the
+    /// location's: one comparison where the same location is asked for again.
+    pub fn zone_near(&self, location: &[u8], place: &mut usize) -> Option<Zone>
+        ensures zone { result ≡ spec.zone_of self.now location.now }
+        ensures within { IfSome result (λ zone. zone.0 < length self.now) }
+    {
+        match self.locations.get_near(location, place) {
+            Some(number) => Some(Zone(number)),
+            None => None,
+        }
+    }
+
     /// The range of a zone that a target lies in: the last whose bound is not above the target.
     pub fn range_of(&self, zone: Zone, target: &Target) -> Range
         requires { zone.0 < length self.now }
@@ -84,10 +97,54 @@ impl Topology {
         ensures within { result.0 < length (spec.ranges_in self.now) }
         ensures zoned { spec.IsRangeOf self.now zone.0 result }
     {
-        let place = zone.0 as usize;
-        let ranges = self.zones.get(place).ranges.as_slice();
+        let place = self.place_of(zone, target);
+        self.range_at(zone, place)
+    }
+
+    /// The range of a zone that a target lies in, as `range_of`. A place among the zone's ranges is tried first, and is
+    /// then the range's: two comparisons at most where the target lies there.
+    pub fn range_near(&self, zone: Zone, target: &Target, place: &mut usize) -> Range
+        requires { zone.0 < length self.now }
+        ensures range { range_of self.now zone.0 target.now ≡ Some result }
+        ensures within { result.0 < length (spec.ranges_in self.now) }
+        ensures zoned { spec.IsRangeOf self.now zone.0 result }
+    {
+        let found = self.place_near(zone, target, *place);
+        *place = found;
+        self.range_at(zone, found)
+    }
+
+    // The place in its zone of the range that a target lies in.
+    fn place_of(&self, zone: Zone, target: &Target) -> usize
+        requires { zone.0 < length self.now }
+        ensures last { last_within target.now (zone_at self.now zone.0).ranges ≡ Some result }
+    {
+        let ranges = self.zones.get(zone.0 as usize).ranges.as_slice();
         let above = ranges.partition_point(|range| is_within(&range.from, target));
-        Range(self.spans[place].first_range + (above - 1) as u32)
+        above - 1
+    }
+
+    // The place in its zone of the range that a target lies in, which is tried first at a guess.
+    fn place_near(&self, zone: Zone, target: &Target, guess: usize) -> usize
+        requires { zone.0 < length self.now }
+        ensures last { last_within target.now (zone_at self.now zone.0).ranges ≡ Some result }
+    {
+        let ranges = self.zones.get(zone.0 as usize).ranges.as_slice();
+        if is_held_at(ranges, guess, target) {
+            return guess;
+        }
+        self.place_of(zone, target)
+    }
+
+    // The range at a place of a zone.
+    fn range_at(&self, zone: Zone, place: usize) -> Range
+        requires there { zone.0 < length self.now }
+        requires within { place < length (zone_at self.now zone.0).ranges }
+        ensures range { result ≡ range_numbered (spec.first_range self.now zone.0 + place) }
+        ensures within { result.0 < length (spec.ranges_in self.now) }
+        ensures zoned { spec.IsRangeOf self.now zone.0 result }
+    {
+        Range(self.spans[zone.0 as usize].first_range + place as u32)
     }
 
     /// The leaves that hold a range at first, in their order. They are its slots 0, 1 and 2.
