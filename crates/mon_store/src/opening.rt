@@ -19,7 +19,7 @@ use crate::stores::Store;
 use history_book::{Book, BookBlank};
 use know::{Know, Names, Tables};
 use leaf_cell::{LeafCell, NewLeaf};
-use mon_config::Config;
+use mon_config::{Config, RangeGuess};
 use mon_topo::Sight;
 use mon_value::OutOfMemory;
 use raise_table::{RaiseBlank, RaiseTable};
@@ -47,7 +47,10 @@ impl<N: Names> Store<N> {
                     leaves: stock.leaves,
                     ranges: stock.ranges,
                 },
-                Pass { know: stock.know },
+                Pass {
+                    know: stock.know,
+                    guess: RangeGuess::new(),
+                },
             )),
             Err(fault) => {
                 drop(config);

@@ -11,6 +11,7 @@ ghost use Rattle.mon_store.specs.Passes.{IsPass};
 
 use crate::stores::Store;
 use know::{Ended, Know, Names, NumbersSpent};
+use mon_config::RangeGuess;
 use mon_value::Refusal;
 use std::alloc::Global;
 use std::marker::Model;
@@ -19,6 +20,8 @@ use std::marker::Model;
 #[derive(Drop)]
 pub struct Pass<N: Names> {
     pub(crate) know: Know<N>,
+    // Where the range of the last row was found.
+    pub(crate) guess: RangeGuess,
 }
 
 impl<N: Names> Model for Pass<N> {
@@ -75,7 +78,10 @@ impl<N: Names> Store<N> {
     {
         let know = p.know.split_numbered(alloc, &self.tables)?;
         p.know.confirm(&self.tables);
-        Ok(Pass { know })
+        Ok(Pass {
+            know,
+            guess: RangeGuess::new(),
+        })
     }
 
     /// One caller has then seen and knows what either had, and the other's number is met. No lock and no memory is

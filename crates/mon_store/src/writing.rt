@@ -35,7 +35,7 @@ impl<N: Names> Store<N> {
         ensures refused { IfErr result (IsRefused self.now row.now p.old p.new) }
         ensures nothing { OnErr result (IsUnwritten p.old p.new) }
     {
-        match self.config.range_of(&row.key) {
+        match self.config.range_near(&row.key, &mut p.guess) {
             Some(range) => self.write_in(rt, alloc, &mut p.know, range, row),
             None => Err(WriteFault::NoZone),
         }
