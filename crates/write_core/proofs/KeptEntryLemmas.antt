@@ -1,23 +1,20 @@
 -- Entries of a range's history that are kept in few bytes.
-use Rattle.std.proofs.Common.{◌≡◌, ◌∙◌, ◌≤◌, ◌+◌, ℕ, zero, suc, List, [], ◌∷◌, ◌++◌, length, Option, None, Some, slice_get}
+use Rattle.std.proofs.Common.{◌≡◌, ◌∙◌, ◌≤◌, ◌+◌, ℕ, suc, List, [], ◌∷◌, ◌++◌, length, Option, None, Some, slice_get}
 use Rattle.std.proofs.Common.{refl, ap, sym, arith, length-append}
 use Rattle.std.proofs.lemmas.List.Elements.{filter_map-append}
 use Rattle.std.specs.Option.{option_and_then, option_map}
 use Rattle.std.specs.List.{cons_option, filter_map}
+use Rattle.mon_value.specs.declared.histories.Ack.{Ack}
 use Rattle.mon_value.specs.declared.histories.RangeEntry.{RangeEntry}
+use Rattle.mon_value.specs.declared.histories.RangeEntry.TheVariants as entry
 use Rattle.mon_value.specs.declared.rows.Point.{Point}
+use Rattle.mon_value.specs.declared.rows.SeriesKey.{SeriesKey}
 use Rattle.write_core.specs.declared.kept_entries.Kept.{Kept}
 use Rattle.write_core.specs.declared.kept_entries.Kept.TheVariants as kept
-use Rattle.write_core.specs.declared.kept_entries.Way.{Way}
-use Rattle.write_core.specs.within.KeptEntries.{Stand, acked, entries_of, entry_of}
+use Rattle.write_core.specs.declared.short_points.Short.TheVariants as short
+use Rattle.write_core.specs.declared.ways.Way.{Way}
+use Rattle.write_core.specs.within.KeptEntries.{Beside, Stand, acked, entries_of, entry_of, point_of, told_in}
 use Rattle.mon_value.proofs.PlainLemmas.{filter_map-few}
-
--- ---- places of a list that grows
-
-pub stands_in_front : {A : Type 0} (xs ys : List A) → Stand xs (xs ++ ys)
-stands_in_front [] ys i x is = absurd cc
-stands_in_front (first ∷ xs) ys zero x is = is
-stands_in_front (first ∷ xs) ys (suc i) x is = stands_in_front xs ys i x is
 
 -- ---- what is made of each item
 
@@ -48,30 +45,76 @@ then_stays : {A B : Type 0} (f g : A → Option B) (o p : Option A) → ((x : A)
 then_stays f g None p stay each y is = absurd cc
 then_stays f g (Some x) p stay each y is = ap (option_and_then g) (stay x refl) ∙ each x y is
 
-module _ (old ways : List Way) (before points : List Point) (stand : Stand old ways) (put : Stand before points) where
-  entry_stays : (k : Kept) (e : RangeEntry) → entry_of old before k ≡ Some e → entry_of ways points k ≡ Some e
-  entry_stays (kept.Opened slot leaf pass) e is = is
-  entry_stays (kept.Number seconds way low key end number) e is =
-      map_stays _ (slice_get old way) (slice_get ways way) (stand way) e is
-  entry_stays (kept.Truth seconds way low key end truth) e is =
-      map_stays _ (slice_get old way) (slice_get ways way) (stand way) e is
-  entry_stays (kept.Whole way low key place) e is =
-      then_stays (acked old way low key) (acked ways way low key) (slice_get before place) (slice_get points place)
-      (put place)
-      (λ point f given. map_stays _ (slice_get old way) (slice_get ways way) (stand way) f given)
+-- each thing beside the entries stands where it stood
+pub record AllStand (old new : Beside) : Type 0 where
+  pub keys : Stand old.keys new.keys
+  pub acks : Stand old.acks new.acks
+  pub ways : Stand old.ways new.ways
+  pub points : Stand old.points new.points
+
+pub stay : (beside : Beside) → AllStand beside beside
+stay beside = record {
+  keys = λ i x is. is;
+  acks = λ i x is. is;
+  ways = λ i x is. is;
+  points = λ i x is. is;
+}
+
+-- the entry of what stands beside it
+pub acked_found : (beside : Beside) (way series : ℕ) (key : SeriesKey) (by : Way) (ack : Ack) (point : Point)
+    → slice_get beside.keys series ≡ Some key → slice_get beside.ways way ≡ Some by
+    → slice_get beside.acks by.ack ≡ Some ack
+    → acked beside way series point ≡ Some (entry.Acked by.pass (record { key = key; point = point }) ack)
+acked_found beside way series key by ack point key_is way_is ack_is =
+    let told : told_in beside way ≡ Some (by.pass, ack) =
+    ap (option_and_then (λ (w : Way). option_map (λ a. (w.pass, a)) (slice_get beside.acks w.ack))) way_is
+    ∙ ap (option_map (λ (a : Ack). (by.pass, a))) ack_is in
+    λ i. option_and_then
+    (λ k. option_map (λ t. entry.Acked t.0 (record { key = k; point = point }) t.1) (told i)) (key_is i)
+
+module _ (old new : Beside) (stand : AllStand old new) where
+  told_stays : (way : ℕ) (told : ℕ × Ack) → told_in old way ≡ Some told → told_in new way ≡ Some told
+  told_stays way told is =
+      then_stays (λ (by : Way). option_map (λ ack. (by.pass, ack)) (slice_get old.acks by.ack))
+      (λ (by : Way). option_map (λ ack. (by.pass, ack)) (slice_get new.acks by.ack))
+      (slice_get old.ways way) (slice_get new.ways way) (stand.ways way)
+      (λ by given made. map_stays (λ ack. (by.pass, ack)) (slice_get old.acks by.ack) (slice_get new.acks by.ack)
+      (stand.acks by.ack) given made)
+      told is
+
+  acked_stays : (way series : ℕ) (point : Point) (e : RangeEntry) → acked old way series point ≡ Some e
+      → acked new way series point ≡ Some e
+  acked_stays way series point e is =
+      then_stays _ _ (slice_get old.keys series) (slice_get new.keys series) (stand.keys series)
+      (λ key given made. map_stays _ (told_in old way) (told_in new way) (told_stays way) given made)
       e is
 
-  -- an entry more, where the ways and the points that there were stand where they stood
-  pub entries_more : (all : List Kept) → length (entries_of old before all) ≡ length all → (k : Kept) (e : RangeEntry)
-      → entry_of ways points k ≡ Some e
-      → entries_of ways points (all ++ k ∷ []) ≡ entries_of old before all ++ e ∷ []
-  entries_more all known k e made =
-      filter_map-append (entry_of ways points) all (k ∷ [])
-      ∙ (λ i. same_made (entry_of old before) (entry_of ways points) entry_stays all known i ++ cons_option (made i) [])
+  entry_stays : (k : Kept) (e : RangeEntry) → entry_of old k ≡ Some e → entry_of new k ≡ Some e
+  entry_stays (kept.Opened slot leaf pass) e is = is
+  entry_stays (kept.Number seconds way series end number) e is =
+      acked_stays way series (point_of (short.Number seconds end number)) e is
+  entry_stays (kept.Truth seconds way series end truth) e is =
+      acked_stays way series (point_of (short.Truth seconds end truth)) e is
+  entry_stays (kept.Whole way series place) e is =
+      then_stays (acked old way series) (acked new way series) (slice_get old.points place)
+      (slice_get new.points place) (stand.points place) (acked_stays way series) e is
 
-  pub known_more : (all : List Kept) → length (entries_of old before all) ≡ length all → (k : Kept) (e : RangeEntry)
-      → entry_of ways points k ≡ Some e
-      → length (entries_of ways points (all ++ k ∷ [])) ≡ length (all ++ k ∷ [])
-  known_more all known k e made =
-      ap length (entries_more all known k e made) ∙ length-append (entries_of old before all) (e ∷ [])
-      ∙ ap (λ n. n + 1) known ∙ sym (length-append all (k ∷ []))
+-- an entry stands behind those that were there, and all of them are kept
+pub record IsPushed (old new : Beside) (before after : List Kept) (e : RangeEntry) : Type 0 where
+  pub added : entries_of new after ≡ entries_of old before ++ e ∷ []
+  pub all : length (entries_of new after) ≡ length after
+
+pub is_pushed : (old new : Beside) → AllStand old new → (before after : List Kept)
+    → length (entries_of old before) ≡ length before → (k : Kept) → after ≡ before ++ k ∷ [] → (e : RangeEntry)
+    → entry_of new k ≡ Some e → IsPushed old new before after e
+is_pushed old new stand before after known k behind e made = record {
+  added = added;
+  all = ap length added ∙ length-append (entries_of old before) (e ∷ []) ∙ ap (λ n. n + 1) known
+      ∙ sym (length-append before (k ∷ [])) ∙ ap length (sym behind);
+}
+  where
+    added : entries_of new after ≡ entries_of old before ++ e ∷ []
+    added =
+        ap (entries_of new) behind ∙ filter_map-append (entry_of new) before (k ∷ [])
+        ∙ (λ i. same_made (entry_of old) (entry_of new) (entry_stays old new stand) before known i
+        ++ cons_option (made i) [])

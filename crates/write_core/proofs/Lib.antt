@@ -13,6 +13,7 @@ pub mod InsideLemmas
 pub mod KeepsLemmas
 mod KeptEntryLemmas
 pub mod KeptLemmas
+mod LastLemmas
 pub mod LeafEventLemmas
 pub mod LockLemmas
 pub mod MeetLemmas

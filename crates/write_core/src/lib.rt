@@ -7,6 +7,7 @@ mod asks;
 mod copies;
 mod ends;
 mod kept_entries;
+mod lasts;
 mod laws;
 mod machine;
 mod marks;
@@ -15,6 +16,7 @@ mod refusals;
 mod replays;
 mod rounds;
 mod short_points;
+mod ways;
 
 pub use ack_rooms::AckRoom;
 pub use asks::{WriteAsk, WriteEnd, WriteTold};

@@ -1,5 +1,5 @@
 // A long list that grows piece by piece.
-ghost use Rattle.std.specs.Prelude.{◌≡◌, ◌++◌, ◌∷◌, ◌<◌, ◌≤◌, ◌^◌, [], length, vec_capacity, vec_len, OnOk};
+ghost use Rattle.std.specs.Prelude.{◌≡◌, ◌+◌, ◌++◌, ◌∷◌, ◌<◌, ◌≤◌, ◌^◌, [], length, vec_capacity, vec_len, OnOk};
 ghost use Rattle.write_core.specs.within.Pieces.{in_pieces};
 
 use mon_value::{ListOf, OutOfMemory};

@@ -1,26 +1,22 @@
 // The replay of a range's history.
-ghost use Rattle.std.specs.Prelude.{◌≡◌, ◌<◌, ◌≤◌, ◌^◌, ◌+◌, ◌++◌, ◌∷◌, [], List, filter, length, not, slice_get, None, IfOk};
+ghost use Rattle.std.specs.Prelude.{◌≡◌, ◌<◌, ◌≤◌, ◌^◌, ◌+◌, ◌++◌, ◌∷◌, [], filter, length, not, slice_get, None, IfOk};
 ghost use Rattle.std.specs.Prelude.{OnErr, OnOk};
 ghost use Rattle.std.specs.List.{list_any};
-ghost use Rattle.indexmap.specs.IndexMap.{spare};
 ghost use Rattle.mon_topo.specs.RangeHistories.{acknowledged_rows, is_missed, is_on, opened_slots, serving};
 ghost use Rattle.mon_topo.specs.RangeHistories.{first_serving, is_avoided};
 ghost use Rattle.mon_topo.specs.Sights.{range_sight};
 ghost use Rattle.mon_value.specs.Histories.{same_leaf};
-ghost use Rattle.mon_value.specs.LeafHistories.{last_end, points_of};
-ghost use Rattle.mon_value.specs.declared.rows.Row as a_row;
 ghost use Rattle.write_core.specs.RangeAnswers.{lock_answer};
 ghost use Rattle.mon_topo.specs.declared.limits.TheConstants.{MOST_SLOTS};
 ghost use Rattle.write_core.specs.CopySteps.{next_slot};
 ghost use Rattle.write_core.specs.Recovering.{denial_of, denied_by};
-ghost use Rattle.write_core.specs.Replays.{HasAckRoom, HasReplicaRoom, TellsLasts};
+ghost use Rattle.write_core.specs.Replays.{HasAckRoom, HasReplicaRoom};
 
 use crate::ack_rooms::AckRoom;
 use crate::asks::WriteTold;
 use crate::copies::Denial;
 use crate::kept_entries::KeptEntries;
 use crate::refusals::Refused;
-use insertion_map::InsertionMap;
 use mon_topo::{MOST_REPLICAS, MOST_SLOTS, RangeSight};
 use mon_value::{
     Ack, Leaf, Leaves, Miss, OutOfMemory, RangeEntry, Row, SeriesKey, Shared, Slot, SlotLeaf,
@@ -29,17 +25,14 @@ use mon_value::{
 use std::alloc::Global;
 use std::marker::Model;
 
-/// The end of the last row of each series.
-type Lasts = InsertionMap<Shared<SeriesKey>, i64>;
-
-/// The replay of a range's history: the replicas that serve, how many were opened, how many rows were acknowledged, and
-/// the end of the last one of each series. Contracts see the history, and the room that was made for more of it.
+/// The replay of a range's history: the replicas that serve, how many were opened, and how many rows were acknowledged;
+/// the history itself tells the end of the last row of each series. Contracts see the history, and the room that was
+/// made for more of it.
 #[derive(Drop)]
 pub struct RangeReplay {
     alloc: Global,
     history: KeptEntries,
     serving: Vec<SlotLeaf>,
-    lasts: Lasts,
     count: u64,
     opened: u64,
     // The place of the last row's series, and the one that would come next if places go on as they did. They are guesses,
@@ -50,16 +43,15 @@ pub struct RangeReplay {
 
 impl Model for RangeReplay {
     ghost use Rattle.std.specs.Prelude.{◌≡◌, ◌-◌, length, vec_capacity};
-    ghost use Rattle.indexmap.specs.IndexMap.{spare};
     ghost use Rattle.mon_topo.specs.RangeHistories as histories;
-    ghost use Rattle.write_core.specs.Replays.{Replay, TellsLasts};
+    ghost use Rattle.write_core.specs.Replays.{Replay};
 
     ghost Value = { Replay };
 
     ghost view = { λ replay. record {
       history = replay.history.items;
       entry_room = replay.history.spare;
-      series_room = spare replay.lasts;
+      series_room = replay.history.series_spare;
       replica_room = vec_capacity replay.serving - length replay.serving.items;
     } };
 
@@ -67,7 +59,6 @@ impl Model for RangeReplay {
       serve : replay.serving.items ≡ histories.serving replay.history.items;
       count : replay.count ≡ length (histories.acknowledged_rows replay.history.items);
       opened : replay.opened ≡ length (histories.opened_slots replay.history.items);
-      lasts : TellsLasts replay.lasts.entries (histories.acknowledged_rows replay.history.items);
     } };
 }
 
@@ -80,7 +71,6 @@ impl RangeReplay {
             alloc,
             history: KeptEntries::new(alloc),
             serving: Vec::new(alloc),
-            lasts: Lasts::new(alloc),
             count: 0,
             opened: 0,
             place: 0,
@@ -155,7 +145,12 @@ impl RangeReplay {
     pub fn answer(&self, row: &Row, limit: u64) -> Result<WriteTold, OutOfMemory>
         ensures told { IfOk result (λ told. told ≡ lock_answer limit self.now.history row.now) }
     {
-        match Refused::why(self.last(&row.key), limit, self.count, &row.point) {
+        match Refused::why(
+            self.history.last(self.next, &row.key),
+            limit,
+            self.count,
+            &row.point,
+        ) {
             Some(why) => Ok(why.told()),
             None => Ok(WriteTold::Slots(SlotLeaves::from_vec(
                 self.serving.as_slice().to_vec(self.alloc)?,
@@ -169,12 +164,11 @@ impl RangeReplay {
         ensures room { OnOk result (HasAckRoom self.new) }
     {
         self.history.reserve_one()?;
-        self.lasts.reserve(1)?;
-        Ok(())
+        self.history.reserve_series()
     }
 
     /// A row is acknowledged, in room that was made before. The replicas that missed it serve no more. The room for a copy
-    /// of what the writer is told is used where the row before was acknowledged in another way.
+    /// of what the writer is told is used where the writer of the row before was told something else.
     pub fn acknowledge(
         &mut self,
         key: Shared<SeriesKey>,
@@ -190,12 +184,13 @@ impl RangeReplay {
         ensures acknowledged { self.new.history ≡ self.old.history ++ RangeEntry.Acked pass row ack.now ∷ [] }
         ensures copy { copy.new ≤ copy.old }
     {
-        let place = note_last(&mut self.lasts, self.next, key, row.point.end);
-        self.next = place.wrapping_add(place.wrapping_sub(self.place));
-        self.place = place;
         drop_missed(&mut self.serving, ack.missed.as_slice());
         self.count = one_more(self.count, &self.history);
-        self.history.push_acked(pass, row, ack, copy);
+        let place = self
+            .history
+            .push_acked(self.next, key, pass, row, ack, copy);
+        self.next = place.wrapping_add(place.wrapping_sub(self.place));
+        self.place = place;
     }
 
     /// The first replica that serves and is on none of these leaves.
@@ -222,25 +217,6 @@ impl RangeReplay {
     {
         self.history.len() as u64
     }
-
-    // The end of the last row of a series.
-    fn last(&self, key: &Shared<SeriesKey>) -> Option<i64>
-        ensures last { result ≡ last_end (points_of key.now (acknowledged_rows self.now.history)) }
-    {
-        let place = self.lasts.get_near(self.next, key)?;
-        let (_, end) = self.lasts.get_index(place)?;
-        Some(*end)
-    }
-}
-
-// The last row of a series ends there, in the room that was made. Gives the place of the series, which is guessed.
-fn note_last(lasts: &mut Lasts, guess: usize, key: Shared<SeriesKey>, end: i64) -> usize
-    requires room { 0 < spare lasts.old }
-    ensures told { (rows : List a_row.Row) (row : a_row.Row) → row.key ≡ key → row.point.end ≡ end
-        → TellsLasts lasts.old.entries rows → TellsLasts lasts.new.entries (rows ++ row ∷ []) }
-{
-    let (place, _before) = lasts.insert_near(guess, key, end).unwrap();
-    place
 }
 
 // One row more than those that this history acknowledges.

@@ -1,31 +1,58 @@
-use Rattle.std.proofs.Common.{◌≡◌, ◌∙◌, ◌∷◌, ◌++◌, [], List, length, subst, sym, ap}
-use Rattle.mon_value.specs.Rooms.{RoomList}
-use Rattle.mon_value.specs.declared.histories.RangeEntry.{RangeEntry}
+use Rattle.std.proofs.Common.{◌≡◌, ◌∙◌, ◌∷◌, ◌++◌, [], Some, slice_get, subst, sym, ap, refl, rules, to_z, of_z, w64}
+use Rattle.mon_topo.proofs.RangeHistoryLemmas.{acknowledged_rows-push}
+use Rattle.mon_topo.specs.RangeHistories.{acknowledged_rows}
 use Rattle.mon_value.specs.declared.histories.RangeEntry.TheVariants as entry
-use Rattle.write_core.specs.declared.kept_entries.Kept.{Kept}
-use Rattle.write_core.specs.within.KeptEntries.{entries_of}
-use Rattle.write_core.proofs.KeptEntryLemmas.{entries_more, known_more}
+use Rattle.write_core.specs.Replays.{TellsLasts}
+use Rattle.write_core.specs.within.KeptEntries.{Beside, KeptHistory, beside_of, entries_of, way_of}
+use Rattle.write_core.proofs.KeptEntryLemmas.{IsPushed, acked_found, is_pushed}
 use Rattle.write_core.proofs.kept_entries.KeptEntries.push_acked.Goals as goal
+
+-- what stood beside the entries
+abbrev old : goal.After-push → Beside
+old c =
+    beside_of c.self.inside.lasts.entries c.self.inside.acks.items c.self.inside.ways.items c.self.inside.points.items
+
+-- what stands beside them
+abbrev new : goal.After-push → Beside
+new c =
+    beside_of c.note_last-place.new.lasts.entries c.number_of_ack-told.new.acks.items c.number_of_way-way.new.ways.items
+    c.kept_point-kept.new.points.items
+
+-- the row is an entry more
+pushed : (c : goal.After-push) → IsPushed (old c) (new c) c.self.inside.entries.items c.push.new.self.items
+    (entry.Acked c.args.pass c.args.row c.args.ack.now)
+pushed c =
+    let key : slice_get (new c).keys c.series_at.result ≡ Some c.args.row.key =
+    ap (slice_get (new c).keys) c.series_at.ensures.same ∙ c.note_last-place.ensures.found ∙ ap Some c.requires.key in
+    is_pushed (old c) (new c) (record {
+      keys = c.note_last-place.ensures.stand;
+      acks = c.number_of_ack-told.ensures.stand;
+      ways = c.number_of_way-way.ensures.stand;
+      points = c.kept_point-kept.ensures.stand;
+    })
+    c.self.inside.entries.items c.push.new.self.items c.self.invariant.all c.kept_point-kept.result c.push.ensures.added
+    (entry.Acked c.args.pass c.args.row c.args.ack.now)
+    (c.kept_point-kept.ensures.kept (new c) refl
+    ∙ acked_found (new c) c.number_of_way-way.result c.series_at.result c.args.row.key
+    (way_of c.args.pass c.number_of_ack-told.result) c.args.ack.now c.args.row.point key
+    c.number_of_way-way.ensures.found c.number_of_ack-told.ensures.found)
 
 pub invariant_of-self : goal.invariant_of-self
 invariant_of-self c =
-    let ways = c.number_of-way.new.ways.items in
-    let points = c.kept_row-kept.new.points.items in
-    subst (λ (all : List Kept). length (entries_of ways points all) ≡ length all) (sym c.push.ensures.added)
-    (known_more c.self.inside.ways.items ways c.self.inside.points.items points c.number_of-way.ensures.stand
-    c.kept_row-kept.ensures.stand c.self.inside.entries.items c.self.invariant _ _
-    (c.kept_row-kept.ensures.kept ways _ c.number_of-way.ensures.found))
+    let row = c.args.row in
+    let before = entries_of (old c) c.self.inside.entries.items in
+    let plain : to_z w64 (of_z w64 row.point.end) ≡ row.point.end = search rules in
+    record {
+      all = (pushed c).all;
+      lasts = subst (TellsLasts c.note_last-place.new.lasts.entries)
+          (sym (ap acknowledged_rows (pushed c).added ∙ acknowledged_rows-push before c.args.pass row c.args.ack.now))
+          (c.note_last-place.ensures.told (acknowledged_rows before) row (sym c.requires.key) (sym plain)
+          c.self.invariant.lasts);
+    }
 
 pub returns : goal.returns
-returns c =
-    let ways = c.number_of-way.new.ways.items in
-    let points = c.kept_row-kept.new.points.items in
-    record {
-      added = ap (entries_of ways points) c.push.ensures.added
-          ∙ entries_more c.self.inside.ways.items ways c.self.inside.points.items points c.number_of-way.ensures.stand
-          c.kept_row-kept.ensures.stand c.self.inside.entries.items c.self.invariant _ _
-          (c.kept_row-kept.ensures.kept ways _ c.number_of-way.ensures.found)
-          ∙ (λ i. (ap (λ (seen : RoomList RangeEntry). seen.items) c.self.view_is i)
-          ++ entry.Acked (c.halves-high.ensures.halves i) c.args.row c.args.ack.now ∷ []);
-      copy = c.number_of-way.ensures.copy;
-    }
+returns c = record {
+  added = (pushed c).added
+      ∙ ap (λ (seen : KeptHistory). seen.items ++ entry.Acked c.args.pass c.args.row c.args.ack.now ∷ []) c.self.view_is;
+  copy = c.number_of_ack-told.ensures.copy;
+}

@@ -1,28 +1,35 @@
-use Rattle.std.proofs.Common.{◌≡◌, ◌∙◌, ◌∷◌, ◌++◌, [], List, length, subst, sym, ap, refl}
-use Rattle.mon_value.specs.Rooms.{RoomList}
-use Rattle.mon_value.specs.declared.histories.RangeEntry.{RangeEntry}
+use Rattle.std.proofs.Common.{◌∙◌, ◌∷◌, ◌++◌, [], subst, sym, ap, refl}
+use Rattle.mon_topo.specs.RangeHistories.{acknowledged_rows}
 use Rattle.mon_value.specs.declared.histories.RangeEntry.TheVariants as entry
-use Rattle.write_core.specs.declared.kept_entries.Kept.{Kept}
-use Rattle.write_core.specs.within.KeptEntries.{entries_of}
-use Rattle.write_core.proofs.KeptEntryLemmas.{entries_more, known_more}
+use Rattle.write_core.specs.Replays.{TellsLasts}
+use Rattle.write_core.specs.within.KeptEntries.{Beside, KeptHistory, beside_of, entries_of}
+use Rattle.write_core.proofs.KeptEntryLemmas.{IsPushed, is_pushed, stay}
+use Rattle.write_core.proofs.OpeningLemmas.{acked-opened}
 use Rattle.write_core.proofs.kept_entries.KeptEntries.push_opened.Goals as goal
 
+-- what stands beside the entries
+abbrev beside : goal.After-push → Beside
+beside c =
+    beside_of c.self.inside.lasts.entries c.self.inside.acks.items c.self.inside.ways.items c.self.inside.points.items
+
+-- the opening is an entry more
+pushed : (c : goal.After-push) → IsPushed (beside c) (beside c) c.self.inside.entries.items c.push.new.self.items
+    (entry.Opened c.args.pass c.args.slot c.args.leaf)
+pushed c =
+    is_pushed (beside c) (beside c) (stay (beside c)) c.self.inside.entries.items c.push.new.self.items
+    c.self.invariant.all _ c.push.ensures.added (entry.Opened c.args.pass c.args.slot c.args.leaf) refl
+
 pub invariant_of-self : goal.invariant_of-self
-invariant_of-self c =
-    let ways = c.self.inside.ways.items in
-    let points = c.self.inside.points.items in
-    subst (λ (all : List Kept). length (entries_of ways points all) ≡ length all) (sym c.push.ensures.added)
-    (known_more ways ways points points (λ i x is. is) (λ i x is. is) c.self.inside.entries.items c.self.invariant _ _
-    refl)
+invariant_of-self c = record {
+  all = (pushed c).all;
+  lasts = subst (TellsLasts c.self.inside.lasts.entries)
+      (sym (ap acknowledged_rows (pushed c).added
+      ∙ acked-opened (entries_of (beside c) c.self.inside.entries.items) c.args.pass c.args.slot c.args.leaf))
+      c.self.invariant.lasts;
+}
 
 pub returns : goal.returns
-returns c =
-    let ways = c.self.inside.ways.items in
-    let points = c.self.inside.points.items in
-    record {
-      added = ap (entries_of ways points) c.push.ensures.added
-          ∙ entries_more ways ways points points (λ i x is. is) (λ i x is. is) c.self.inside.entries.items
-          c.self.invariant _ _ refl
-          ∙ ap (λ (seen : RoomList RangeEntry). seen.items ++ entry.Opened c.args.pass c.args.slot c.args.leaf ∷ [])
-          c.self.view_is;
-    }
+returns c = record {
+  added = (pushed c).added
+      ∙ ap (λ (seen : KeptHistory). seen.items ++ entry.Opened c.args.pass c.args.slot c.args.leaf ∷ []) c.self.view_is;
+}
