@@ -79,7 +79,8 @@ impl<N: Names> LeafCell<N> {
         found
     }
 
-    /// Puts a row where room was made, or gives the room back where the leaf is down. No memory is taken.
+    /// Puts a row where room was made, or gives the room back where the leaf is down. It is never refused for want of
+    /// memory.
     pub fn put<R: Wait>(
         &self,
         rt: &R,

@@ -85,7 +85,8 @@ impl<N: Names> LeafDesk<N> {
         self.owner.part(tables, know, RoomMove::TakeBack);
     }
 
-    /// Puts a row where room was made, or gives the room back where the leaf is down. No memory is taken.
+    /// Puts a row where room was made, or gives the room back where the leaf is down. It is never refused for want of
+    /// memory.
     pub(crate) fn put(
         &mut self,
         tables: &Tables<N>,

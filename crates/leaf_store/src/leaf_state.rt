@@ -1,7 +1,7 @@
 // The state of a leaf.
 ghost use Rattle.std.specs.Prelude.{◌≡◌, ◌++◌, ◌∷◌, ◌-◌, ◌<◌, ◌≤◌, ◌+◌, ◌^◌, Bool, is_some, [], length, take};
 ghost use Rattle.std.specs.Prelude.{false, ℕ, Some, slice_get};
-ghost use Rattle.std.specs.Prelude.{true, IfErr, IfOk, IfSome, IfNone, OnOk, OnErr, IsTrue};
+ghost use Rattle.std.specs.Prelude.{true, IfOk, IfSome, IfNone, OnOk, OnErr, IsTrue};
 ghost use Rattle.std.specs.List.{count_by};
 ghost use Rattle.std.specs.Option.{option_copied};
 ghost use Rattle.mon_hints.specs.BucketSets.{HasNone, IsNext, is_set};
@@ -18,8 +18,8 @@ use crate::fresh::{FreshEntry, behind, clear, in_front};
 use crate::guess::Guess;
 use crate::kept::{Kept, KeptEntries};
 use crate::raised::{add_row, key_set, left_of, raise_unknown};
-use crate::replays::{push_all_brought, push_held, rows_kept, settle_entries};
-use crate::replicas::{Replica, Replicas, find_next, is_new, put_copy, put_entry, rows_of, takes};
+use crate::replays::{push_all_brought, push_held, put_behind, rows_kept, settle_entries};
+use crate::replicas::{Replica, Replicas, find_next, is_new, put_copy, rows_of, takes};
 use crate::slot_rows::SlotRows;
 use mon_hints::{BucketSet, Buckets};
 use mon_schema::Schemas;
@@ -283,8 +283,8 @@ impl LeafState {
         self.switches_left as u64
     }
 
-    /// Appends an entry. One with rows takes the place that was promised; a switch has its place since `new`. No
-    /// memory is taken.
+    /// Appends an entry. One with rows takes the place that was promised; a switch has its place since `new`. A row is put
+    /// to its replica at once where no entry waits. Where one does, or memory runs out, the entry waits too.
     pub fn apply(&mut self, entry: Entry)
         requires follows { IsWellFormed (self.old.history ++ entry ∷ []) }
         requires promised { is_switch entry ≡ false → 1 ≤ self.old.promised }
@@ -304,40 +304,14 @@ impl LeafState {
     }
 
     /// Appends an entry as `apply` does, which puts a row of a series whose number in its replica is known, as from
-    /// `known_series`. The series is not looked up. Where no entry waits the row is put into it at once, which may take
-    /// memory; where there is none the entry waits as others do.
+    /// `known_series`. The series is not looked up, now or when it is settled.
     pub fn apply_known(&mut self, entry: Entry, series: u32)
         requires numbered { HasNumber self.old.history entry series }
         requires follows { IsWellFormed (self.old.history ++ entry ∷ []) }
         requires promised { 1 ≤ self.old.promised }
         ensures applied { self.new ≡ leaf_with_entry self.old entry }
     {
-        if let Err(entry) = self.put_at_once(entry, series) {
-            self.line_up(entry, Some(series));
-        }
-    }
-
-    // Appends an entry whose row is put into its series, the one of a number. Where another entry waits in front of it,
-    // or memory runs out, the entry is given back and nothing changes.
-    fn put_at_once(&mut self, entry: Entry, series: u32) -> Result<(), Entry>
-        requires numbered { HasNumber self.old.history entry series }
-        requires follows { IsWellFormed (self.old.history ++ entry ∷ []) }
-        requires promised { 1 ≤ self.old.promised }
-        ensures applied { OnOk result (self.new ≡ leaf_with_entry self.old entry) }
-        ensures kept { OnErr result (self.new ≡ self.old) }
-        ensures back { IfErr result (λ own. own ≡ entry) }
-    {
-        if self.moved < self.fresh.len() {
-            return Err(entry);
-        }
-        if self.kept.reserve_one().is_err() {
-            return Err(entry);
-        }
-        let own = put_entry(&mut self.replicas, entry, series, self.guess)?;
-        self.kept.push(own);
-        self.promised -= 1;
-        self.settled = false;
-        Ok(())
+        self.line_up(entry, Some(series));
     }
 
     // Appends an entry with rows, with the number of its row's series where that is known.
@@ -359,7 +333,19 @@ impl LeafState {
         );
         self.promised -= 1;
         self.settled = false;
-        self.fresh.push_reserved(FreshEntry { entry, series });
+        if self.moved < self.fresh.len() {
+            self.fresh.push_reserved(FreshEntry { entry, series });
+            return;
+        }
+        if let Err(entry) = put_behind(
+            &mut self.replicas,
+            &mut self.kept,
+            entry,
+            series,
+            self.guess,
+        ) {
+            self.fresh.push_reserved(FreshEntry { entry, series });
+        }
     }
 
     /// Puts a row to a replica, and with it all that is left into the series of their replicas. Where memory runs out

@@ -1,7 +1,8 @@
 // How the entries of a history reach replicas, and what they brought to one.
-ghost use Rattle.std.specs.Prelude.{◌≡◌, ◌≤◌, ◌++◌, ◌-◌, length, drop, take, is_some, IfOk, IfSome, OnOk, true};
+ghost use Rattle.std.specs.Prelude.{◌≡◌, ◌≤◌, ◌++◌, ◌∷◌, ◌-◌, [], length, drop, take, is_some, IfErr, IfOk, IfSome};
+ghost use Rattle.std.specs.Prelude.{OnErr, OnOk, true};
 ghost use Rattle.mon_value.specs.LeafHistories.{entry_rows, replica_rows};
-ghost use Rattle.leaf_store.specs.within.FreshEntries.{AreNumbered, entries_in};
+ghost use Rattle.leaf_store.specs.within.FreshEntries.{AreNumbered, HasKeptNumber, entries_in};
 ghost use Rattle.leaf_store.specs.within.KeptEntries.{run_entries};
 ghost use Rattle.leaf_store.specs.within.Replicas.{AllHaveRows, IsInTwoParts, SameHistory, rows_if_kept, entry_of};
 ghost use Rattle.leaf_store.specs.within.Replicas.{rows_held};
@@ -10,7 +11,7 @@ ghost use Rattle.leaf_store.specs.within.Replicas.{shown_entries};
 use crate::fresh::FreshEntry;
 use crate::guess::Guess;
 use crate::kept::{Kept, KeptEntries};
-use crate::replicas::{Replica, Replicas, is_same, own_rows, rows_of, settle_entry};
+use crate::replicas::{Replica, Replicas, is_same, own_rows, put_entry, rows_of, settle_entry};
 use crate::runs::Run;
 use crate::slot_rows::SlotRows;
 use mon_value::{Entry, OutOfMemory, Row, RowList, TryCopy};
@@ -44,6 +45,32 @@ pub(crate) fn settle_entries(
         kept.push(own);
         *moved += 1;
     }
+    Ok(())
+}
+
+/// Puts the row of an entry to its replica, behind all that is kept. The number of the row's series is guessed where it
+/// isn't known. An entry that puts no row is given back, as all are where memory runs out, and nothing changes then.
+pub(crate) fn put_behind(
+    replicas: &mut Replicas,
+    kept: &mut KeptEntries,
+    entry: Entry,
+    series: Option<u32>,
+    guess: Guess,
+) -> Result<(), Entry>
+    requires holds { IsInTwoParts replicas.old.entries kept.old.items (entry ∷ []) }
+    requires numbered { IfSome series (HasKeptNumber replicas.old.entries entry) }
+    ensures holds { OnOk result (IsInTwoParts replicas.new.entries kept.new.items []) }
+    ensures history { OnOk result (shown_entries replicas.new.entries kept.new.items
+        ≡ shown_entries replicas.old.entries kept.old.items ++ entry ∷ []) }
+    ensures stayed { OnErr result (replicas.new.entries ≡ replicas.old.entries) }
+    ensures kept { OnErr result (kept.new.items ≡ kept.old.items) }
+    ensures back { IfErr result (λ own. own ≡ entry) }
+{
+    if kept.reserve_one().is_err() {
+        return Err(entry);
+    }
+    let own = put_entry(replicas, entry, series, guess)?;
+    kept.push(own);
     Ok(())
 }
 

@@ -283,16 +283,17 @@ pub(crate) fn put(
     })
 }
 
-/// Puts the row of an entry to its replica, where the number of the row's series is known, and gives the entry as it is
-/// kept then. An entry that puts no row is given back, as all are where memory runs out, and the replicas stay.
+/// Puts the row of an entry to its replica, and gives the entry as it is kept then. The number of the row's series is
+/// guessed where it isn't known. An entry that puts no row is given back, as all are where memory runs out, and the
+/// replicas stay.
 pub(crate) fn put_entry(
     replicas: &mut Replicas,
     entry: Entry,
-    series: u32,
+    series: Option<u32>,
     guess: Guess,
 ) -> Result<Kept, Entry>
     requires settles { CanSettle replicas.old.entries entry }
-    requires numbered { HasKeptNumber replicas.old.entries entry series }
+    requires numbered { IfSome series (HasKeptNumber replicas.old.entries entry) }
     ensures settled { IfOk result (λ kept. SettlesEntry replicas.old.entries replicas.new.entries entry kept) }
     ensures stayed { OnErr result (replicas.new.entries ≡ replicas.old.entries) }
     ensures back { IfErr result (λ own. own ≡ entry) }
@@ -305,7 +306,7 @@ pub(crate) fn put_entry(
             row,
         } => {
             let replica = Replica { range, slot };
-            match put(replicas, replica, row, Some(series), guess) {
+            match put(replicas, replica, row, series, guess) {
                 Ok(put) => Ok(Kept::Put {
                     pass,
                     replica: put.replica,
