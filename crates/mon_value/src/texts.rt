@@ -1,6 +1,6 @@
 // A text.
 ghost use Rattle.std.specs.Cmp.Lexicographic.{pointwise};
-ghost use Rattle.std.specs.Prelude.{◌≡◌, ◌≤◌, ◌+◌, ◌-◌, IfOk, drop, length, nat_eq, string_bytes, take};
+ghost use Rattle.std.specs.Prelude.{◌≡◌, IfOk, nat_eq, string_bytes};
 ghost use Rattle.mon_value.specs.Values.{text_in};
 
 use crate::copying::TryCopy;
@@ -73,72 +73,17 @@ impl Text {
     }
 }
 
-// Names and fields are mostly no longer than this, and keys are compared again and again as rows come in.
+// Names and fields are mostly shorter than this. Up to here it is cheaper to compare bytes one by one than many at a
+// time, and keys are compared again and again as rows come in.
 const SHORT: usize = 16;
 
-// Whether bytes are the same, of which there are few.
+// Whether bytes are the same.
 fn same_bytes(own: &[u8], others: &[u8]) -> bool
-    requires few { length own.now ≤ SHORT }
     ensures same { result ≡ pointwise nat_eq own.now others.now }
 {
     if own.len() != others.len() {
         return false;
     }
-    if own.len() >= 8 {
-        same_ends::<8>(own, others)
-    } else if own.len() >= 4 {
-        same_ends::<4>(own, others)
-    } else {
-        same_each(own, others)
-    }
-}
-
-// Whether bytes are the same, of which the first `N` and the last `N` are all.
-#[inline(always)]
-fn same_ends<const N: usize>(own: &[u8], others: &[u8]) -> bool
-    requires enough { N ≤ length own.now }
-    requires all { length own.now ≤ N + N }
-    requires alike { length own.now ≡ length others.now }
-    ensures same { result ≡ pointwise nat_eq own.now others.now }
-{
-    same_first::<N>(own, others) && same_last::<N>(own, others)
-}
-
-// Whether the first `N` bytes are the same.
-#[inline(always)]
-fn same_first<const N: usize>(own: &[u8], others: &[u8]) -> bool
-    requires own { N ≤ length own.now }
-    requires others { N ≤ length others.now }
-    ensures same { result ≡ pointwise nat_eq (take N own.now) (take N others.now) }
-{
-    match (
-        own.split_first_chunk::<N>(),
-        others.split_first_chunk::<N>(),
-    ) {
-        (Some((first, _)), Some((other, _))) => *first == *other,
-        _ => unreachable!(),
-    }
-}
-
-// Whether the last `N` bytes are the same.
-#[inline(always)]
-fn same_last<const N: usize>(own: &[u8], others: &[u8]) -> bool
-    requires own { N ≤ length own.now }
-    requires others { N ≤ length others.now }
-    ensures same { result ≡ pointwise nat_eq
-        (drop (length own.now - N) own.now) (drop (length others.now - N) others.now) }
-{
-    match (own.split_last_chunk::<N>(), others.split_last_chunk::<N>()) {
-        (Some((_, last)), Some((_, other))) => *last == *other,
-        _ => unreachable!(),
-    }
-}
-
-// Whether bytes are the same, one after another.
-fn same_each(own: &[u8], others: &[u8]) -> bool
-    requires alike { length own.now ≡ length others.now }
-    ensures same { result ≡ pointwise nat_eq own.now others.now }
-{
     for i in 0..own.len() {
         if own[i] != others[i] {
             return false;
@@ -169,7 +114,7 @@ impl PartialEq for Text {
 
     fn eq(&self, other: &Self) -> bool {
         let (own, others) = (self.content.as_bytes(), other.content.as_bytes());
-        if own.len() <= SHORT {
+        if own.len() < SHORT {
             same_bytes(own, others)
         } else {
             self.content.as_str() == other.content.as_str()
