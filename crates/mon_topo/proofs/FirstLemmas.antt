@@ -184,15 +184,13 @@ opened_one (range_entry.Opened pass other there ∷ history) slot leaf =
     let more = opened_one history slot leaf in omega (arith, more)
 opened_one (range_entry.Acked pass row ack ∷ history) slot leaf = opened_one history slot leaf
 
--- the first of what is left of a list from a place on stands at that place
-pub at_front : {X : Type 0} (x : X) (xs ys : List X) (k : ℕ) → drop k xs ≡ x ∷ ys → slice_get xs k ≡ Some x
+at_front : {X : Type 0} (x : X) (xs ys : List X) (k : ℕ) → drop k xs ≡ x ∷ ys → slice_get xs k ≡ Some x
 at_front x [] ys zero e = absurd cc
 at_front x (first ∷ xs) ys zero e = ap (λ (l : List _). slice_get l 0) e
 at_front x [] ys (suc k) e = absurd cc
 at_front x (first ∷ xs) ys (suc k) e = at_front x xs ys k e
 
--- and what is behind it is left from the next place on
-pub drop_next : {X : Type 0} (x : X) (xs ys : List X) (k : ℕ) → drop k xs ≡ x ∷ ys → drop (suc k) xs ≡ ys
+drop_next : {X : Type 0} (x : X) (xs ys : List X) (k : ℕ) → drop k xs ≡ x ∷ ys → drop (suc k) xs ≡ ys
 drop_next x [] ys zero e = absurd cc
 drop_next x (first ∷ xs) ys zero e = ap (λ (l : List _). drop 1 l) e
 drop_next x [] ys (suc k) e = absurd cc

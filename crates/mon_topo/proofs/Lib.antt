@@ -1,6 +1,5 @@
 mod BoundLemmas
 mod FindsLemmas
-mod JoinLemmas
 mod KeptLemmas
 pub mod LawfulLemmas
 mod LeadingLemmas

@@ -7,14 +7,9 @@ pub(crate) fn join_lengths(mine: &mut [u64], theirs: &[u64])
     requires alike { length mine.old ≡ length theirs.now }
     ensures joined { mine.new ≡ farther_each (λ length. length) mine.old theirs.now }
 {
-    let mut left = theirs;
-    for own in mine.iter_mut() {
-        let Some((other, rest)) = left.split_first() else {
-            return;
-        };
-        if *own < *other {
-            *own = *other;
+    for (i, other) in theirs.iter().enumerate() {
+        if mine[i] < *other {
+            mine[i] = *other;
         }
-        left = rest;
     }
 }

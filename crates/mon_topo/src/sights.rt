@@ -111,14 +111,9 @@ fn join_ranges(mine: &mut [RangeSight], theirs: &[RangeSight])
     requires alike { length mine.old ≡ length theirs.now }
     ensures joined { mine.new ≡ farther_each (λ range. range.length) mine.old theirs.now }
 {
-    let mut left = theirs;
-    for own in mine.iter_mut() {
-        let Some((other, rest)) = left.split_first() else {
-            return;
-        };
-        if own.length < other.length {
-            *own = *other;
+    for (i, other) in theirs.iter().enumerate() {
+        if mine[i].length < other.length {
+            mine[i] = *other;
         }
-        left = rest;
     }
 }

@@ -1,19 +1,18 @@
-use Rattle.std.proofs.Common.{refl, sym}
-use Rattle.mon_value.proofs.FartherLemmas.{farther_each-nil}
-use Rattle.mon_topo.proofs.JoinLemmas.{joined_kept, joined_taken}
+use Rattle.std.proofs.Common.{sym}
+use Rattle.mon_value.proofs.FartherLemmas.{farther_each-nil, place_kept, place_taken}
 use Rattle.mon_topo.proofs.lengths.join_lengths.Goals as goal
-use Rattle.mon_topo.proofs.lengths.join_lengths.Goals.{else-own-other, then-own-other}
+use Rattle.mon_topo.proofs.lengths.join_lengths.Goals.{else-mine-i, then-mine-i}
 
-pub loop-own-init : goal.loop-own-init
-loop-own-init c = record { so_far = sym (farther_each-nil (λ length. length) c.args.mine.now); rest = refl }
+pub loop-i-init : goal.loop-i-init
+loop-i-init c = sym (farther_each-nil (λ length. length) c.args.mine.now)
 
-pub loop-own-preserved : goal.loop-own-preserved
-loop-own-preserved c =
-    elim c.if-own-other.branch [
-      | then-own-other w ↦ rw w.left-is (joined_taken (λ length. length) c.args.mine.now c.args.theirs.now c.loop-own.mine
-          c.if-own-other.mine c.loop-own.own-index _ c.in-Some.other.now c.loop-own.left.now c.in-Some.rest.now
-          c.requires.alike c.loop-own.invariant c.in-Some.ensures.cases.0 w.if-own-other.true w.mine-is)
-      | else-own-other w ↦ rw w.left-is (joined_kept (λ length. length) c.args.mine.now c.args.theirs.now c.loop-own.mine
-          c.if-own-other.mine c.loop-own.own-index _ c.in-Some.other.now c.loop-own.left.now c.in-Some.rest.now
-          c.requires.alike c.loop-own.invariant c.in-Some.ensures.cases.0 w.if-own-other.false w.mine-is)
+pub loop-i-preserved : goal.loop-i-preserved
+loop-i-preserved c =
+    elim c.if-mine-i.branch [
+      | then-mine-i w ↦ place_taken (λ length. length) c.args.mine.now c.args.theirs.now c.loop-i.mine c.if-mine-i.mine
+          c.loop-i.i _
+          c.loop-i-test.true c.requires.alike c.loop-i.invariant w.if-mine-i.true w.mine-is
+      | else-mine-i w ↦ place_kept (λ length. length) c.args.mine.now c.args.theirs.now c.loop-i.mine c.if-mine-i.mine
+          c.loop-i.i _
+          c.loop-i-test.true c.requires.alike c.loop-i.invariant w.if-mine-i.false w.mine-is
     ]

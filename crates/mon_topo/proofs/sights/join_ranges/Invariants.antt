@@ -1,6 +1,7 @@
 -- the places so far are joined
-use Rattle.mon_topo.proofs.JoinLemmas.{AreJoined}
+use Rattle.std.proofs.Common.{◌≡◌, take}
+use Rattle.mon_value.specs.Histories.{farther_each}
 use Rattle.mon_topo.proofs.sights.join_ranges.Given as goal
 
-abbrev pub invariant-loop-own : goal.invariant-loop-own
-invariant-loop-own l = AreJoined (λ range. range.length) l.initial.mine l.theirs l.own-index l.mine l.left
+abbrev pub invariant-loop-i : goal.invariant-loop-i
+invariant-loop-i l = l.mine ≡ farther_each (λ range. range.length) l.initial.mine (take l.i l.theirs)
