@@ -99,7 +99,7 @@ fn none_fed(alloc: Global) -> Fed
     ensures refused { result.refused ≡ [] }
 {
     Fed {
-        accepted: FedRows::new(alloc),
+        accepted: FedRows::new(),
         refused: RowRefusals::new(alloc),
     }
 }

@@ -1,71 +1,38 @@
-// The rows that a feed accepted, in few bytes.
-ghost use Rattle.std.specs.Prelude.{◌≡◌, ◌++◌, ◌∷◌, [], length, IfOk, OnErr, OnOk};
+// The rows that a feed accepted.
+ghost use Rattle.std.specs.Prelude.{◌≡◌, ◌++◌, ◌∷◌, [], length, OnErr, OnOk};
 
-use mon_series::KeptPoint;
-use mon_value::{OutOfMemory, Row, SeriesKey, Shared};
-use std::alloc::{AllocError, Global};
+use http_server::Log;
+use mon_value::{OutOfMemory, Row};
+use std::alloc::AllocError;
 use std::marker::Model;
-use std::mem::size_of;
-use write_core::PiecesOf;
 
-/// A row with its point as a series keeps it.
-#[derive(Drop)]
-pub(crate) struct FedRow {
-    key: Shared<SeriesKey>,
-    point: KeptPoint,
-}
-
-const _: () = prove!(size_of::<FedRow>() == 32);
-
-impl Model for FedRow {
-    ghost use Rattle.mon_value.specs.declared.rows.Row.{Row};
-
-    ghost Value = { Row };
-
-    ghost view = { λ fed. record { key = fed.key; point = fed.point } };
-}
-
-impl FedRow {
-    // A row as it is kept.
-    fn new(alloc: Global, row: Row) -> Result<FedRow, OutOfMemory>
-        ensures row { IfOk result (λ fed. fed ≡ row) }
-    {
-        let Row { key, point } = row;
-        match KeptPoint::new(alloc, point) {
-            Ok(point) => Ok(FedRow { key, point }),
-            Err(_) => {
-                drop(key);
-                Err(AllocError)
-            }
-        }
-    }
-}
-
-/// The rows that a feed accepted, in their order: 32 bytes for each, in pieces, so that none is moved as more come.
-/// Contracts see the rows.
+/// The rows that a feed accepted, in their order. Contracts see the rows. At run time their number is kept and nothing
+/// else, since nobody reads them: what is said of each row is borne out by the histories of its range and its leaves.
 #[derive(Drop)]
 pub struct FedRows {
-    alloc: Global,
-    rows: PiecesOf<FedRow>,
+    rows: Log<Row, ()>,
+    count: usize,
 }
 
 impl Model for FedRows {
-    ghost use Rattle.std.specs.Prelude.{List};
+    ghost use Rattle.std.specs.Prelude.{◌≡◌, List, length, map};
     ghost use Rattle.mon_value.specs.declared.rows.Row.{Row};
 
     ghost Value = { List Row };
 
-    ghost view = { λ fed. fed.rows.items };
+    ghost view = { λ fed. map (λ logged. logged.0) fed.rows.items };
+
+    ghost invariant = { λ fed. fed.count ≡ length (map (λ logged. logged.0) fed.rows.items) };
 }
 
 impl FedRows {
     /// No rows.
-    pub fn new(alloc: Global) -> FedRows
+    pub fn new() -> FedRows
         ensures empty { result ≡ [] }
     {
         FedRows {
-            alloc,
-            rows: PiecesOf::new(alloc),
+            rows: Log::new(),
+            count: 0,
         }
     }
 
@@ -73,24 +40,22 @@ impl FedRows {
     pub fn len(&self) -> usize
         ensures count { result ≡ length self.now }
     {
-        self.rows.len()
+        self.count
     }
 
-    /// Adds a row at the end. Where memory runs out the rows stay, and this one is gone.
+    /// Adds a row at the end. Where there are 2^64 - 1, it answers as where memory runs out, and the rows stay.
     pub fn push(&mut self, row: Row) -> Result<(), OutOfMemory>
         ensures added { OnOk result (self.new ≡ self.old ++ row ∷ []) }
         ensures kept { OnErr result (self.new ≡ self.old) }
     {
-        let fed = FedRow::new(self.alloc, row)?;
-        match self.rows.reserve_one() {
-            Ok(()) => {
-                self.rows.push(fed);
-                Ok(())
-            }
-            Err(fault) => {
-                drop(fed);
-                Err(fault)
-            }
-        }
+        let Some(count) = self.count.checked_add(1) else {
+            drop(row);
+            return Err(AllocError);
+        };
+        let rows = self.rows.and(&row, &());
+        drop(row);
+        self.rows = rows;
+        self.count = count;
+        Ok(())
     }
 }
