@@ -80,38 +80,6 @@ module _ (range : Range) (marks : List Mark) where
       subst (λ (r : Range). EndsSo r (Ended (Marked marks)) e) same
       (subst (λ (s : Stage). EndsSo other s e) (done ∙ ap (λ s. after s told.Done) acking) ends)
 
--- ---- how many are named
-
-one_taken : (b : Bool) (mark : Mark) → length (cond b (mark.slot ∷ []) []) ≤ 1
-one_taken true mark = omega arith
-one_taken false mark = omega arith
-
-pub few_taken : (marks : List Mark) → length (flat_map taken_slot marks) ≤ length marks
-few_taken [] = omega arith
-few_taken (mark ∷ marks) =
-    let sum : length (taken_slot mark ++ flat_map taken_slot marks)
-    ≡ length (taken_slot mark) + length (flat_map taken_slot marks) =
-    length-append (taken_slot mark) (flat_map taken_slot marks) in
-    let here : length (taken_slot mark) ≤ 1 = one_taken (has_taken mark.fate) mark in
-    let rest = few_taken marks in
-    omega arith
-
-one_missed : (mark : Mark) (f : Fate) → length (miss_of mark f) ≤ 1
-one_missed mark fates.Waiting = omega arith
-one_missed mark fates.Ready = omega arith
-one_missed mark fates.Took = omega arith
-one_missed mark (fates.Missed cut) = omega arith
-
-pub few_missed : (marks : List Mark) → length (flat_map missed_slot marks) ≤ length marks
-few_missed [] = omega arith
-few_missed (mark ∷ marks) =
-    let sum : length (missed_slot mark ++ flat_map missed_slot marks)
-    ≡ length (missed_slot mark) + length (flat_map missed_slot marks) =
-    length-append (missed_slot mark) (flat_map missed_slot marks) in
-    let here : length (missed_slot mark) ≤ 1 = one_missed mark mark.fate in
-    let rest = few_missed marks in
-    omega arith
-
 -- ---- at the lock
 
 -- a row that goes in may come behind the acknowledged ones

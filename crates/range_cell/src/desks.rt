@@ -33,14 +33,13 @@ use owners::RangeOwner;
 use std::alloc::Global;
 use std::marker::Brand;
 use std::sync::Wait;
-use write_core::{AckRoom, RangeReplay, WriteEnd, WriteTold};
+use write_core::{RangeReplay, WriteEnd, WriteTold};
 
-/// A range's replay and its owner, and room for a copy of what a writer is told.
+/// A range's replay and its owner.
 #[derive(Drop)]
 pub(crate) struct RangeDesk<N: Names> {
     pub(crate) replay: RangeReplay,
     pub(crate) owner: RangeOwner<N>,
-    pub(crate) copy: AckRoom,
 }
 
 impl<N: Names> RangeDesk<N> {
@@ -76,7 +75,6 @@ impl<N: Names> RangeDesk<N> {
         ensures answered { IfOk result (λ told.
             HasAnswered N.book.leaves self.old.owner.range self.new.replay self.new.owner told know.old know.new) }
         ensures room { OnOk result (HasAckRoom self.new.replay) }
-        ensures copy { OnOk result (length (serving self.old.replay.history) ≤ self.new.copy) }
         ensures history { self.new.replay.history ≡ self.old.replay.history }
         ensures range { self.new.owner.range ≡ self.old.owner.range }
         ensures sound { IsSound N.setting know.new.hints know.new.seen }
@@ -87,7 +85,7 @@ impl<N: Names> RangeDesk<N> {
             × IsRangeAtRest self.old.owner.range.0 self.new.replay self.new.owner) }
     {
         self.receive(tables, know);
-        let told = asked(&mut self.replay, &mut self.copy, row, limit);
+        let told = asked(&mut self.replay, row, limit);
         let hold = is_taken(&told);
         self.owner.part(tables, know, hold);
         told
@@ -123,8 +121,6 @@ impl<N: Names> RangeDesk<N> {
         requires number { (hand_of know.old.purse).own ≡ Some (pass_of know.old) }
         requires may { MayEnter N.setting self.old.owner.range self.old.replay.history
             (entry.Acked (pass_of know.old) row ack.now) know.old }
-        requires took { length ack.now.took ≤ self.old.copy }
-        requires missed { length ack.now.missed ≤ self.old.copy }
         ensures rest { IsRangeAtRest self.old.owner.range.0 self.new.replay self.new.owner }
         ensures entered { HasEntered N.book.leaves self.old.owner.range self.old.replay.history
             (entry.Acked (pass_of know.old) row ack.now) know.old know.new }
@@ -149,8 +145,6 @@ impl<N: Names> RangeDesk<N> {
         requires named { E.entry ≡ one.Range (entry.Acked pass row ack.now) }
         requires key { key ≡ row.key }
         requires room { HasAckRoom self.old.replay }
-        requires took { length ack.now.took ≤ self.old.copy }
-        requires missed { length ack.now.missed ≤ self.old.copy }
         requires history { range_history self.old.owner.book.seen self.old.owner.range ≡ self.old.replay.history }
         requires number { (hand_of (guest_purse self.old.owner.book.guest)).own ≡ Some pass }
         requires sound { IsSound N.setting self.old.owner.hints
@@ -164,7 +158,7 @@ impl<N: Names> RangeDesk<N> {
     {
         let length = self.replay.length();
         prove!(length < 1 << 62);
-        self.replay.acknowledge(key, pass, row, ack, &mut self.copy);
+        self.replay.acknowledge(key, pass, row, ack);
         self.owner.append::<E>(tables, self.replay.sight());
     }
 
@@ -217,7 +211,6 @@ impl<N: Names> RangeDesk<N> {
         requires held { IsRangeHeld self.old.owner.range.0 self.old.replay self.old.owner }
         requires range { range ≡ self.old.owner.range }
         requires room { HasAckRoom self.old.replay }
-        requires copy { length (serving self.old.replay.history) ≤ self.old.copy }
         requires serve { replicas ≡ serving self.old.replay.history }
         requires begins { IsBeginning N.setting range row.now (pass_of know.old)
             (acknowledged_rows self.old.replay.history) replicas know.old }
@@ -249,7 +242,6 @@ impl<N: Names> RangeDesk<N> {
         requires machine { entering.machine.range ≡ range }
         requires room { HasAckRoom self.old.replay }
         requires key { entering.key ≡ entering.copies.row.key }
-        requires copy { length (serving self.old.replay.history) ≤ self.old.copy }
         requires through { IsConcluding N.setting range entering.copies.row self.old.replay.history know.old
             entering.machine.stage }
         ensures rest { IsRangeAtRest self.old.owner.range.0 self.new.replay self.new.owner }
@@ -283,7 +275,6 @@ impl<N: Names> RangeDesk<N> {
         ensures sound { IsSound N.setting self.new.owner.hints self.new.owner.book.seen }
         ensures of_range { IsOfRange N.setting self.new.owner.range self.new.owner.book }
         ensures replay { self.new.replay ≡ self.old.replay }
-        ensures copy { self.new.copy ≡ self.old.copy }
     {
         self.owner.meet(tables, know);
         self.owner.learn(tables);
@@ -303,16 +294,13 @@ fn is_taken(told: &Result<WriteTold, OutOfMemory>) -> bool
 // What a write is told, with room for its acknowledgement.
 fn asked(
     replay: &mut RangeReplay,
-    copy: &mut AckRoom,
     row: &Row,
     limit: u64,
 ) -> Result<WriteTold, OutOfMemory>
     ensures told { IfOk result (λ told. told ≡ lock_answer limit replay.old.history row.now) }
     ensures history { replay.new.history ≡ replay.old.history }
     ensures room { OnOk result (HasAckRoom replay.new) }
-    ensures copy { OnOk result (length (serving replay.old.history) ≤ copy.new) }
 {
     replay.reserve()?;
-    copy.reserve(replay.serving_count())?;
     replay.answer(row, limit)
 }

@@ -24,7 +24,7 @@ use owners::RangeOwner;
 use raise_table::HintSeat;
 use std::alloc::Global;
 use std::marker::{Brand, Model};
-use write_core::{AckRoom, RangeReplay};
+use write_core::RangeReplay;
 
 /// A range without replicas that nobody shares yet, and that its first caller holds. Contracts see its number and what
 /// its owner has seen.
@@ -74,7 +74,6 @@ impl<N: Names> NewRange<N> {
         let mut desk = RangeDesk {
             replay: RangeReplay::new(alloc),
             owner,
-            copy: AckRoom::new(alloc),
         };
         desk.lend(tables, know);
         NewRange { range, desk }

@@ -10,9 +10,9 @@ use crate::ranges::RangeSeat;
 use crate::writes::Writing;
 use mon_hints::Buckets;
 use mon_topo::Sight;
-use mon_value::{Ack, Entry, Leaf, OutOfMemory, Range, Row, SeriesKey, Shared, Slot, TryCopy};
+use mon_value::{Entry, Leaf, OutOfMemory, Range, Row, SeriesKey, Shared, Slot, TryCopy};
 use std::alloc::Global;
-use write_core::{AckRoom, WriteEnd, WriteTold};
+use write_core::{WriteEnd, WriteTold};
 
 /// A write takes its range's lock, room is made for its acknowledgement, and it is told whether its row goes in, of a
 /// range that holds so many at most.
@@ -135,7 +135,6 @@ pub(crate) fn put(
 
 /// A write that has ended so tells its range what became of its row, and lets go of it.
 pub(crate) fn let_go(
-    alloc: Global,
     seat: &mut RangeSeat,
     number: u32,
     row: Row,
@@ -143,29 +142,16 @@ pub(crate) fn let_go(
     range: Range,
     end: &WriteEnd,
     sight: &mut Sight,
-) -> Result<(), OutOfMemory>
+)
     requires alike { AreAlike sight.old seat.old.sight }
     requires there { range.0 < length seat.old.sight.ranges }
     requires room { HasAckRoom seat.old.state }
     requires key { key ≡ row.key }
-    ensures lets_go { OnOk result (LetsGo end.now number row range seat.old seat.new sight.old sight.new) }
+    ensures lets_go { LetsGo end.now number row range seat.old seat.new sight.old sight.new }
 {
     if let WriteEnd::Written(ack) = end {
-        let mut copy = room_for(alloc, ack)?;
-        seat.state
-            .acknowledge(key, u64::from(number), row, ack, &mut copy);
+        seat.state.acknowledge(key, u64::from(number), row, ack);
     }
     seat.holder = None;
     seat.meet(range, sight);
-    Ok(())
-}
-
-// Room for a copy of what a writer is told.
-fn room_for(alloc: Global, ack: &Ack) -> Result<AckRoom, OutOfMemory>
-    ensures took { IfOk result (λ room. length ack.now.took ≤ room) }
-    ensures missed { IfOk result (λ room. length ack.now.missed ≤ room) }
-{
-    let mut room = AckRoom::new(alloc);
-    room.reserve(ack.took.len().max(ack.missed.len()))?;
-    Ok(room)
 }

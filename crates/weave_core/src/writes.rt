@@ -191,13 +191,8 @@ impl Store {
             Ok(()) => {
                 let end = machine.finish();
                 let seat = &mut self.ranges[range.0 as usize];
-                match let_go(self.alloc, seat, number, row, key, range, &end, sight) {
-                    Ok(()) => Ok(WriteTurn::Ended(range, end)),
-                    Err(fault) => {
-                        drop(end);
-                        Err(fault)
-                    }
-                }
+                let_go(seat, number, row, key, range, &end, sight);
+                Ok(WriteTurn::Ended(range, end))
             }
             Err(fault) => {
                 drop(row);

@@ -1,4 +1,3 @@
-mod AckEquality
 pub mod AckLemmas
 pub mod BucketLemmas
 pub mod ChangeLemmas
@@ -11,9 +10,7 @@ pub mod DecidedLemmas
 pub mod DeedLemmas
 pub mod InsideLemmas
 pub mod KeepsLemmas
-mod KeptEntryLemmas
 pub mod KeptLemmas
-mod LastLemmas
 pub mod LeafEventLemmas
 pub mod LockLemmas
 pub mod MeetLemmas

@@ -1,11 +1,10 @@
 // The end of the last row of each series of a range.
-ghost use Rattle.std.specs.Prelude.{◌≡◌, ◌<◌, ◌≤◌, ◌++◌, ◌∷◌, [], List, length, slice_get, Some};
-ghost use Rattle.std.specs.Map.{keys_of, lookup};
+ghost use Rattle.std.specs.Prelude.{◌≡◌, ◌<◌, ◌++◌, ◌∷◌, [], List};
+ghost use Rattle.std.specs.Map.{lookup};
 ghost use Rattle.indexmap.specs.IndexMap.{spare};
 ghost use Rattle.mon_value.specs.Same.{same_series};
 ghost use Rattle.mon_value.specs.declared.rows.Row as a_row;
 ghost use Rattle.write_core.specs.Replays.{TellsLasts};
-ghost use Rattle.write_core.specs.within.KeptEntries.{Stand};
 
 use insertion_map::InsertionMap;
 use mon_value::{SeriesKey, Shared};
@@ -25,9 +24,6 @@ pub(crate) fn last_of(lasts: &Lasts, guess: usize, key: &Shared<SeriesKey>) -> O
 /// The last row of a series ends there, in the room that was made. Gives the place of the series, which is guessed.
 pub(crate) fn note_last(lasts: &mut Lasts, guess: usize, key: Shared<SeriesKey>, end: i64) -> usize
     requires room { 0 < spare lasts.old }
-    ensures found { slice_get (keys_of lasts.new.entries) result ≡ Some key }
-    ensures within { result ≤ length lasts.old.entries }
-    ensures stand { Stand (keys_of lasts.old.entries) (keys_of lasts.new.entries) }
     ensures told { (rows : List a_row.Row) (row : a_row.Row) → row.key ≡ key → row.point.end ≡ end
         → TellsLasts lasts.old.entries rows → TellsLasts lasts.new.entries (rows ++ row ∷ []) }
 {

@@ -2,7 +2,6 @@
 //! interleaving of them keeps; and the replay of a range's history, which tells a write whether its row goes in.
 #![tactic(auto)]
 
-mod ack_rooms;
 mod asks;
 mod copies;
 mod ends;
@@ -11,14 +10,10 @@ mod lasts;
 mod laws;
 mod machine;
 mod marks;
-mod pieces;
 mod refusals;
 mod replays;
 mod rounds;
-mod short_points;
-mod ways;
 
-pub use ack_rooms::AckRoom;
 pub use asks::{WriteAsk, WriteEnd, WriteTold};
 pub use copies::{CopyAsk, CopyMachine, CopyTold, Denial, Outcome};
 pub use laws::{
@@ -27,6 +22,5 @@ pub use laws::{
 pub use machine::WriteMachine;
 pub use marks::{Fate, Mark};
 pub use mon_value::{Ack, Miss, Misses};
-pub use pieces::PiecesOf;
 pub use refusals::Refused;
 pub use replays::RangeReplay;

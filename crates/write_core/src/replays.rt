@@ -12,7 +12,6 @@ ghost use Rattle.write_core.specs.CopySteps.{next_slot};
 ghost use Rattle.write_core.specs.Recovering.{denial_of, denied_by};
 ghost use Rattle.write_core.specs.Replays.{HasAckRoom, HasReplicaRoom};
 
-use crate::ack_rooms::AckRoom;
 use crate::asks::WriteTold;
 use crate::copies::Denial;
 use crate::kept_entries::KeptEntries;
@@ -134,13 +133,6 @@ impl RangeReplay {
         Ok(SlotLeaves::from_vec(self.serving.as_slice().to_vec(self.alloc)?))
     }
 
-    /// How many replicas serve.
-    pub fn serving_count(&self) -> usize
-        ensures count { result ≡ length (serving self.now.history) }
-    {
-        self.serving.len()
-    }
-
     /// What a write of a row is told that takes the lock, of a range that holds so many rows at most.
     pub fn answer(&self, row: &Row, limit: u64) -> Result<WriteTold, OutOfMemory>
         ensures told { IfOk result (λ told. told ≡ lock_answer limit self.now.history row.now) }
@@ -167,28 +159,15 @@ impl RangeReplay {
         self.history.reserve_series()
     }
 
-    /// A row is acknowledged, in room that was made before. The replicas that missed it serve no more. The room for a copy
-    /// of what the writer is told is used where the writer of the row before was told something else.
-    pub fn acknowledge(
-        &mut self,
-        key: Shared<SeriesKey>,
-        pass: u64,
-        row: Row,
-        ack: &Ack,
-        copy: &mut AckRoom,
-    )
+    /// A row is acknowledged, in room that was made before. The replicas that missed it serve no more. No memory is taken.
+    pub fn acknowledge(&mut self, key: Shared<SeriesKey>, pass: u64, row: Row, ack: &Ack)
         requires key { key ≡ row.key }
         requires room { HasAckRoom self.old }
-        requires took { length ack.now.took ≤ copy.old }
-        requires missed { length ack.now.missed ≤ copy.old }
         ensures acknowledged { self.new.history ≡ self.old.history ++ RangeEntry.Acked pass row ack.now ∷ [] }
-        ensures copy { copy.new ≤ copy.old }
     {
         drop_missed(&mut self.serving, ack.missed.as_slice());
         self.count = one_more(self.count, &self.history);
-        let place = self
-            .history
-            .push_acked(self.next, key, pass, row, ack, copy);
+        let place = self.history.push_acked(self.next, key, pass, row, ack);
         self.next = place.wrapping_add(place.wrapping_sub(self.place));
         self.place = place;
     }

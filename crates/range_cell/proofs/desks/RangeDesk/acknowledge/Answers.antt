@@ -1,4 +1,4 @@
-use Rattle.std.proofs.Common.{◌≡◌, ◌≤◌, ℕ, false, length, Some, [], ◌∷◌, ◌++◌, refl, sym, ap, subst, ◌∙◌}
+use Rattle.std.proofs.Common.{◌≡◌, ℕ, false, Some, [], ◌∷◌, ◌++◌, refl, sym, ap, subst, ◌∙◌}
 use Rattle.history_book.specs.declared.views.BookEntry.TheVariants as one
 use Rattle.history_book.specs.Seats.{Owner, after_append, guest_purse, hand_of}
 use Rattle.mon_value.specs.Histories.{range_history}
@@ -30,8 +30,6 @@ enter-requires g c =
       named = refl;
       key = c.requires.key;
       room = subst HasAckRoom (sym c.receive.ensures.replay) c.requires.room;
-      took = subst (λ n. length c.args.ack.now.took ≤ n) (sym c.receive.ensures.copy) c.requires.took;
-      missed = subst (λ n. length c.args.ack.now.missed ≤ n) (sym c.receive.ensures.copy) c.requires.missed;
       history = (λ i. range_history (came.book i).seen (came.range i)) ∙ came.whole ∙ c.requires.held.history
           ∙ ap (λ (r : Replay). r.history) (sym c.receive.ensures.replay);
       number = ap (λ (o : Owner). (hand_of (guest_purse o.guest)).own) came.book ∙ sym number;

@@ -8,8 +8,8 @@ use Rattle.mon_value.specs.declared.rows.Row.{Row}
 use Rattle.write_core.specs.declared.marks.Mark.{Mark}
 use Rattle.mon_topo.specs.RangeHistories.{serving}
 use Rattle.owners.specs.Puts.{number_or, pass_of}
-use Rattle.range_cell.proofs.BeginLemmas.{marks_count, may_acknowledge, none_taken}
-use Rattle.range_cell.proofs.EndingLemmas.{ended_so, few_missed, few_taken, unavailable_end, written_end}
+use Rattle.range_cell.proofs.BeginLemmas.{may_acknowledge, none_taken}
+use Rattle.range_cell.proofs.EndingLemmas.{ended_so, unavailable_end, written_end}
 use Rattle.range_cell.specs.Calls.{HasEntered, HasMetRange, MayEnter, others_of}
 use Rattle.range_cell.specs.Rest.{HaveJust}
 use Rattle.mon_value.specs.Histories.{range_history}
@@ -49,12 +49,6 @@ acknowledge-requires g c =
     (c.tell.ensures.range ∙ c.requires.machine) c.in-Written.ensures.end in
     let both = written_end range marks c.in-Written.ack last in
     let mine : pass_of know ≡ here.pass = ap (number_or 0) writing.number in
-    let most : length marks ≡ length (serving g0) =
-    marks_count setting range row here.pass g0 here.begun know marks t.through here.fresh in
-    let room : length marks ≤ c.args.self.now.copy = subst (λ (n : ℕ). n ≤ c.args.self.now.copy) (sym most)
-    c.requires.copy in
-    let took : length (ack_of range marks).took ≤ length marks = few_taken marks in
-    let missed : length (ack_of range marks).missed ≤ length marks = few_missed marks in
     let e_is : entry.Acked here.pass row (ack_of range marks)
     ≡ entry.Acked (pass_of know) c.into_row-row.result c.in-Written.ack =
     λ i. entry.Acked (sym mine i) (sym c.into_row-row.ensures.row i) (both.1 i) in
@@ -69,8 +63,6 @@ acknowledge-requires g c =
           (subst (λ (e : RangeEntry). MayEnter setting range g0 e know) e_is
           (may_acknowledge setting range row here.pass g0 here.begun know marks t.through here.fresh both.0 here.lies
           here.source here.few));
-      took = subst (λ (a : Ack). length a.took ≤ c.args.self.now.copy) both.1 (omega (arith, took, room));
-      missed = subst (λ (a : Ack). length a.missed ≤ c.args.self.now.copy) both.1 (omega (arith, missed, room));
     }
 
 pub returns-in-Written-clause-ended : goal.returns-in-Written-clause-ended

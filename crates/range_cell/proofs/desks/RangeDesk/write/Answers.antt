@@ -59,8 +59,6 @@ write_held-requires g c =
           (sym c.begin.ensures.range) both.1;
       range = c.requires.range ∙ sym c.begin.ensures.range;
       room = c.in-Ok-Slots.ensures.room;
-      copy = subst (λ (h : List RangeEntry). length (serving h) ≤ c.begin.new.self.copy) (sym same_history)
-          c.in-Ok-Slots.ensures.copy;
       serve = may.0;
       begins = subst (λ (r : Range). IsBeginning setting r row (pass_of then) (acknowledged_rows history_then) replicas then)
           (sym c.requires.range)

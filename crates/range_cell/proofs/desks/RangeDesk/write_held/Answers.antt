@@ -38,7 +38,6 @@ conclude-requires g c =
       machine = went.range;
       room = c.requires.room;
       key = went.key ∙ ap (λ (r : Row). r.key) (sym went.row);
-      copy = c.requires.copy;
       through = subst (λ (r : Row). IsConcluding setting range r history c.enter_leaves.new.know entering.machine.stage)
           (sym went.row)
           (record {

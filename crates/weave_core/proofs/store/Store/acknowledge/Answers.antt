@@ -29,8 +29,8 @@ let_go-requires-clause-room c =
 pub let_go-requires-clause-key : goal.let_go-requires-clause-key
 let_go-requires-clause-key c = own_key c.args.self.now c.args.writing c.args.sight.now c.requires.at_work
 
-pub returns-in-Ok-let_go : goal.returns-in-Ok-let_go
-returns-in-Ok-let_go c =
+pub returns-in-Ok : goal.returns-in-Ok
+returns-in-Ok c =
     let got : slice_get c.args.self.now.ranges.items c.args.writing.range.0 ≡ Some c.index_mut-seat.result.now
     = range_read c.args.self.now c.args.writing c.args.sight.now c.requires.at_work c.index_mut-seat.result.now
     c.index_mut-seat.ensures.value in
@@ -47,5 +47,5 @@ returns-in-Ok-let_go c =
             first_sight = c.args.self.now.first_sight;
           }) c.let_go.new.seat c.let_go.new.sight
           (record { config = refl; words = refl; leaves = refl; ranges = refl; first = refl })
-          c.in-Ok-let_go.ensures.lets_go;
+          c.let_go.ensures.lets_go;
     }
