@@ -292,11 +292,7 @@ fn is_taken(told: &Result<WriteTold, OutOfMemory>) -> bool
 }
 
 // What a write is told, with room for its acknowledgement.
-fn asked(
-    replay: &mut RangeReplay,
-    row: &Row,
-    limit: u64,
-) -> Result<WriteTold, OutOfMemory>
+fn asked(replay: &mut RangeReplay, row: &Row, limit: u64) -> Result<WriteTold, OutOfMemory>
     ensures told { IfOk result (λ told. told ≡ lock_answer limit replay.old.history row.now) }
     ensures history { replay.new.history ≡ replay.old.history }
     ensures room { OnOk result (HasAckRoom replay.new) }
