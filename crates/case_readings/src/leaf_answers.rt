@@ -29,5 +29,7 @@ pub fn leaf_answer(
         IsLeafPart (typed_tree plan.now.typed) rows.now asked.moment asked.limit answer) }
 {
     let kept = KeptRows::of_rows(setting.alloc, rows.as_slice())?;
-    answer_by_series(setting.alloc, plan, &[&kept], asked.moment, asked.limit)
+    let answer = answer_by_series(setting.alloc, plan, &[&kept], asked.moment, asked.limit);
+    drop(kept);
+    answer
 }
