@@ -1,6 +1,7 @@
 // The columns of a table.
 use crate::copying::TryCopy;
 use crate::lists::ListOf;
+use crate::shared::Shared;
 use crate::texts::Text;
 use crate::values::ValueType;
 use std::alloc::{AllocError, Global};
@@ -30,8 +31,9 @@ pub struct Column {
     pub total_bits: u32,
 }
 
-/// The columns of a table, from the left.
-pub type Columns = ListOf<Column>;
+/// The columns of a table, from the left. A column is shared by the tables that have it, as those of a
+/// chain of joins.
+pub type Columns = ListOf<Shared<Column>>;
 
 impl TryCopy for Anchor {
     fn copy(&self, alloc: Global) -> Result<Anchor, AllocError> {
