@@ -1,6 +1,7 @@
 // The location of a target.
-ghost use Rattle.std.specs.Prelude.{◌≡◌};
+ghost use Rattle.std.specs.Prelude.{◌≡◌, IfNone, IfSome, Some, slice_get};
 ghost use Rattle.std.specs.Option.{option_copied};
+ghost use Rattle.mon_schema.specs.Names.{target_named};
 ghost use Rattle.mon_topo.specs.Locations as spec;
 
 use mon_schema::{Field, Schemas, is_location};
@@ -23,6 +24,9 @@ pub fn location_near<'a>(
     place: &mut usize,
 ) -> Option<&'a Text>
     ensures location { option_copied result ≡ spec.location_of schemas.now target.now }
+    ensures place { IfSome (target_named target.now.schema schemas.now.targets)
+        (λ schema. slice_get schemas.now.targets place.new ≡ Some schema) }
+    ensures stayed { IfNone (target_named target.now.schema schemas.now.targets) (place.new ≡ place.old) }
 {
     match schemas.target_near(target.schema.as_bytes(), place) {
         None => None,

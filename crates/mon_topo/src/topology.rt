@@ -1,5 +1,5 @@
 // The topology of a store.
-ghost use Rattle.std.specs.Prelude.{◌≡◌, ◌+◌, ◌<◌, Some, None, length, map, slice_get, IfOk, IfSome, OnOk};
+ghost use Rattle.std.specs.Prelude.{◌≡◌, ◌+◌, ◌<◌, Some, None, length, map, slice_get, IfNone, IfOk, IfSome, OnOk};
 ghost use Rattle.std.specs.Option.{option_or};
 ghost use Rattle.mon_value.specs.Answers.{AnswersBy};
 ghost use Rattle.mon_topo.specs.Locations.{last_within, range_of};
@@ -83,6 +83,7 @@ impl Topology {
     pub fn zone_near(&self, location: &[u8], place: &mut usize) -> Option<Zone>
         ensures zone { result ≡ spec.zone_of self.now location.now }
         ensures within { IfSome result (λ zone. zone.0 < length self.now) }
+        ensures stayed { IfNone result (place.new ≡ place.old) }
     {
         match self.locations.get_near(location, place) {
             Some(number) => Some(Zone(number)),
@@ -108,6 +109,7 @@ impl Topology {
         ensures range { range_of self.now zone.0 target.now ≡ Some result }
         ensures within { result.0 < length (spec.ranges_in self.now) }
         ensures zoned { spec.IsRangeOf self.now zone.0 result }
+        ensures place { last_within target.now (zone_at self.now zone.0).ranges ≡ Some place.new }
     {
         let found = self.place_near(zone, target, *place);
         *place = found;

@@ -1,5 +1,5 @@
 // The rows that a feed accepted.
-ghost use Rattle.std.specs.Prelude.{◌≡◌, ◌++◌, ◌∷◌, [], length, OnErr, OnOk};
+ghost use Rattle.std.specs.Prelude.{◌≡◌, ◌++◌, ◌-◌, ◌^◌, ◌∷◌, [], length, OnErr, OnOk};
 
 use http_server::Log;
 use mon_value::{OutOfMemory, Row};
@@ -47,6 +47,7 @@ impl FedRows {
     pub fn push(&mut self, row: Row) -> Result<(), OutOfMemory>
         ensures added { OnOk result (self.new ≡ self.old ++ row ∷ []) }
         ensures kept { OnErr result (self.new ≡ self.old) }
+        ensures full { OnErr result (length self.old ≡ 2 ^ 64 - 1) }
     {
         let Some(count) = self.count.checked_add(1) else {
             drop(row);
