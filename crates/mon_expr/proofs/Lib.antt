@@ -6,6 +6,7 @@ mod GreedyLemmas
 mod MatchLemmas
 mod NextPlaces
 pub mod NoValueLemmas
+pub mod SameTreeLemmas
 mod SumLemmas
 mod SumSizeLemmas
 mod TermLemmas

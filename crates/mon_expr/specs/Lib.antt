@@ -2,4 +2,5 @@ pub mod BoundPredicates
 pub mod BoundSums
 pub mod ConditionLists
 pub mod Greedy
+pub mod SameTrees
 pub mod SumTerms

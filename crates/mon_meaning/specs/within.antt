@@ -5,7 +5,7 @@ pub mod KeyFilters
 pub mod MetSeries
 pub mod PartsToCome
 pub mod Paths
-pub mod PlainFetches
+pub mod SameTrees
 pub mod Readiness
 pub mod Reach
 pub mod SeriesMeaning

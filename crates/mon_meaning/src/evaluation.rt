@@ -11,7 +11,7 @@ ghost use Rattle.mon_meaning.specs.within.SeriesMeaning.{load_by_series, rows_by
 use crate::alignments::aligned_rows;
 use crate::meter::{Meter, OverLimit};
 use crate::paths::{Path, path_down};
-use crate::plain_fetches::are_one_fetch;
+use crate::same_trees::are_same_tree;
 use crate::steps::operation_rows;
 use mon_series::KeptRows;
 use mon_value::{Grid, Refusal, TimedRows, TryCopy};
@@ -140,7 +140,7 @@ fn other_rows(
     }
 }
 
-// The rows of a right side, beside those of the left one and their load. One fetch on both sides is evaluated once.
+// The rows of a right side, beside those of the left one and their load. Sides that are the same are evaluated once.
 #[cycle(evaluation)]
 fn right_rows(
     setting: &EvaluationSetting<'_>,
@@ -162,7 +162,7 @@ fn right_rows(
     ensures over { IfErr result (TellsOver meter.old.limit (meter.old.load
         + load_by_series setting.now.grid (node_tree right.now) (all_held setting.now.series.now))) }
 {
-    if are_one_fetch(left, right) {
+    if are_same_tree(left, right) {
         return copied_rows(setting.alloc, rows, load, meter);
     }
     rows_of(setting, right, meter)

@@ -12,7 +12,7 @@ mod parts;
 mod parts_up;
 mod paths;
 mod pieces;
-mod plain_fetches;
+mod same_trees;
 mod steps;
 mod tops;
 mod value_rows;

@@ -1,5 +1,5 @@
 // Names that are found with their numbers.
-ghost use Rattle.std.specs.Prelude.{◌≡◌, ◌<◌, not, length, option_map, slice_get, IfNone, IfOk, IfSome, OnOk, Some};
+ghost use Rattle.std.specs.Prelude.{◌≡◌, ◌<◌, not, length, slice_get, IfNone, IfOk, OnOk};
 ghost use Rattle.indexmap.specs.IndexMap.{values};
 ghost use Rattle.std.specs.List.{list_any};
 ghost use Rattle.std.specs.Map.{keys_of, lookup};
@@ -58,7 +58,6 @@ impl NameMap {
     /// The number of a name, which is tried first at a place. The place is then the name's.
     pub(crate) fn get_near(&self, name: &[u8], place: &mut usize) -> Option<u32>
         ensures found { result ≡ lookup (same_text name.now) self.now }
-        ensures place { IfSome result (λ number. option_map (λ entry. entry.1) (slice_get self.now place.new) ≡ Some number) }
         ensures stayed { IfNone result (place.new ≡ place.old) }
     {
         let found = self.numbers.get_near(*place, name)?;

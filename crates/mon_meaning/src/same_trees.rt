@@ -1,0 +1,298 @@
+// Whether two trees are the same.
+ghost use Rattle.std.specs.Prelude.{◌≡◌, IfSome, IsTrue, map};
+ghost use Rattle.mql_ast.specs.Trees.{item_tree, predicate_tree};
+ghost use Rattle.mql_types.specs.Nodes as node;
+ghost use Rattle.mql_types.specs.Nodes.{NodeTree, columns_of, node_tree};
+ghost use Rattle.mql_types.specs.declared.nodes.NodeInfo.{NodeInfo};
+ghost use Rattle.mon_meaning.specs.within.SameTrees.{bare_items, bare_tree};
+
+use mon_expr::{are_same_predicate, are_same_sum};
+use mon_value::{Aggregates, Aligner, Column, Positions, Shared, Text};
+use mql_ast::{Item, Predicate};
+use mql_types::Node;
+
+/// Whether two trees are the same, wherever they stand in the text: the same operations over the same columns on the
+/// same fetches. A loop goes down the input, or the left, since a query may have many thousand operations or branches;
+/// only right sides recurse. No memory is taken.
+#[cycle(same_trees)]
+pub(crate) fn are_same_tree(one: &Node, other: &Node) -> bool
+    ensures same { IsTrue result → bare_tree (node_tree one.now) ≡ bare_tree (node_tree other.now) }
+{
+    let mut one = one;
+    let mut other = other;
+    loop {
+        if !have_same_columns(one.columns(), other.columns()) {
+            return false;
+        }
+        match one {
+            Node::Fetch {
+                info: _,
+                schema,
+                metric,
+            } => return is_fetch(other, schema, metric),
+            Node::Filter { info: _, by, input } => {
+                let Some(below) = filtered(other, by) else {
+                    return false;
+                };
+                one = input;
+                other = below;
+            }
+            Node::Align { info: _, by, input } => {
+                let Some(below) = aligned(other, *by) else {
+                    return false;
+                };
+                one = input;
+                other = below;
+            }
+            Node::GroupBy {
+                info: _,
+                by,
+                with,
+                input,
+            } => {
+                let Some(below) = grouped(other, by, with) else {
+                    return false;
+                };
+                one = input;
+                other = below;
+            }
+            Node::Value {
+                info: _,
+                items,
+                input,
+            } => {
+                let Some(below) = computed(other, items.as_slice()) else {
+                    return false;
+                };
+                one = input;
+                other = below;
+            }
+            Node::Top {
+                info: _,
+                most,
+                column,
+                input,
+            } => {
+                let Some(below) = cut(other, *most, *column) else {
+                    return false;
+                };
+                one = input;
+                other = below;
+            }
+            Node::Join {
+                info: _,
+                left,
+                right,
+            } => {
+                let Some(below) = joined(other, right) else {
+                    return false;
+                };
+                one = left;
+                other = below;
+            }
+            Node::Union {
+                info: _,
+                left,
+                right,
+            } => {
+                let Some(below) = united(other, right) else {
+                    return false;
+                };
+                one = left;
+                other = below;
+            }
+        }
+    }
+}
+
+// Whether a tree is the fetch of a metric.
+fn is_fetch(tree: &Node, schema: &Text, metric: &Text) -> bool
+    ensures same { IsTrue result → (info : NodeInfo) → info.columns ≡ columns_of (node_tree tree.now)
+        → bare_tree (node.Fetch info schema.now metric.now) ≡ bare_tree (node_tree tree.now) }
+{
+    match tree {
+        Node::Fetch {
+            info: _,
+            schema: named,
+            metric: measured,
+        } => *schema == *named && *metric == *measured,
+        _ => false,
+    }
+}
+
+// What flows into a tree that is such a filter.
+fn filtered<'a>(tree: &'a Node, by: &Predicate) -> Option<&'a Node>
+    ensures same { IfSome result (λ below. (info : NodeInfo) (first : NodeTree) → info.columns ≡ columns_of (node_tree tree.now)
+        → bare_tree first ≡ bare_tree (node_tree below.now)
+        → bare_tree (node.Filter info (predicate_tree by.now) first) ≡ bare_tree (node_tree tree.now)) }
+{
+    match tree {
+        Node::Filter {
+            info: _,
+            by: asked,
+            input,
+        } => {
+            if are_same_predicate(by, asked) {
+                Some(input)
+            } else {
+                None
+            }
+        }
+        _ => None,
+    }
+}
+
+// What flows into a tree that is such an alignment.
+fn aligned(tree: &Node, by: Aligner) -> Option<&Node>
+    ensures same { IfSome result (λ below. (info : NodeInfo) (first : NodeTree) → info.columns ≡ columns_of (node_tree tree.now)
+        → bare_tree first ≡ bare_tree (node_tree below.now)
+        → bare_tree (node.Align info by first) ≡ bare_tree (node_tree tree.now)) }
+{
+    match tree {
+        Node::Align {
+            info: _,
+            by: aligner,
+            input,
+        } => { if by == *aligner { Some(input) } else { None } }
+        _ => None,
+    }
+}
+
+// What flows into a tree that is such a grouping.
+fn grouped<'a>(tree: &'a Node, by: &Positions, with: &Aggregates) -> Option<&'a Node>
+    ensures same { IfSome result (λ below. (info : NodeInfo) (first : NodeTree) → info.columns ≡ columns_of (node_tree tree.now)
+        → bare_tree first ≡ bare_tree (node_tree below.now)
+        → bare_tree (node.GroupBy info by.now with.now first) ≡ bare_tree (node_tree tree.now)) }
+{
+    match tree {
+        Node::GroupBy {
+            info: _,
+            by: places,
+            with: folds,
+            input,
+        } => {
+            if *by == *places && *with == *folds {
+                Some(input)
+            } else {
+                None
+            }
+        }
+        _ => None,
+    }
+}
+
+// What flows into a tree that computes such items.
+fn computed<'a>(tree: &'a Node, items: &[Item]) -> Option<&'a Node>
+    ensures same { IfSome result (λ below. (info : NodeInfo) (first : NodeTree) → info.columns ≡ columns_of (node_tree tree.now)
+        → bare_tree first ≡ bare_tree (node_tree below.now)
+        → bare_tree (node.Value info (map item_tree items.now) first) ≡ bare_tree (node_tree tree.now)) }
+{
+    match tree {
+        Node::Value {
+            info: _,
+            items: others,
+            input,
+        } => {
+            if are_same_items(items, others.as_slice()) {
+                Some(input)
+            } else {
+                None
+            }
+        }
+        _ => None,
+    }
+}
+
+// What flows into a tree that is such a top.
+fn cut(tree: &Node, most: u32, column: u32) -> Option<&Node>
+    ensures same { IfSome result (λ below. (info : NodeInfo) (first : NodeTree) → info.columns ≡ columns_of (node_tree tree.now)
+        → bare_tree first ≡ bare_tree (node_tree below.now)
+        → bare_tree (node.Top info most column first) ≡ bare_tree (node_tree tree.now)) }
+{
+    match tree {
+        Node::Top {
+            info: _,
+            most: count,
+            column: place,
+            input,
+        } => {
+            if most == *count && column == *place {
+                Some(input)
+            } else {
+                None
+            }
+        }
+        _ => None,
+    }
+}
+
+// The left side of a join that has such a right one.
+#[cycle(same_trees)]
+fn joined<'a>(tree: &'a Node, side: &Node) -> Option<&'a Node>
+    ensures same { IfSome result (λ below. (info : NodeInfo) (first : NodeTree) → info.columns ≡ columns_of (node_tree tree.now)
+        → bare_tree first ≡ bare_tree (node_tree below.now)
+        → bare_tree (node.Join info first (node_tree side.now)) ≡ bare_tree (node_tree tree.now)) }
+{
+    match tree {
+        Node::Join {
+            info: _,
+            left,
+            right,
+        } => {
+            if are_same_tree(side, right) {
+                Some(left)
+            } else {
+                None
+            }
+        }
+        _ => None,
+    }
+}
+
+// The left side of a union that has such a right one.
+#[cycle(same_trees)]
+fn united<'a>(tree: &'a Node, side: &Node) -> Option<&'a Node>
+    ensures same { IfSome result (λ below. (info : NodeInfo) (first : NodeTree) → info.columns ≡ columns_of (node_tree tree.now)
+        → bare_tree first ≡ bare_tree (node_tree below.now)
+        → bare_tree (node.Union info first (node_tree side.now)) ≡ bare_tree (node_tree tree.now)) }
+{
+    match tree {
+        Node::Union {
+            info: _,
+            left,
+            right,
+        } => {
+            if are_same_tree(side, right) {
+                Some(left)
+            } else {
+                None
+            }
+        }
+        _ => None,
+    }
+}
+
+// Whether items add up the same.
+fn are_same_items(items: &[Item], others: &[Item]) -> bool
+    ensures same { IsTrue result
+        → bare_items (map item_tree items.now) ≡ bare_items (map item_tree others.now) }
+{
+    let mut rest = others;
+    for item in items {
+        let Some((other, left)) = rest.split_first() else {
+            return false;
+        };
+        if !are_same_sum(&item.sum, &other.sum) {
+            return false;
+        }
+        rest = left;
+    }
+    rest.is_empty()
+}
+
+// Whether two tables have the same columns.
+fn have_same_columns(columns: &[Shared<Column>], others: &[Shared<Column>]) -> bool
+    ensures same { IsTrue result → columns.now ≡ others.now }
+{
+    *columns == *others
+}
