@@ -1,11 +1,19 @@
 -- Where a predicate or a sum stands in its text says nothing of what it comes to in a row.
-use Rattle.std.proofs.Common.{◌≡◌, ◌&&◌, ◌||◌, ◌+ℤ◌, ◌-ℤ◌, not, Bool, List, refl, ap}
+use Rattle.std.proofs.Common.{◌≡◌, ◌&&◌, ◌||◌, ◌+ℤ◌, ◌-ℤ◌, ℕ, not, Bool, true, List, refl, ap}
+use Rattle.std.proofs.lemmas.Slice.Eq.{slice_eq-Decides}
+use Rattle.std.specs.Cmp.Lexicographic.{pointwise}
+use Rattle.mon_value.proofs.SameLemmas.{same_text-Decides}
+use Rattle.mon_value.specs.Same.{same_text}
 use Rattle.mon_value.specs.declared.columns.Column.{Column}
 use Rattle.mon_value.specs.declared.values.Value.{Value}
 use Rattle.mql_ast.specs.Rows.{meets_no_values, predicate_truth, put_together, sum_value}
 use Rattle.mql_ast.specs.Trees as tree
 use Rattle.mql_ast.specs.Trees.{PredicateTree, SumTree}
 use Rattle.mon_expr.specs.SameTrees.{bare_predicate, bare_sum}
+
+-- pieces that compare as the same are equal
+pub pieces_same : (own others : List (List ℕ)) → pointwise same_text own others ≡ true → own ≡ others
+pieces_same own others = (slice_eq-Decides same_text-Decides own others (pointwise same_text own others) refl).0
 
 module _ (columns : List Column) (cells : List Value) where
   pub bare-truth : (p : PredicateTree) → predicate_truth (bare_predicate p) columns cells ≡ predicate_truth p columns cells

@@ -4,7 +4,7 @@ ghost use Rattle.mon_expr.specs.SameTrees.{bare_predicate};
 ghost use Rattle.mql_ast.specs.Trees as tree;
 ghost use Rattle.mql_ast.specs.Trees.{predicate_tree};
 
-use mql_ast::{Comparison, Literal, Name, Pattern, Predicate};
+use mql_ast::{Comparison, Literal, Name, Pattern, Pieces, Predicate};
 
 /// Whether two predicates are the same, wherever they stand in their texts: they are written alike, but for blanks and
 /// parentheses. A loop goes down the left, where a chain may have many thousand conditions. No memory is taken.
@@ -72,9 +72,19 @@ fn is_likeness(predicate: &Predicate, name: &Name, pattern: &Pattern) -> bool
         ≡ bare_predicate (predicate_tree predicate.now) }
 {
     match predicate {
-        Predicate::Like(other, asked) => name.text == other.text && pattern.pieces == asked.pieces,
+        Predicate::Like(other, asked) => {
+            name.text == other.text && are_same_pieces(&pattern.pieces, &asked.pieces)
+        }
         _ => false,
     }
+}
+
+// Whether two patterns are cut into the same pieces.
+#[tactic(auto, using(crate::proofs::SameTreeLemmas::pieces_same))]
+fn are_same_pieces(pieces: &Pieces, others: &Pieces) -> bool
+    ensures same { IsTrue result → pieces.now ≡ others.now }
+{
+    *pieces == *others
 }
 
 // Whether two comparisons ask the same.

@@ -1,5 +1,5 @@
 // Whether two sums are the same.
-ghost use Rattle.std.specs.Prelude.{◌≡◌, ℕ, IsTrue};
+ghost use Rattle.std.specs.Prelude.{◌≡◌, IsTrue};
 ghost use Rattle.mon_expr.specs.SameTrees.{bare_sum};
 ghost use Rattle.mql_ast.specs.Trees as tree;
 ghost use Rattle.mql_ast.specs.Trees.{sum_tree};
@@ -54,7 +54,7 @@ fn is_column(sum: &Expr, name: &Name) -> bool
 
 // Whether a sum is a number.
 fn is_number(sum: &Expr, number: i64) -> bool
-    ensures same { (at : ℕ) → IsTrue result → bare_sum (tree.Number at number) ≡ bare_sum (sum_tree sum.now) }
+    ensures same { IsTrue result → bare_sum (tree.Number 0 number) ≡ bare_sum (sum_tree sum.now) }
 {
     match sum {
         Expr::Number { at: _, value } => number == *value,
@@ -64,8 +64,8 @@ fn is_number(sum: &Expr, number: i64) -> bool
 
 // Whether a sum is such a percentile of the column of a name.
 fn is_percentile(sum: &Expr, name: &Name, share: u8) -> bool
-    ensures same { (at : ℕ) → IsTrue result
-        → bare_sum (tree.Percentile at name.now share) ≡ bare_sum (sum_tree sum.now) }
+    ensures same { IsTrue result
+        → bare_sum (tree.Percentile 0 name.now share) ≡ bare_sum (sum_tree sum.now) }
 {
     match sum {
         Expr::Percentile { at: _, column, p } => name.text == column.text && share == *p,

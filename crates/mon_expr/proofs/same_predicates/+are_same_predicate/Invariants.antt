@@ -1,5 +1,5 @@
 -- Where what is left of both is the same, the whole predicates are.
-use Rattle.std.proofs.Common.{◌≡◌, ◌≤◌, ◌×◌}
+use Rattle.std.proofs.Common.{◌≡◌, ◌≤◌}
 use Rattle.mql_ast.specs.Trees.{predicate_tree}
 use Rattle.mql_ast.specs.declared.predicates.Predicate.{size-Predicate}
 use Rattle.mon_expr.specs.SameTrees.{bare_predicate}

@@ -1,5 +1,5 @@
 -- Where what is left of both is the same, the whole sums are.
-use Rattle.std.proofs.Common.{◌≡◌, ◌≤◌, ◌×◌}
+use Rattle.std.proofs.Common.{◌≡◌, ◌≤◌}
 use Rattle.mql_ast.specs.Trees.{sum_tree}
 use Rattle.mql_ast.specs.declared.expressions.Expr.{size-Expr}
 use Rattle.mon_expr.specs.SameTrees.{bare_sum}
