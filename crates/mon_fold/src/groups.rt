@@ -15,7 +15,7 @@ use crate::merging::{copied_groups, new_groups, put_groups};
 use insertion_map::InsertionMap;
 use mon_value::{
     Aggregate, AggregateKind, Aggregates, Cells, Column, Columns, ListOf, OutOfMemory, Positions,
-    ROW_BITS, Table, Text, TimedRow, TimedRows, TryCopy, ValueType,
+    ROW_BITS, Shared, Table, Text, TimedRow, TimedRows, TryCopy, ValueType,
 };
 use std::alloc::Global;
 use std::marker::Model;
@@ -93,7 +93,7 @@ fn kinds_of(alloc: Global, with: &[Aggregate]) -> Result<ListOf<AggregateKind>, 
 // The columns that groups finish to.
 fn columns_of(
     alloc: Global,
-    columns: &[Column],
+    columns: &[Shared<Column>],
     by: &[u32],
     with: &[Aggregate],
 ) -> Result<Columns, OutOfMemory>
@@ -140,7 +140,7 @@ fn copy_at<T: TryCopy + Drop>(
 fn add_columns_made(
     alloc: Global,
     made: &mut Columns,
-    columns: &[Column],
+    columns: &[Shared<Column>],
     with: &[Aggregate],
 ) -> Result<(), OutOfMemory>
     ensures { OnOk result (made.new ≡ made.old ++ columns_made columns.now with.now) }
@@ -156,9 +156,9 @@ fn add_columns_made(
 // The column of an aggregate.
 fn column_of_aggregate(
     alloc: Global,
-    columns: &[Column],
+    columns: &[Shared<Column>],
     aggregate: &Aggregate,
-) -> Result<Option<Column>, OutOfMemory>
+) -> Result<Option<Shared<Column>>, OutOfMemory>
     ensures { IfOk result (λ column. column ≡ column_made columns.now aggregate.now.column aggregate.now.what) }
 {
     if aggregate.what == AggregateKind::Count {
@@ -168,17 +168,18 @@ fn column_of_aggregate(
 }
 
 // The column of a count.
-fn column_of_count(alloc: Global) -> Result<Column, OutOfMemory>
+fn column_of_count(alloc: Global) -> Result<Shared<Column>, OutOfMemory>
     ensures { IfOk result (λ column. column ≡ count_column) }
 {
-    Ok(Column {
+    let column = Column {
         name: Text::from_str(alloc, "count")?,
         of: ValueType::Int,
         key: false,
         anchor: None,
         cell_bits: ROW_BITS,
         total_bits: ROW_BITS,
-    })
+    };
+    Shared::new(alloc, column)
 }
 
 /// The groups finished: one row for each. Its cells are the grouping cells, and then what each aggregate

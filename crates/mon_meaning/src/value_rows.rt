@@ -12,7 +12,7 @@ ghost use Rattle.mon_meaning.specs.within.Items as made_of;
 ghost use Rattle.mon_meaning.specs.within.Items.{AreBound, CanMake, all_values};
 
 use mon_expr::BoundExpr;
-use mon_value::{Cells, Column, Columns, OutOfMemory, TimedRow, TimedRows, Value};
+use mon_value::{Cells, Column, Columns, OutOfMemory, Shared, TimedRow, TimedRows, Value};
 use mql_ast::Item;
 use std::alloc::Global;
 
@@ -36,7 +36,7 @@ pub(crate) fn value_rows(
 // The rows that bound items make.
 fn rows_made(
     alloc: Global,
-    columns: &[Column],
+    columns: &[Shared<Column>],
     items: &[BoundExpr],
     rows: TimedRows,
 ) -> Result<TimedRows, OutOfMemory>
@@ -64,7 +64,7 @@ fn push_made(rows: &mut TimedRows, row: Option<TimedRow>) -> Result<(), OutOfMem
 // The row that bound items make of a row, unless one comes to no value.
 fn row_made(
     alloc: Global,
-    columns: &[Column],
+    columns: &[Shared<Column>],
     items: &[BoundExpr],
     row: TimedRow,
 ) -> Result<Option<TimedRow>, OutOfMemory>
@@ -153,7 +153,7 @@ fn all_or_none(are_all: bool, values: Cells) -> Option<Cells>
 // The cells in the columns that are keys, and then the values. All cells move.
 fn keys_and_values(
     alloc: Global,
-    columns: &[Column],
+    columns: &[Shared<Column>],
     cells: Cells,
     values: Cells,
 ) -> Result<Cells, OutOfMemory>
@@ -166,7 +166,11 @@ fn keys_and_values(
 }
 
 // The cells in the columns that are keys.
-fn key_cells(alloc: Global, columns: &[Column], cells: Cells) -> Result<Vec<Value>, OutOfMemory>
+fn key_cells(
+    alloc: Global,
+    columns: &[Shared<Column>],
+    cells: Cells,
+) -> Result<Vec<Value>, OutOfMemory>
     ensures keys { IfOk result (λ keys. keys.items ≡ spec.key_cells columns.now cells) }
 {
     let mut keys = Vec::new(alloc);

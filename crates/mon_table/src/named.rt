@@ -5,7 +5,7 @@ ghost use Rattle.mon_table.specs.NamedPlaces.{AddsPlace, KnowsPlaces, places_und
 ghost use Rattle.mon_table.specs.Places.{right_places_of};
 
 use insertion_map::InsertionMap;
-use mon_value::{Column, OutOfMemory, Text};
+use mon_value::{Column, OutOfMemory, Shared, Text};
 use std::alloc::Global;
 use std::marker::Model;
 
@@ -13,7 +13,7 @@ use std::marker::Model;
 /// the list of the columns.
 #[derive(Drop)]
 pub(crate) struct NamedPlaces<'a> {
-    columns: &'a [Column],
+    columns: &'a [Shared<Column>],
     places: InsertionMap<&'a str, Vec<usize>>,
 }
 
@@ -31,7 +31,10 @@ impl<'a> Model for NamedPlaces<'a> {
 
 impl<'a> NamedPlaces<'a> {
     /// The columns, with the places of each name.
-    pub(crate) fn new(alloc: Global, columns: &'a [Column]) -> Result<NamedPlaces<'a>, OutOfMemory>
+    pub(crate) fn new(
+        alloc: Global,
+        columns: &'a [Shared<Column>],
+    ) -> Result<NamedPlaces<'a>, OutOfMemory>
         ensures columns { IfOk result (λ all. all ≡ columns.now) }
     {
         let places = places_by_name(alloc, columns)?;
@@ -49,7 +52,7 @@ impl<'a> NamedPlaces<'a> {
 // The places by their names.
 fn places_by_name<'a>(
     alloc: Global,
-    columns: &'a [Column],
+    columns: &'a [Shared<Column>],
 ) -> Result<InsertionMap<&'a str, Vec<usize>>, OutOfMemory>
     ensures entries { IfOk result (KnowsPlaces columns.now) }
 {
@@ -67,7 +70,7 @@ fn places_by_name<'a>(
 fn add_places<'a>(
     alloc: Global,
     places: &mut InsertionMap<&'a str, Vec<usize>>,
-    columns: &'a [Column],
+    columns: &'a [Shared<Column>],
 ) -> Result<(), OutOfMemory>
     requires empty { KnowsPlaces [] places.old }
     ensures entries { OnOk result (KnowsPlaces columns.now places.new) }

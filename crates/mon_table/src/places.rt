@@ -6,7 +6,7 @@ ghost use Rattle.mon_table.specs.Places as spec;
 ghost use Rattle.mon_value.specs.Tables.{right_columns};
 
 use crate::named::NamedPlaces;
-use mon_value::{Column, Columns, OutOfMemory, Text, TryCopy};
+use mon_value::{Column, Columns, OutOfMemory, Shared, Text, TryCopy};
 use std::alloc::Global;
 
 /// Where the columns of a join's tables stand: of each two of one name the place in the left table and in the
@@ -22,8 +22,8 @@ impl Places {
     /// The places of the columns of two tables.
     pub(crate) fn new(
         alloc: Global,
-        lefts: &[Column],
-        rights: &[Column],
+        lefts: &[Shared<Column>],
+        rights: &[Shared<Column>],
     ) -> Result<Places, OutOfMemory>
         ensures lefts { IfOk result (λ places. places.lefts.items ≡ spec.left_places 0 lefts.now rights.now) }
         ensures rights { IfOk result (λ places. places.rights.items ≡ spec.right_places lefts.now rights.now) }
@@ -43,8 +43,8 @@ impl Places {
     fn add_common(
         &mut self,
         alloc: Global,
-        lefts: &[Column],
-        rights: &[Column],
+        lefts: &[Shared<Column>],
+        rights: &[Shared<Column>],
     ) -> Result<(), OutOfMemory>
         ensures lefts { OnOk result (self.new.lefts.items
             ≡ self.old.lefts.items ++ spec.left_places 0 lefts.now rights.now) }
@@ -59,7 +59,11 @@ impl Places {
     }
 
     // Adds the places of the left columns beside those of the right columns of their names.
-    fn add_named(&mut self, lefts: &[Column], rights: &NamedPlaces<'_>) -> Result<(), OutOfMemory>
+    fn add_named(
+        &mut self,
+        lefts: &[Shared<Column>],
+        rights: &NamedPlaces<'_>,
+    ) -> Result<(), OutOfMemory>
         ensures lefts { OnOk result (self.new.lefts.items
             ≡ self.old.lefts.items ++ spec.left_places 0 lefts.now rights.now) }
         ensures rights { OnOk result (self.new.rights.items
@@ -171,7 +175,7 @@ pub(crate) fn joined_columns(
 }
 
 // The column at a place, if there is one.
-fn column_at(columns: &Columns, place: usize) -> Option<&Column>
+fn column_at(columns: &Columns, place: usize) -> Option<&Shared<Column>>
     ensures column { option_copied result ≡ slice_get columns.now place }
 {
     columns.as_slice().get(place)

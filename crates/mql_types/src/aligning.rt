@@ -10,7 +10,7 @@ use crate::faults::{Faults, TypeKind};
 use crate::nodes::{Node, NodeInfo};
 use crate::parts::Part;
 use crate::widths::{OF_DELTA, OF_NUMBER, Width};
-use mon_value::{Aligner, Column, Columns, Kind, TryCopy};
+use mon_value::{Aligner, Column, Columns, Kind, Shared, TryCopy};
 use std::alloc::{AllocError, Global};
 
 /// A table: what isn't aligned yet is aligned here, at no place of the text.
@@ -41,23 +41,31 @@ pub(crate) fn align_node(
     })
 }
 
-fn aligned_columns(alloc: Global, by: Aligner, columns: &[Column]) -> Result<Columns, AllocError>
+fn aligned_columns(
+    alloc: Global,
+    by: Aligner,
+    columns: &[Shared<Column>],
+) -> Result<Columns, AllocError>
     ensures columns { IfOk result (λ made. made ≡ map (spec.aligned_column by) columns.now) }
 {
     let mut made = Columns::new(alloc);
     for column in columns {
-        made.push(aligned_column(by, column.copy(alloc)?))?;
+        made.push(aligned_column(alloc, by, column)?)?;
     }
     Ok(made)
 }
 
-fn aligned_column(by: Aligner, column: Column) -> Column
-    ensures column { result ≡ spec.aligned_column by column }
+fn aligned_column(
+    alloc: Global,
+    by: Aligner,
+    column: &Shared<Column>,
+) -> Result<Shared<Column>, AllocError>
+    ensures column { IfOk result (λ made. made ≡ spec.aligned_column by column.now) }
 {
     if column.key {
-        column
+        column.copy(alloc)
     } else {
-        with_width(column, aligned_width(by))
+        with_width(alloc, column, aligned_width(by))
     }
 }
 

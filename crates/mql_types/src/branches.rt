@@ -7,11 +7,11 @@ ghost use Rattle.mql_types.specs.Branches as spec;
 ghost use Rattle.mql_types.specs.Faults.{first_with};
 
 use crate::faults::{Faults, TypeKind, type_word};
-use crate::levels::common_anchor;
+use crate::levels::{common_anchor, keeps_anchor};
 use crate::parts::TypingSetting;
 use crate::places::NamedColumns;
 use crate::widths::Width;
-use mon_value::{Column, Columns, TryCopy, ValueType};
+use mon_value::{Column, Columns, Shared, TryCopy, ValueType};
 use std::alloc::{AllocError, Global};
 
 /// The columns of a join: the left's, and then those of the right's that have a name of their own. Beside them the left
@@ -27,8 +27,8 @@ impl Joined {
     pub(crate) fn new(
         setting: TypingSetting<'_>,
         at: u32,
-        lefts: &[Column],
-        rights: &[Column],
+        lefts: &[Shared<Column>],
+        rights: &[Shared<Column>],
         found: &mut Faults,
     ) -> Result<Joined, AllocError>
         ensures columns { IfOk result (λ made. made.columns
@@ -113,7 +113,7 @@ impl Joined {
         &mut self,
         setting: TypingSetting<'_>,
         at: u32,
-        lefts: &[Column],
+        lefts: &[Shared<Column>],
         rights: &NamedColumns<'_>,
         found: &mut Faults,
     ) -> Result<(), AllocError>
@@ -135,7 +135,7 @@ impl Joined {
         &mut self,
         setting: TypingSetting<'_>,
         at: u32,
-        left: &Column,
+        left: &Shared<Column>,
         rights: &NamedColumns<'_>,
         found: &mut Faults,
     ) -> Result<(), AllocError>
@@ -157,7 +157,7 @@ impl Joined {
         &mut self,
         setting: TypingSetting<'_>,
         at: u32,
-        left: &Column,
+        left: &Shared<Column>,
         right: &Column,
         found: &mut Faults,
     ) -> Result<(), AllocError>
@@ -182,10 +182,15 @@ impl Joined {
 }
 
 // Adds a column as a join has it.
-fn push_joined(alloc: Global, column: &Column, columns: &mut Columns) -> Result<(), AllocError>
+fn push_joined(
+    alloc: Global,
+    column: &Shared<Column>,
+    columns: &mut Columns,
+) -> Result<(), AllocError>
     ensures added { OnOk result (columns.new ≡ columns.old ++ spec.as_joined column.now ∷ []) }
 {
-    columns.push(as_joined(column.copy(alloc)?))
+    let joined = with_width(alloc, column, Width::of(column).joined())?;
+    columns.push(joined)
 }
 
 // Adds the right columns that have a name of their own.
@@ -193,7 +198,7 @@ fn push_joined(alloc: Global, column: &Column, columns: &mut Columns) -> Result<
 fn push_rights(
     alloc: Global,
     lefts: &NamedColumns<'_>,
-    rights: &[Column],
+    rights: &[Shared<Column>],
     columns: &mut Columns,
 ) -> Result<(), AllocError>
     ensures added { OnOk result (columns.new
@@ -209,7 +214,7 @@ fn push_rights(
 fn push_own(
     alloc: Global,
     lefts: &NamedColumns<'_>,
-    right: &Column,
+    right: &Shared<Column>,
     columns: &mut Columns,
 ) -> Result<(), AllocError>
     ensures added { OnOk result (columns.new
@@ -221,37 +226,40 @@ fn push_own(
     push_joined(alloc, right, columns)
 }
 
-// A column as a join has it.
-fn as_joined(column: Column) -> Column
-    ensures column { result ≡ spec.as_joined column }
+/// A column with a width, which is shared where it has that width.
+pub(crate) fn with_width(
+    alloc: Global,
+    column: &Shared<Column>,
+    width: Width,
+) -> Result<Shared<Column>, AllocError>
+    ensures column { IfOk result (λ made. made ≡ spec.with_width width column.now) }
 {
-    let width = Width::of(&column).joined();
-    with_width(column, width)
+    if width.is_of(column) {
+        return column.copy(alloc);
+    }
+    let mut made = (**column).copy(alloc)?;
+    made.cell_bits = width.cell;
+    made.total_bits = width.total;
+    Shared::new(alloc, made)
 }
 
-/// A column with another width.
-pub(crate) fn with_width(mut column: Column, width: Width) -> Column
-    ensures column { result ≡ spec.with_width width column }
-{
-    column.cell_bits = width.cell;
-    column.total_bits = width.total;
-    column
-}
-
-// A copy of a column, anchored to what another that holds the same is anchored to as well.
+// A column, anchored to what another that holds the same is anchored to as well. It is shared where it stays.
 fn anchored_with(
     setting: TypingSetting<'_>,
-    column: &Column,
+    column: &Shared<Column>,
     other: &Column,
-) -> Result<Column, AllocError>
+) -> Result<Shared<Column>, AllocError>
     ensures column { IfOk result (λ made. made ≡ spec.anchored_with setting.entry.schemas.now column.now other.now) }
 {
-    let mut made = column.copy(setting.alloc)?;
+    if keeps_anchor(setting.schemas, &column.anchor, &other.anchor) {
+        return column.copy(setting.alloc);
+    }
+    let mut made = (**column).copy(setting.alloc)?;
     made.anchor = common_anchor(setting, &column.anchor, &other.anchor)?;
-    Ok(made)
+    Shared::new(setting.alloc, made)
 }
 
-// No columns, with room for those of both tables: a chain of joins has columns at each of its nodes.
+// No columns, with room for those of both tables: a chain of joins has a list of handles at each of its nodes.
 fn room_for(alloc: Global, lefts: usize, rights: usize) -> Result<Columns, AllocError>
     ensures none { IfOk result (λ columns. columns ≡ []) }
 {
@@ -259,7 +267,7 @@ fn room_for(alloc: Global, lefts: usize, rights: usize) -> Result<Columns, Alloc
 }
 
 // Whether some name is common.
-fn have_common(lefts: &[Column], rights: &NamedColumns<'_>) -> bool
+fn have_common(lefts: &[Shared<Column>], rights: &NamedColumns<'_>) -> bool
     ensures had { result ≡ list_any (λ column. join.has_name column.name rights.now) lefts.now }
 {
     lefts.iter().any(|left| rights.has(&left.name))
@@ -268,8 +276,8 @@ fn have_common(lefts: &[Column], rights: &NamedColumns<'_>) -> bool
 /// The columns of a union: the left's, each as wide as the rows of both may be.
 pub(crate) fn union_columns(
     setting: TypingSetting<'_>,
-    lefts: &[Column],
-    rights: &[Column],
+    lefts: &[Shared<Column>],
+    rights: &[Shared<Column>],
 ) -> Result<Columns, AllocError>
     ensures columns { IfOk result (λ columns. columns
         ≡ spec.union_columns setting.entry.schemas.now lefts.now rights.now) }
@@ -289,18 +297,19 @@ pub(crate) fn union_columns(
 // A left column over the rows of both.
 fn united_column(
     setting: TypingSetting<'_>,
-    left: &Column,
+    left: &Shared<Column>,
     right: &Column,
-) -> Result<Column, AllocError>
+) -> Result<Shared<Column>, AllocError>
     ensures column { IfOk result (λ column. column
         ≡ spec.united_column setting.entry.schemas.now left.now right.now) }
 {
     let width = Width::of(left).united(Width::of(right));
-    Ok(with_width(anchored_with(setting, left, right)?, width))
+    let anchored = anchored_with(setting, left, right)?;
+    with_width(setting.alloc, &anchored, width)
 }
 
 /// Whether two tables have the same columns in the same order, but for their widths and anchors.
-pub(crate) fn same_columns(lefts: &[Column], rights: &[Column]) -> bool
+pub(crate) fn same_columns(lefts: &[Shared<Column>], rights: &[Shared<Column>]) -> bool
     ensures same { result ≡ spec.same_columns lefts.now rights.now }
 {
     let mut rest = rights;

@@ -9,8 +9,8 @@ use crate::items::plain_column;
 use crate::taken::Taken;
 use crate::widths::OF_NUMBER;
 use mon_value::{
-    Anchor, Column, Columns, Field, FieldType, Kind, MetricSchema, TargetSchema, Text, TryCopy,
-    ValueType,
+    Anchor, Column, Columns, Field, FieldType, Kind, MetricSchema, Shared, TargetSchema, Text,
+    TryCopy, ValueType,
 };
 use std::alloc::{AllocError, Global};
 
@@ -75,14 +75,23 @@ fn push_metric_keys(
     Ok(())
 }
 
-fn key_column(alloc: Global, anchor: Option<Anchor>, field: &Field) -> Result<Column, AllocError>
+fn key_column(
+    alloc: Global,
+    anchor: Option<Anchor>,
+    field: &Field,
+) -> Result<Shared<Column>, AllocError>
     ensures column { IfOk result (λ column. column ≡ spec.key_column anchor field.now) }
 {
     let of = field_value_type(field.of);
-    let mut column = plain_column(alloc, field.name.as_str(), of, OF_NUMBER)?;
-    column.key = true;
-    column.anchor = anchor;
-    Ok(column)
+    let column = Column {
+        name: Text::from_str(alloc, field.name.as_str())?,
+        of,
+        key: true,
+        anchor,
+        cell_bits: OF_NUMBER.cell,
+        total_bits: OF_NUMBER.total,
+    };
+    Shared::new(alloc, column)
 }
 
 fn field_value_type(of: FieldType) -> ValueType
@@ -107,7 +116,7 @@ pub(crate) fn kind_of(metric: Option<&MetricSchema>) -> Kind
 
 /// Whether two columns have one name.
 #[tactic(auto, using(crate::proofs::ColumnNameLemmas::named_columns))]
-pub(crate) fn names_repeat(alloc: Global, columns: &[Column]) -> Result<bool, AllocError>
+pub(crate) fn names_repeat(alloc: Global, columns: &[Shared<Column>]) -> Result<bool, AllocError>
     ensures repeated { IfOk result (λ repeated. repeated ≡ texts_repeat (column_names columns.now)) }
 {
     let mut names = Taken::none(alloc);

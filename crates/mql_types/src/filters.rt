@@ -9,14 +9,14 @@ ghost use Rattle.mon_value.specs.declared.columns.Column.{Column};
 
 use crate::faults::{Faults, TypeWord};
 use crate::places::NamedColumns;
-use mon_value::{Column, FieldValue, ValueType};
+use mon_value::{Column, FieldValue, Shared, ValueType};
 use mql_ast::{Comparison, Name, Predicate};
 use std::alloc::{AllocError, Global};
 
 /// Tells each condition that its column doesn't meet.
 pub(crate) fn tell_predicate(
     alloc: Global,
-    columns: &[Column],
+    columns: &[Shared<Column>],
     predicate: &Predicate,
     found: &mut Faults,
 ) -> Result<(), AllocError>

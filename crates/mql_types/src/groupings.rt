@@ -20,7 +20,7 @@ use crate::places::{NamedColumns, push_some};
 use crate::taken::{Label, Taken};
 use crate::widths::{OF_COUNT, Width};
 use mon_value::{
-    Aggregate, AggregateKind, Aggregates, Column, Columns, Positions, TryCopy, ValueType,
+    Aggregate, AggregateKind, Aggregates, Column, Columns, Positions, Shared, TryCopy, ValueType,
 };
 use mql_ast::{FoldWord, Name};
 use std::alloc::{AllocError, Global};
@@ -240,7 +240,11 @@ fn tell_listed(columns: &NamedColumns<'_>, names: &[Name], found: &mut Faults)
 
 // The columns at some places, as keys.
 #[tactic(auto, using(crate::proofs::ListedLemmas::listed_items))]
-fn key_columns_at(alloc: Global, columns: &[Column], places: &[u32]) -> Result<Columns, AllocError>
+fn key_columns_at(
+    alloc: Global,
+    columns: &[Shared<Column>],
+    places: &[u32],
+) -> Result<Columns, AllocError>
     ensures keys { IfOk result (λ keys. keys ≡ spec.key_columns_at columns.now places.now) }
 {
     let mut keys = Columns::new(alloc);
@@ -251,17 +255,30 @@ fn key_columns_at(alloc: Global, columns: &[Column], places: &[u32]) -> Result<C
     Ok(keys)
 }
 
-fn key_at(alloc: Global, columns: &[Column], place: u32) -> Result<Option<Column>, AllocError>
+// The column at a place, as a key.
+fn key_at(
+    alloc: Global,
+    columns: &[Shared<Column>],
+    place: u32,
+) -> Result<Option<Shared<Column>>, AllocError>
     ensures key { IfOk result (λ key. key ≡ spec.key_at columns.now place) }
 {
     match columns.get(place as usize) {
-        Some(column) => {
-            let mut key = column.copy(alloc)?;
-            key.key = true;
-            Ok(Some(key))
-        }
+        Some(column) => Ok(Some(as_key(alloc, column)?)),
         None => Ok(None),
     }
+}
+
+// A column as a key, which is shared where it is one.
+fn as_key(alloc: Global, column: &Shared<Column>) -> Result<Shared<Column>, AllocError>
+    ensures key { IfOk result (λ key. key ≡ spec.as_key column.now) }
+{
+    if column.key {
+        return column.copy(alloc);
+    }
+    let mut key = (**column).copy(alloc)?;
+    key.key = true;
+    Shared::new(alloc, key)
 }
 
 // What the aggregates make, where their columns are known. Adds the columns that they give, and tells those that don't
@@ -366,7 +383,7 @@ fn folded_column(
     name: &str,
     fold: FoldWord,
     column: &Column,
-) -> Result<Column, AllocError>
+) -> Result<Shared<Column>, AllocError>
     ensures folded { IfOk result (λ folded. folded ≡ spec.folded_column name.now fold column.now) }
 {
     let width = fold_width(fold, Width::of(column));

@@ -12,7 +12,7 @@ use crate::places::{NamedColumns, push_some};
 use crate::sums::sum_operand;
 use crate::taken::{Label, Taken};
 use crate::widths::Width;
-use mon_value::{Column, Columns, Text, TryCopy, ValueType};
+use mon_value::{Column, Columns, Shared, Text, TryCopy, ValueType};
 use mql_ast::{Expr, Item, Name};
 use std::alloc::{AllocError, Global};
 
@@ -20,7 +20,7 @@ use std::alloc::{AllocError, Global};
 /// wrong in the items.
 pub(crate) fn value_columns(
     alloc: Global,
-    columns: &[Column],
+    columns: &[Shared<Column>],
     items: &[Item],
     found: &mut Faults,
 ) -> Result<Columns, AllocError>
@@ -53,7 +53,7 @@ fn value_columns_over(
 // The keys. Tells the names that columns are given twice.
 fn named_keys(
     alloc: Global,
-    columns: &[Column],
+    columns: &[Shared<Column>],
     items: &[Item],
     found: &mut Faults,
 ) -> Result<Columns, AllocError>
@@ -71,7 +71,7 @@ fn named_keys(
 // The keys. Takes the names that columns are given, and tells those that were taken.
 fn taken_keys<'a>(
     alloc: Global,
-    columns: &'a [Column],
+    columns: &'a [Shared<Column>],
     items: &'a [Item],
     taken: &mut Taken<'a>,
     found: &mut Faults,
@@ -94,7 +94,7 @@ fn taken_keys<'a>(
 // The keys, whose names are taken.
 fn keys<'a>(
     alloc: Global,
-    columns: &'a [Column],
+    columns: &'a [Shared<Column>],
     taken: &mut Taken<'a>,
 ) -> Result<Columns, AllocError>
     ensures keys { IfOk result (λ keys. keys ≡ spec.key_columns columns.now) }
@@ -155,7 +155,7 @@ fn item_column(
     columns: &NamedColumns<'_>,
     item: &Item,
     found: &mut Faults,
-) -> Result<Option<Column>, AllocError>
+) -> Result<Option<Shared<Column>>, AllocError>
     ensures column { IfOk result (λ column. column ≡ spec.item_column columns.now (item_tree item.now)) }
     ensures faults { OnOk result (found.new.first
         ≡ first_with found.old.first (spec.item_sum_faults columns.now (item_tree item.now))) }
@@ -182,17 +182,18 @@ pub(crate) fn plain_column(
     name: &str,
     of: ValueType,
     width: Width,
-) -> Result<Column, AllocError>
+) -> Result<Shared<Column>, AllocError>
     ensures column { IfOk result (λ column. column ≡ spec.plain_column name.now of width) }
 {
-    Ok(Column {
+    let column = Column {
         name: Text::from_str(alloc, name)?,
         of,
         key: false,
         anchor: None,
         cell_bits: width.cell,
         total_bits: width.total,
-    })
+    };
+    Shared::new(alloc, column)
 }
 
 // The column that a sum is alone, if it is one.

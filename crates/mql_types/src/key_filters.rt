@@ -6,7 +6,7 @@ ghost use Rattle.mql_ast.specs.Trees.{predicate_tree};
 ghost use Rattle.mql_types.specs.Groupings.{place_found};
 ghost use Rattle.mql_types.specs.Meaning as spec;
 
-use mon_value::{Column, Columns, Text};
+use mon_value::{Column, Columns, Shared, Text};
 use mql_ast::Predicate;
 
 /// Whether a filter names keys alone, so that it takes a series whole or not at all. A loop goes down the left, where a
@@ -41,7 +41,7 @@ fn is_key(name: &Text, columns: &Columns) -> bool
 }
 
 // The first column of a name.
-fn column_named<'a>(columns: &'a [Column], name: &Text) -> Option<&'a Column>
+fn column_named<'a>(columns: &'a [Shared<Column>], name: &Text) -> Option<&'a Shared<Column>>
     ensures column { option_copied result ≡ named.column_named name.now columns.now }
 {
     match place_named(columns, name) {
@@ -50,7 +50,7 @@ fn column_named<'a>(columns: &'a [Column], name: &Text) -> Option<&'a Column>
     }
 }
 
-fn place_named(columns: &[Column], name: &Text) -> Option<usize>
+fn place_named(columns: &[Shared<Column>], name: &Text) -> Option<usize>
     ensures place { result ≡ place_found name.now columns.now }
 {
     columns.iter().position(|column| *name == column.name)

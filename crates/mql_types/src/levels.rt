@@ -1,12 +1,12 @@
 // Where an operation is done.
-ghost use Rattle.std.specs.Prelude.{◌≡◌, ◌&&◌, IfOk, Some};
+ghost use Rattle.std.specs.Prelude.{◌≡◌, ◌&&◌, IfOk, IsTrue, Some};
 ghost use Rattle.std.specs.List.{list_any};
 ghost use Rattle.mon_value.specs.declared.columns.Anchor.TheVariants as anchor;
 ghost use Rattle.mql_types.specs.Levels as spec;
 
 use crate::parts::TypingSetting;
 use mon_schema::Schemas;
-use mon_value::{Anchor, Column, Field, Text, TryCopy};
+use mon_value::{Anchor, Column, Field, Shared, Text, TryCopy};
 use std::alloc::AllocError;
 
 /// How high an operation is done: each leaf does it for its own rows, each zone for those of its leaves,
@@ -36,7 +36,7 @@ impl Level {
 
 /// The level at which rows that agree in some columns can be brought together, where they come from a level: a leaf,
 /// where the columns tell the whole target of one schema; a zone, where they tell its location; or else the root.
-pub(crate) fn meeting_level(schemas: &Schemas, level: Level, columns: &[Column]) -> Level
+pub(crate) fn meeting_level(schemas: &Schemas, level: Level, columns: &[Shared<Column>]) -> Level
     ensures level { result ≡ spec.meeting_level schemas.now level columns.now }
 {
     match level {
@@ -52,7 +52,7 @@ pub(crate) fn meeting_level(schemas: &Schemas, level: Level, columns: &[Column])
     }
 }
 
-fn located_level(schemas: &Schemas, columns: &[Column]) -> Level
+fn located_level(schemas: &Schemas, columns: &[Shared<Column>]) -> Level
     ensures level { result ≡ spec.located_level schemas.now columns.now }
 {
     if have_location(schemas, columns) {
@@ -62,14 +62,14 @@ fn located_level(schemas: &Schemas, columns: &[Column]) -> Level
     }
 }
 
-fn have_location(schemas: &Schemas, columns: &[Column]) -> bool
+fn have_location(schemas: &Schemas, columns: &[Shared<Column>]) -> bool
     ensures had { result ≡ list_any (spec.is_located schemas.now) columns.now }
 {
     columns.iter().any(|column| is_located(schemas, column))
 }
 
 // Whether the columns tell the whole target of one schema.
-fn tell_target(schemas: &Schemas, columns: &[Column]) -> bool
+fn tell_target(schemas: &Schemas, columns: &[Shared<Column>]) -> bool
     ensures told { result ≡ spec.tell_target schemas.now columns.now }
 {
     columns.iter().any(|column| match &column.anchor {
@@ -79,7 +79,7 @@ fn tell_target(schemas: &Schemas, columns: &[Column]) -> bool
 }
 
 // Whether the columns tell the whole target of the schema that an anchor names.
-fn names_target(schemas: &Schemas, columns: &[Column], anchor: &Anchor) -> bool
+fn names_target(schemas: &Schemas, columns: &[Shared<Column>], anchor: &Anchor) -> bool
     ensures told { result ≡ spec.names_target schemas.now columns.now anchor.now }
 {
     match anchor {
@@ -92,7 +92,7 @@ fn names_target(schemas: &Schemas, columns: &[Column], anchor: &Anchor) -> bool
 }
 
 // Whether each of a schema's fields is the anchor of a column.
-fn have_fields(columns: &[Column], schema: &Text, fields: &[Field]) -> bool
+fn have_fields(columns: &[Shared<Column>], schema: &Text, fields: &[Field]) -> bool
     ensures had { result ≡ spec.have_fields schema.now 0 fields.now columns.now }
 {
     for (place, _field) in fields.iter().enumerate() {
@@ -104,7 +104,7 @@ fn have_fields(columns: &[Column], schema: &Text, fields: &[Field]) -> bool
 }
 
 // Whether one of the columns is anchored to a field of a schema.
-fn have_field(columns: &[Column], wanted: &Text, place: usize) -> bool
+fn have_field(columns: &[Shared<Column>], wanted: &Text, place: usize) -> bool
     ensures had { result ≡ list_any (spec.is_anchored (anchor.Field wanted.now place)) columns.now }
 {
     columns.iter().any(|column| is_field(column, wanted, place))
@@ -143,6 +143,29 @@ fn is_location_anchor(schemas: &Schemas, anchor: &Anchor) -> bool
             },
             None => false,
         },
+    }
+}
+
+/// Whether what a column is anchored to is what another that holds the same is anchored to as well.
+pub(crate) fn keeps_anchor(schemas: &Schemas, one: &Option<Anchor>, other: &Option<Anchor>) -> bool
+    ensures kept { IsTrue result → spec.common_anchor schemas.now one.now other.now ≡ one.now }
+{
+    match one {
+        Some(one) => match other {
+            Some(other) => is_of_both(schemas, one, other),
+            None => false,
+        },
+        None => true,
+    }
+}
+
+// Whether an anchor is what two columns with this one and another are both anchored to.
+fn is_of_both(schemas: &Schemas, one: &Anchor, other: &Anchor) -> bool
+    ensures kept { IsTrue result → spec.common_anchor schemas.now (Some one.now) (Some other.now) ≡ Some one.now }
+{
+    match one {
+        Anchor::Location => is_location_anchor(schemas, other),
+        Anchor::Field { .. } => same_anchor(one, other),
     }
 }
 

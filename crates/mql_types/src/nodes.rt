@@ -109,7 +109,7 @@ impl Node {
     }
 
     /// The columns of its table.
-    pub fn columns(&self) -> &[Column]
+    pub fn columns(&self) -> &[Shared<Column>]
         ensures columns { result.now ≡ columns_of (node_tree self.now) }
     {
         self.info().columns.as_slice()

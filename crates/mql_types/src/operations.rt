@@ -21,7 +21,7 @@ use crate::levels::Level;
 use crate::nodes::{Node, NodeInfo};
 use crate::parts::{Part, TypingSetting, table};
 use crate::places::NamedColumns;
-use mon_value::{Aligner, Column, TryCopy};
+use mon_value::{Aligner, Column, Shared, TryCopy};
 use mql_ast::{Aggregate, Items, Name, Op, OpKind, Predicate};
 use std::alloc::{AllocError, Global};
 
@@ -99,7 +99,7 @@ fn filter_part(
 // A copy of a filter. Tells each of its conditions that its column doesn't meet.
 fn told_filter(
     alloc: Global,
-    columns: &[Column],
+    columns: &[Shared<Column>],
     predicate: &Predicate,
     found: &mut Faults,
 ) -> Result<Predicate, AllocError>
@@ -296,7 +296,7 @@ fn top_node(
 // Where the column stands by which rows are ranked.
 fn ranked_place(
     alloc: Global,
-    columns: &[Column],
+    columns: &[Shared<Column>],
     name: &Name,
     found: &mut Faults,
 ) -> Result<usize, AllocError>

@@ -13,7 +13,7 @@ ghost use Rattle.mql_types.specs.NamedPlaces.{AddsPlace};
 use crate::faults::{Faults, TypeKind, TypeWord};
 use crate::widths::Width;
 use insertion_map::InsertionMap;
-use mon_value::{Column, ListOf, Text, ValueType};
+use mon_value::{Column, ListOf, Shared, Text, ValueType};
 use mql_ast::Name;
 use std::alloc::{AllocError, Global};
 use std::marker::Model;
@@ -21,7 +21,7 @@ use std::marker::Model;
 /// The columns of a table, which are found by their names without going through them. Contracts see the list of them.
 #[derive(Drop)]
 pub(crate) struct NamedColumns<'a> {
-    columns: &'a [Column],
+    columns: &'a [Shared<Column>],
     places: InsertionMap<&'a str, usize>,
 }
 
@@ -39,7 +39,7 @@ impl<'a> Model for NamedColumns<'a> {
 
 impl<'a> NamedColumns<'a> {
     /// The columns, with the first place of each name.
-    pub(crate) fn new(alloc: Global, columns: &'a [Column]) -> Result<Self, AllocError>
+    pub(crate) fn new(alloc: Global, columns: &'a [Shared<Column>]) -> Result<Self, AllocError>
         ensures columns { IfOk result (λ all. all ≡ columns.now) }
     {
         let mut places = InsertionMap::new(alloc);
@@ -50,7 +50,7 @@ impl<'a> NamedColumns<'a> {
     }
 
     /// All columns, in their order.
-    pub(crate) fn columns(&self) -> &'a [Column]
+    pub(crate) fn columns(&self) -> &'a [Shared<Column>]
         ensures columns { result.now ≡ self.now }
     {
         self.columns
@@ -67,7 +67,7 @@ impl<'a> NamedColumns<'a> {
     }
 
     /// The first column of a name.
-    pub(crate) fn get(&self, name: &Text) -> Option<&'a Column>
+    pub(crate) fn get(&self, name: &Text) -> Option<&'a Shared<Column>>
         ensures column { option_copied result ≡ named.column_named name.now self.now }
     {
         match self.place(name) {
@@ -84,7 +84,7 @@ impl<'a> NamedColumns<'a> {
     }
 
     /// The first column of a name. Tells a name of no column.
-    pub(crate) fn known(&self, name: &Name, found: &mut Faults) -> Option<&'a Column>
+    pub(crate) fn known(&self, name: &Name, found: &mut Faults) -> Option<&'a Shared<Column>>
         ensures column { option_copied result ≡ named.column_named name.now.text self.now }
         ensures faults { found.new.first ≡ first_with found.old.first (unknown_faults self.now name.now) }
     {

@@ -1,10 +1,10 @@
 // How many bits the numbers of a column may have, and their sum.
-ghost use Rattle.std.specs.Prelude.{◌≡◌};
+ghost use Rattle.std.specs.Prelude.{◌≡◌, IsTrue};
 ghost use Rattle.mql_types.specs.Faults.{first_with};
 ghost use Rattle.mql_types.specs.Branches as spec;
 
 use crate::faults::{Faults, TypeKind};
-use mon_value::{Column, NUMBER_BITS, ROW_BITS, SUM_BITS, WIDEST_SUM};
+use mon_value::{Column, NUMBER_BITS, ROW_BITS, SUM_BITS, Shared, WIDEST_SUM};
 use std::cmp::{max, min};
 
 /// Two bounds in bits, of what a column holds at one time: each magnitude is at most 2 to the power of `cell`,
@@ -42,6 +42,13 @@ impl Width {
             cell: column.cell_bits,
             total: column.total_bits,
         }
+    }
+
+    /// Whether a column has the width.
+    pub(crate) fn is_of(self, column: &Column) -> bool
+        ensures had { IsTrue result → spec.with_width self column.now ≡ column.now }
+    {
+        self.cell == column.cell_bits && self.total == column.total_bits
     }
 
     /// The width of a sum or a difference of two numbers.
@@ -98,7 +105,7 @@ impl Width {
 
 /// Tells each column whose values sum to too many bits.
 #[tactic(auto, using(crate::proofs::FaultLemmas::faults))]
-pub(crate) fn tell_wide_columns(columns: &[Column], at: u32, found: &mut Faults)
+pub(crate) fn tell_wide_columns(columns: &[Shared<Column>], at: u32, found: &mut Faults)
     ensures faults { found.new.first ≡ first_with found.old.first (spec.wide_faults at columns.now) }
 {
     for column in columns {

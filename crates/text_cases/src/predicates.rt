@@ -2,7 +2,7 @@
 use case_queries::query_of;
 use case_tables::{Done, Trouble, bytes_of, value_of};
 use mon_expr::holds;
-use mon_value::{Bounds, Cells, Column, Columns, Text, Value, ValueType};
+use mon_value::{Bounds, Cells, Column, Columns, Shared, Text, Value, ValueType};
 use mql_ast::{OpKind, Predicate, Query};
 use std::alloc::{AllocError, Global};
 use std::str::Split;
@@ -37,7 +37,8 @@ impl DescribedRow {
 
     fn add_cell(&mut self, name: &str, written: &str) -> Done {
         let cell = value_of(self.alloc, written)?;
-        self.columns.push(column_of(self.alloc, name, &cell)?)?;
+        let column = column_of(self.alloc, name, &cell)?;
+        self.columns.push(Shared::new(self.alloc, column)?)?;
         Ok(self.cells.push(cell)?)
     }
 

@@ -20,7 +20,7 @@ loop-place-preserved c name =
     c.in_ok-add_place.ensures.added name
     ∙ ap (λ places. places ++ cond (same_text name.now c.as_str.result.now) (i ∷ []) []) (c.loop-place.invariant name)
     ∙ ap (λ text. right_places_of name.now 0 before ++ cond (same_text name.now text) (i ∷ []) [])
-    c.as_str.ensures.bytes
+    (c.as_str.ensures.bytes ∙ ap (λ (x : Column). x.name) c.deref.ensures)
     ∙ ap (λ n. right_places_of name.now 0 before ++ cond (same_text name.now column.name) (n ∷ []) []) count
     ∙ sym (right_places_of-push name.now 0 before column)
     ∙ ap (λ (xs : List Column). right_places_of name.now 0 xs) (sym next)

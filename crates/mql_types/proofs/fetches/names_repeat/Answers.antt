@@ -20,6 +20,7 @@ loop-column-preserved c =
     let new : is_taken name names ≡ false = sym c.in_ok-take.ensures.taken ∙ c.if-branch.false in
     ap (λ taken. repeats_behind taken rest) c.in_ok-take.ensures.names
     ∙ repeats_behind-next names name rest new
-    ∙ ap (λ text. repeats_behind names (text ∷ rest)) c.as_str.ensures.bytes
+    ∙ ap (λ text. repeats_behind names (text ∷ rest))
+    (c.as_str.ensures.bytes ∙ ap (λ (x : Column). x.name) c.deref.ensures)
     ∙ sym (ap (λ (cs : List Column). repeats_behind names (column_names cs)) next)
     ∙ c.loop-column.invariant

@@ -20,7 +20,7 @@ loop-place-preserved c name =
     c.in_ok-add_place.ensures.added name
     ∙ ap (λ o. option_or o (cond (same_text name.now c.as_str.result.now) (Some i) None)) (c.loop-place.invariant name)
     ∙ ap (λ text. option_or (place_found name.now before) (cond (same_text name.now text) (Some i) None))
-    c.as_str.ensures.bytes
+    (c.as_str.ensures.bytes ∙ ap (λ (x : Column). x.name) c.deref.ensures)
     ∙ ap (λ n. option_or (place_found name.now before) (cond (same_text name.now column.name) (Some n) None))
     (sym count)
     ∙ sym (place_found-push name.now before column)
