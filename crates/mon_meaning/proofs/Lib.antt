@@ -19,6 +19,7 @@ pub mod PathLemmas
 mod ReachLemmas
 mod ReadyLemmas
 pub mod SeriesOrderLemmas
+mod SameTreeLemmas
 mod SeriesOrders
 mod SideLemmas
 pub mod StandingPieces

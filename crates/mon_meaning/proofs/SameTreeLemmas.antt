@@ -1,7 +1,11 @@
 -- Trees that are the same, wherever they stand in the text, mean the same rows and are the same work.
 use Rattle.std.proofs.Common.{◌≡◌, ◌∙◌, ◌&&◌, ◌||◌, ◌+◌, ◌++◌, ◌∷◌, [], not, cond, Bool, List, Option, refl, ap, sym, length}
-use Rattle.std.proofs.Common.{filter, map, sum_by, Some, None}
-use Rattle.std.specs.List.{filter_map, flat_map, list_any}
+use Rattle.std.proofs.Common.{filter, map, sum_by, Some, None, ℤ, true}
+use Rattle.std.proofs.lemmas.Bool.Decides.{Decides-int_eq}
+use Rattle.std.proofs.lemmas.Slice.Eq.{slice_eq-Decides}
+use Rattle.std.specs.Cmp.Lexicographic.{pointwise}
+use Rattle.std.specs.Ordering.{int_eq}
+use Rattle.std.specs.List.{cons_option, filter_map, flat_map, list_any}
 use Rattle.mon_value.specs.Grids.{aligned_values}
 use Rattle.mon_value.specs.Groups.{group_rows, top_rows}
 use Rattle.mon_value.specs.Order.{cells_of, row_of}
@@ -24,6 +28,10 @@ use Rattle.mon_meaning.specs.within.Reach.{points_within_reach}
 use Rattle.mon_meaning.specs.within.SameTrees.{bare_items, bare_tree}
 use Rattle.mon_meaning.specs.within.SeriesMeaning.{SeriesGroup, align_load, flows, load_by_series, reach_count}
 use Rattle.mon_meaning.specs.within.SeriesMeaning.{rows_by_series, series_rows}
+
+-- bounds that compare as the same are equal
+pub bounds_same : (own others : List ℤ) → pointwise int_eq own others ≡ true → own ≡ others
+bounds_same own others = (slice_eq-Decides Decides-int_eq own others (pointwise int_eq own others) refl).0
 
 -- ---- which points flow
 
@@ -94,16 +102,12 @@ bare-any_none [] columns cells = refl
 bare-any_none (item ∷ items) columns cells =
     λ i. bare-none columns cells item.sum i || bare-any_none items columns cells i
 
-with_value : Option Value → List Value → List Value
-with_value None values = values
-with_value (Some value) values = value ∷ values
-
 bare-values : (items : List ItemTree) (columns : List Column) (cells : List Value)
     → filter_map (λ (item : ItemTree). sum_value item.sum columns cells) (bare_items items)
     ≡ filter_map (λ (item : ItemTree). sum_value item.sum columns cells) items
 bare-values [] columns cells = refl
 bare-values (item ∷ items) columns cells =
-    λ i. with_value (bare-value columns cells item.sum i) (bare-values items columns cells i)
+    λ i. cons_option (bare-value columns cells item.sum i) (bare-values items columns cells i)
 
 bare-value_row : (columns : List Column) (items : List ItemTree) (row : TimedRow)
     → value_row columns (bare_items items) row ≡ value_row columns items row

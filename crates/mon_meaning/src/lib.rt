@@ -12,6 +12,7 @@ mod parts;
 mod parts_up;
 mod paths;
 mod pieces;
+mod same_columns;
 mod same_trees;
 mod steps;
 mod tops;

@@ -2,26 +2,25 @@
 ghost use Rattle.std.specs.Prelude.{◌≡◌, IfSome, IsTrue, map};
 ghost use Rattle.mql_ast.specs.Trees.{item_tree, predicate_tree};
 ghost use Rattle.mql_types.specs.Nodes as node;
-ghost use Rattle.mql_types.specs.Nodes.{NodeTree, columns_of, node_tree};
-ghost use Rattle.mql_types.specs.declared.nodes.NodeInfo.{NodeInfo};
+ghost use Rattle.mql_types.specs.Nodes.{info_of, node_tree};
 ghost use Rattle.mon_meaning.specs.within.SameTrees.{bare_items, bare_tree};
 
+use crate::same_columns::{are_same_columns, are_same_folds};
 use mon_expr::{are_same_predicate, are_same_sum};
-use mon_value::{Aggregates, Aligner, Column, Positions, Shared, Text};
+use mon_value::{Aggregates, Aligner, Positions, Text};
 use mql_ast::{Item, Predicate};
 use mql_types::Node;
 
 /// Whether two trees are the same, wherever they stand in the text: the same operations over the same columns on the
 /// same fetches. A loop goes down the input, or the left, since a query may have many thousand operations or branches;
 /// only right sides recurse. No memory is taken.
-#[cycle(same_trees)]
 pub(crate) fn are_same_tree(one: &Node, other: &Node) -> bool
     ensures same { IsTrue result → bare_tree (node_tree one.now) ≡ bare_tree (node_tree other.now) }
 {
     let mut one = one;
     let mut other = other;
     loop {
-        if !have_same_columns(one.columns(), other.columns()) {
+        if !are_same_columns(one.columns(), other.columns()) {
             return false;
         }
         match one {
@@ -83,32 +82,46 @@ pub(crate) fn are_same_tree(one: &Node, other: &Node) -> bool
                 info: _,
                 left,
                 right,
-            } => {
-                let Some(below) = joined(other, right) else {
-                    return false;
-                };
-                one = left;
-                other = below;
-            }
+            } => match other {
+                Node::Join {
+                    info: _,
+                    left: lefts,
+                    right: rights,
+                } => {
+                    if !are_same_tree(right, rights) {
+                        return false;
+                    }
+                    one = left;
+                    other = lefts;
+                }
+                _ => return false,
+            },
             Node::Union {
                 info: _,
                 left,
                 right,
-            } => {
-                let Some(below) = united(other, right) else {
-                    return false;
-                };
-                one = left;
-                other = below;
-            }
+            } => match other {
+                Node::Union {
+                    info: _,
+                    left: lefts,
+                    right: rights,
+                } => {
+                    if !are_same_tree(right, rights) {
+                        return false;
+                    }
+                    one = left;
+                    other = lefts;
+                }
+                _ => return false,
+            },
         }
     }
 }
 
 // Whether a tree is the fetch of a metric.
 fn is_fetch(tree: &Node, schema: &Text, metric: &Text) -> bool
-    ensures same { IsTrue result → (info : NodeInfo) → info.columns ≡ columns_of (node_tree tree.now)
-        → bare_tree (node.Fetch info schema.now metric.now) ≡ bare_tree (node_tree tree.now) }
+    ensures same { IsTrue result → bare_tree (node_tree tree.now)
+        ≡ bare_tree (node.Fetch (info_of (node_tree tree.now)) schema.now metric.now) }
 {
     match tree {
         Node::Fetch {
@@ -122,9 +135,8 @@ fn is_fetch(tree: &Node, schema: &Text, metric: &Text) -> bool
 
 // What flows into a tree that is such a filter.
 fn filtered<'a>(tree: &'a Node, by: &Predicate) -> Option<&'a Node>
-    ensures same { IfSome result (λ below. (info : NodeInfo) (first : NodeTree) → info.columns ≡ columns_of (node_tree tree.now)
-        → bare_tree first ≡ bare_tree (node_tree below.now)
-        → bare_tree (node.Filter info (predicate_tree by.now) first) ≡ bare_tree (node_tree tree.now)) }
+    ensures same { IfSome result (λ below. bare_tree (node_tree tree.now)
+        ≡ bare_tree (node.Filter (info_of (node_tree tree.now)) (predicate_tree by.now) (node_tree below.now))) }
 {
     match tree {
         Node::Filter {
@@ -144,9 +156,8 @@ fn filtered<'a>(tree: &'a Node, by: &Predicate) -> Option<&'a Node>
 
 // What flows into a tree that is such an alignment.
 fn aligned(tree: &Node, by: Aligner) -> Option<&Node>
-    ensures same { IfSome result (λ below. (info : NodeInfo) (first : NodeTree) → info.columns ≡ columns_of (node_tree tree.now)
-        → bare_tree first ≡ bare_tree (node_tree below.now)
-        → bare_tree (node.Align info by first) ≡ bare_tree (node_tree tree.now)) }
+    ensures same { IfSome result (λ below. bare_tree (node_tree tree.now)
+        ≡ bare_tree (node.Align (info_of (node_tree tree.now)) by (node_tree below.now))) }
 {
     match tree {
         Node::Align {
@@ -160,9 +171,8 @@ fn aligned(tree: &Node, by: Aligner) -> Option<&Node>
 
 // What flows into a tree that is such a grouping.
 fn grouped<'a>(tree: &'a Node, by: &Positions, with: &Aggregates) -> Option<&'a Node>
-    ensures same { IfSome result (λ below. (info : NodeInfo) (first : NodeTree) → info.columns ≡ columns_of (node_tree tree.now)
-        → bare_tree first ≡ bare_tree (node_tree below.now)
-        → bare_tree (node.GroupBy info by.now with.now first) ≡ bare_tree (node_tree tree.now)) }
+    ensures same { IfSome result (λ below. bare_tree (node_tree tree.now)
+        ≡ bare_tree (node.GroupBy (info_of (node_tree tree.now)) by.now with.now (node_tree below.now))) }
 {
     match tree {
         Node::GroupBy {
@@ -171,7 +181,7 @@ fn grouped<'a>(tree: &'a Node, by: &Positions, with: &Aggregates) -> Option<&'a 
             with: folds,
             input,
         } => {
-            if *by == *places && *with == *folds {
+            if *by == *places && are_same_folds(with.as_slice(), folds.as_slice()) {
                 Some(input)
             } else {
                 None
@@ -183,9 +193,8 @@ fn grouped<'a>(tree: &'a Node, by: &Positions, with: &Aggregates) -> Option<&'a 
 
 // What flows into a tree that computes such items.
 fn computed<'a>(tree: &'a Node, items: &[Item]) -> Option<&'a Node>
-    ensures same { IfSome result (λ below. (info : NodeInfo) (first : NodeTree) → info.columns ≡ columns_of (node_tree tree.now)
-        → bare_tree first ≡ bare_tree (node_tree below.now)
-        → bare_tree (node.Value info (map item_tree items.now) first) ≡ bare_tree (node_tree tree.now)) }
+    ensures same { IfSome result (λ below. bare_tree (node_tree tree.now)
+        ≡ bare_tree (node.Value (info_of (node_tree tree.now)) (map item_tree items.now) (node_tree below.now))) }
 {
     match tree {
         Node::Value {
@@ -205,9 +214,8 @@ fn computed<'a>(tree: &'a Node, items: &[Item]) -> Option<&'a Node>
 
 // What flows into a tree that is such a top.
 fn cut(tree: &Node, most: u32, column: u32) -> Option<&Node>
-    ensures same { IfSome result (λ below. (info : NodeInfo) (first : NodeTree) → info.columns ≡ columns_of (node_tree tree.now)
-        → bare_tree first ≡ bare_tree (node_tree below.now)
-        → bare_tree (node.Top info most column first) ≡ bare_tree (node_tree tree.now)) }
+    ensures same { IfSome result (λ below. bare_tree (node_tree tree.now)
+        ≡ bare_tree (node.Top (info_of (node_tree tree.now)) most column (node_tree below.now))) }
 {
     match tree {
         Node::Top {
@@ -218,52 +226,6 @@ fn cut(tree: &Node, most: u32, column: u32) -> Option<&Node>
         } => {
             if most == *count && column == *place {
                 Some(input)
-            } else {
-                None
-            }
-        }
-        _ => None,
-    }
-}
-
-// The left side of a join that has such a right one.
-#[cycle(same_trees)]
-fn joined<'a>(tree: &'a Node, side: &Node) -> Option<&'a Node>
-    ensures same { IfSome result (λ below. (info : NodeInfo) (first : NodeTree) → info.columns ≡ columns_of (node_tree tree.now)
-        → bare_tree first ≡ bare_tree (node_tree below.now)
-        → bare_tree (node.Join info first (node_tree side.now)) ≡ bare_tree (node_tree tree.now)) }
-{
-    match tree {
-        Node::Join {
-            info: _,
-            left,
-            right,
-        } => {
-            if are_same_tree(side, right) {
-                Some(left)
-            } else {
-                None
-            }
-        }
-        _ => None,
-    }
-}
-
-// The left side of a union that has such a right one.
-#[cycle(same_trees)]
-fn united<'a>(tree: &'a Node, side: &Node) -> Option<&'a Node>
-    ensures same { IfSome result (λ below. (info : NodeInfo) (first : NodeTree) → info.columns ≡ columns_of (node_tree tree.now)
-        → bare_tree first ≡ bare_tree (node_tree below.now)
-        → bare_tree (node.Union info first (node_tree side.now)) ≡ bare_tree (node_tree tree.now)) }
-{
-    match tree {
-        Node::Union {
-            info: _,
-            left,
-            right,
-        } => {
-            if are_same_tree(side, right) {
-                Some(left)
             } else {
                 None
             }
@@ -288,11 +250,4 @@ fn are_same_items(items: &[Item], others: &[Item]) -> bool
         rest = left;
     }
     rest.is_empty()
-}
-
-// Whether two tables have the same columns.
-fn have_same_columns(columns: &[Shared<Column>], others: &[Shared<Column>]) -> bool
-    ensures same { IsTrue result → columns.now ≡ others.now }
-{
-    *columns == *others
 }
