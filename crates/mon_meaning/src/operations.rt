@@ -14,7 +14,7 @@ use mon_value::{Aggregates, Columns, OutOfMemory, Positions, Refusal, Table, Tim
 use mql_ast::Predicate;
 use std::alloc::Global;
 
-/// A table of these rows, with columns of its own.
+/// A table of these rows, with a list of its own of the columns, which it shares.
 pub fn table_of(alloc: Global, columns: &Columns, rows: TimedRows) -> Result<Table, OutOfMemory>
     ensures table { IfOk result (λ table. table ≡ record { columns = columns.now; rows = rows }) }
 {

@@ -32,6 +32,7 @@ loop-cell-preserved c =
     let own = cond column.key (cell ∷ []) [] in
     record {
       whole = ap (λ (all : List Value). all ++ key_cells more left) c.in_ok-push_key-in-Some-split_first.ensures.added
+          ∙ ap (λ (x : Column). (keys ++ cond x.key (cell ∷ []) []) ++ key_cells more left) c.deref.ensures
           ∙ append_assoc keys own (key_cells more left)
           ∙ ap (λ (all : List Value). keys ++ all) (sym (key_cells-cons column more cell left))
           ∙ sym (ap (λ (columns : List Column). keys ++ key_cells columns (cell ∷ left)) split)
