@@ -1,4 +1,5 @@
-use Rattle.std.proofs.Common.{◌≡◌, ◌∙◌, ◌≤◌, ◌<◌, ◌+◌, ◌*◌, ◌++◌, ◌∷◌, [], ℕ, List, Bor, sym, ap, subst, rules, arith}
+use Rattle.std.proofs.Common.{◌≡◌, ◌∙◌, ◌≤◌, ◌<◌, ◌+◌, ◌*◌, ◌++◌, ◌∷◌, [], ℕ, List, Bor, IfErr, OnOk, refl, sym, ap, subst, rules, arith}
+use Rattle.std.proofs.lemmas.Result.{IfOk-weaker}
 use Rattle.std.proofs.lemmas.List.{map-append}
 use Rattle.mon_value.specs.declared.tables.TimedRow.{TimedRow}
 use Rattle.mql_types.specs.Nodes.{NodeTree, node_tree}
@@ -13,6 +14,7 @@ use Rattle.mon_meaning.specs.within.Readiness.{IsNodeReady}
 use Rattle.mon_meaning.specs.within.SeriesMeaning.{load_by_series, rows_by_series}
 use Rattle.mon_meaning.proofs.OperationLemmas.{can_operate}
 use Rattle.mon_meaning.proofs.PathLemmas.{ready_below}
+use Rattle.mon_meaning.proofs.SameTreeLemmas.{same_load, same_rows}
 use Rattle.mon_meaning.proofs.WalkLemmas.{Walk, next_step, source_over, step_over, walk_on}
 use Rattle.mon_meaning.proofs.evaluation.+evaluation.Goals as goal
 
@@ -115,3 +117,29 @@ rows_of-loop-node-preserved t c =
           c.rows_above.new.meter.load step c.in_ok-rows-2.ensures.rows c.in_ok-rows-2.ensures.counted;
       limit = c.in_ok-rows-2.ensures.limit ∙ c.loop-node.invariant.limit;
     }
+
+pub right_rows-returns-then-are_same_tree-clause-rows : goal.right_rows-returns-then-are_same_tree-clause-rows
+right_rows-returns-then-are_same_tree-clause-rows t c =
+    let same : c.args.rows.now ≡ rows_by_series c.args.setting.now.grid (node_tree c.args.right.now)
+    (all_held c.args.setting.now.series.now) =
+    c.requires.rows ∙ same_rows c.args.setting.now.grid (all_held c.args.setting.now.series.now)
+    (node_tree c.args.left.now) (node_tree c.args.right.now) (c.if-are_same_tree.ensures.same refl) in
+    IfOk-weaker c.copied_rows.result _ _ (λ rows is. is ∙ same) c.copied_rows.ensures.rows
+
+pub right_rows-returns-then-are_same_tree-clause-counted : goal.right_rows-returns-then-are_same_tree-clause-counted
+right_rows-returns-then-are_same_tree-clause-counted t c =
+    let same : c.args.load ≡ load_by_series c.args.setting.now.grid (node_tree c.args.right.now)
+    (all_held c.args.setting.now.series.now) =
+    c.requires.load ∙ same_load c.args.setting.now.grid (all_held c.args.setting.now.series.now)
+    (node_tree c.args.left.now) (node_tree c.args.right.now) (c.if-are_same_tree.ensures.same refl) in
+    subst (λ (load : ℕ). OnOk c.copied_rows.result (c.copied_rows.new.meter.load ≡ c.args.meter.now.load + load)) same
+    c.copied_rows.ensures.counted
+
+pub right_rows-returns-then-are_same_tree-clause-over : goal.right_rows-returns-then-are_same_tree-clause-over
+right_rows-returns-then-are_same_tree-clause-over t c =
+    let same : c.args.load ≡ load_by_series c.args.setting.now.grid (node_tree c.args.right.now)
+    (all_held c.args.setting.now.series.now) =
+    c.requires.load ∙ same_load c.args.setting.now.grid (all_held c.args.setting.now.series.now)
+    (node_tree c.args.left.now) (node_tree c.args.right.now) (c.if-are_same_tree.ensures.same refl) in
+    subst (λ (load : ℕ). IfErr c.copied_rows.result (TellsOver c.args.meter.now.limit (c.args.meter.now.load + load)))
+    same c.copied_rows.ensures.over
