@@ -87,10 +87,6 @@ true_alike whole v w was seen own held exact joined = record {
   joined = joined;
 }
 
--- what has no purse keeps nothing, and a plain view owns nothing
-nothing_kept : (kept : Kept) (P : Type 0) → Contains (kept_in_purse None) kept → P
-nothing_kept kept P has = absurd (contains_none kept has)
-
 noted_number : (n h l : ℕ) (o : Option Purse) → in_purse (times_number n) (option_map (with_note h l) o)
     ≡ in_purse (times_number n) o
 noted_number n h l None = refl

@@ -51,10 +51,3 @@ pub entries_longer : (runs : List Run) (last longer : Run) (entry : Kept)
 entries_longer runs last longer entry is =
     ap (λ own. flat_map run_entries runs ++ own) is
     ∙ sym (append_assoc (flat_map run_entries runs) (run_entries last) (entry ∷ []))
-
--- an entry begins a run behind the last one
-pub entries_more : (runs : List Run) (last next : Run) (entry : Kept) → run_entries next ≡ entry ∷ []
-    → entries_of (runs ++ last ∷ []) next ≡ entries_of runs last ++ entry ∷ []
-entries_more runs last next entry is =
-    (λ i. flat_map-append run_entries runs (last ∷ []) i ++ is i)
-    ∙ ap (λ own. (flat_map run_entries runs ++ own) ++ entry ∷ []) (append-nil (run_entries last))

@@ -36,16 +36,6 @@ put_series replicas replica row known can is told = (
   sym (ap (λ (held : Option (List Row)). has_row_of row.key (rows_if_kept held)) can.1) ∙ sym is ∙ told,
 )
 
-pub found_known : {X : Type 0} (found : Option X) (Known : Type 0) → IfSome found (λ x. Known) → is_some found ≡ true
-    → Known
-found_known None Known known some = absurd cc
-found_known (Some x) Known known some = known
-
-pub told_of_end : (found : Option KeptSeries) (last : Option ℤ) → option_map (λ found. found.last) found ≡ last
-    → is_some found ≡ is_some last
-told_of_end None last is = ap is_some is
-told_of_end (Some found) last is = ap is_some is
-
 none_left : (own raised : Bool) → (own ≡ true → raised ≡ true) → (own && not raised) ≡ false
 none_left true raised all = ap not (all refl)
 none_left false raised all = refl

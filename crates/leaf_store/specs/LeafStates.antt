@@ -62,17 +62,6 @@ leaf_with_entry leaf entry = record {
   settled = is_switch entry && leaf.settled;
 }
 
--- a leaf to which a row came, which is in its series at once
-abbrev pub leaf_with_put : LeafView → Entry → LeafView
-leaf_with_put leaf entry =
-    record {
-      schemas = leaf.schemas;
-      buckets = leaf.buckets;
-      history = leaf.history ++ entry ∷ [];
-      promised = leaf.promised;
-      settled = true;
-    }
-
 -- the rows of a replica, if it was opened
 abbrev pub opened_rows : Range → Slot → List Entry → Option (List Row)
 opened_rows range slot history = if is_opened range slot history then Some (replica_rows range slot history) else None

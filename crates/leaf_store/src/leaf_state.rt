@@ -11,15 +11,15 @@ ghost use Rattle.mon_value.specs.LeafHistories.{is_opened, is_switch, replica_ro
 ghost use Rattle.mon_value.specs.LeafHistories.{series_of};
 ghost use Rattle.mon_hints.specs.Hints.{history_buckets};
 ghost use Rattle.leaf_store.specs.LeafStates.{AreToRaise, key_buckets, is_unraised, new_leaf, opened_rows};
-ghost use Rattle.leaf_store.specs.LeafStates.{leaf_with_entry, leaf_with_put, with_promised, with_settled, HasNumber};
+ghost use Rattle.leaf_store.specs.LeafStates.{leaf_with_entry, with_promised, with_settled, HasNumber};
 ghost use Rattle.leaf_store.specs.within.Follows.{CanTakeRow};
 
 use crate::fresh::{FreshEntry, behind, clear, in_front};
 use crate::guess::Guess;
 use crate::kept::{Kept, KeptEntries};
-use crate::raised::{add_row, key_set, left_of, raise_unknown};
+use crate::raised::{key_set, left_of, raise_unknown};
 use crate::replays::{push_all_brought, push_held, put_behind, rows_kept, settle_entries};
-use crate::replicas::{Replica, Replicas, find_next, is_new, put_copy, rows_of, takes};
+use crate::replicas::{Replica, Replicas, find_next, is_new, rows_of, takes};
 use crate::slot_rows::SlotRows;
 use mon_hints::{BucketSet, Buckets};
 use mon_schema::Schemas;
@@ -167,21 +167,6 @@ impl LeafState {
         ensures rows { option_copied result ≡ opened_rows range slot self.now.history }
     {
         rows_of(&self.replicas, Replica { range, slot })
-    }
-
-    /// The end of the last point that a replica has of a series. A row of that series that comes next finds it without
-    /// looking it up.
-    pub fn last_end(&mut self, range: Range, slot: Slot, key: &Shared<SeriesKey>) -> Option<i64>
-        requires settled { IsTrue self.old.settled }
-        requires opened { is_opened range slot self.old.history ≡ true }
-        ensures last { result ≡ last_end (points_of key.now (replica_rows range slot self.old.history)) }
-        ensures kept { self.new ≡ self.old }
-    {
-        let replica = Replica { range, slot };
-        let Some(found) = find_next(&self.replicas, replica, key, &mut self.guess) else {
-            return None;
-        };
-        Some(found.last)
     }
 
     /// The number that a series has among those of its replica, where a row of it was brought into the replica's
@@ -346,47 +331,6 @@ impl LeafState {
         ) {
             self.fresh.push_reserved(FreshEntry { entry, series });
         }
-    }
-
-    /// Puts a row to a replica, and with it all that is left into the series of their replicas. Where memory runs out
-    /// nothing changes.
-    pub fn put(&mut self, pass: u64, range: Range, slot: Slot, row: &Row) -> Result<(), OutOfMemory>
-        requires follows { IsWellFormed (self.old.history ++ Entry.Put pass range slot row.now ∷ []) }
-        ensures put { OnOk result (self.new ≡ leaf_with_put self.old (Entry.Put pass range slot row.now)) }
-        ensures kept { OnErr result (self.new ≡ self.old) }
-    {
-        settle_entries(
-            self.alloc,
-            &mut self.replicas,
-            &mut self.kept,
-            self.fresh.as_slice(),
-            &mut self.moved,
-            self.guess,
-        )?;
-        self.kept.reserve_one()?;
-        let replica = Replica { range, slot };
-        let put = put_copy(
-            self.alloc,
-            &mut self.replicas,
-            replica,
-            row,
-            None,
-            self.guess,
-        )?;
-        add_row(
-            &mut self.raised,
-            &self.schemas,
-            self.buckets,
-            row,
-            put.known,
-        );
-        self.kept.push(Kept::Put {
-            pass,
-            replica: put.replica,
-            row: put.row,
-        });
-        self.settled = true;
-        Ok(())
     }
 
     /// Moves the rows of every entry that was applied into the series of their replicas. Where memory runs out the

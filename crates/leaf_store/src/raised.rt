@@ -94,25 +94,6 @@ fn add_entry(raised: &mut BucketSet, schemas: &Schemas, buckets: u32, entry: &En
     }
 }
 
-/// Adds the buckets of a row's series, unless it is known.
-pub(crate) fn add_row(
-    raised: &mut BucketSet,
-    schemas: &Schemas,
-    buckets: u32,
-    row: &Row,
-    known: bool,
-)
-    requires some { 0 < buckets }
-    requires most { buckets ≤ MOST_BUCKETS }
-    ensures added { known ≡ false → AddsBuckets (is_set raised.old.words) (is_set raised.new.words)
-        (rows_buckets (key_buckets buckets schemas.now) (row.now ∷ [])) }
-    ensures kept { IsTrue known → is_set raised.new.words ≡ is_set raised.old.words }
-{
-    if !known {
-        add_key(raised, schemas, buckets, &row.key);
-    }
-}
-
 // Adds the buckets of the series of rows.
 fn add_rows(raised: &mut BucketSet, schemas: &Schemas, buckets: u32, rows: &[Row])
     requires some { 0 < buckets }

@@ -81,13 +81,3 @@ still_refused config what content know fault suits none cause = record {
   };
   prints = refl;
 }
-
--- a line that asks owes what its question does, whatever stands in its content
-pub as_line : {F : Type 0} (config : Config) (what asked : LineForm) (content : List ℕ) (before after : Knowledge)
-    (result : Result LineRan F) → what ≡ asked
-    → IfOk result (λ ran. (content : List ℕ)
-    → LineWrote config (ran_line asked content ran.trace) ran.text before after)
-    → IfOk result (λ ran. LineWrote config (ran_line what content ran.trace) ran.text before after)
-as_line config what asked content before after (Ok ran) same wrote =
-    subst (λ w. LineWrote config (ran_line w content ran.trace) ran.text before after) (sym same) (wrote content)
-as_line config what asked content before after (Err fault) same wrote = tt

@@ -15,14 +15,6 @@ module _ {K L V A : Type 0} (same : K → K → Bool) (alike : L → L → Bool)
   found_by true value rest = refl
   found_by false value rest = refl
 
-  -- what a look-up finds
-  pub lookup-groups : (key : K) (entries : List (K × V))
-      → lookup (alike (seen key)) (groups entries) ≡ option_map items (lookup (same key) entries)
-  lookup-groups key [] = refl
-  lookup-groups key (entry ∷ entries) =
-      (λ i. cond (sym (agree key entry.0) i) (Some (items entry.1)) (lookup-groups key entries i))
-      ∙ sym (found_by (same key entry.0) entry.1 (lookup (same key) entries))
-
   some_same : (x y : V) → Some x ≡ Some y → x ≡ y
   some_same x y e = cc
 

@@ -101,25 +101,6 @@ module _ (typed : TypedTree) (some others : List Row) (moment : ℤ)
       ∙ loads_in_order grid typed.tree (points_by_series some) (points_by_series others) same
       ∙ part_load grid typed.tree (points_by_series others) others refl
 
-  refused_in_order : (limit : ℕ) (refused : Refusal OverLimit) → IsRefusedBy typed some moment limit refused
-      → IsRefusedBy typed others moment limit refused
-  refused_in_order limit (refusal.Fault over) is = record {
-    above = is.above;
-    most = omega (arith, is.most, load_in_order);
-  }
-  refused_in_order limit refusal.OutOfMemory is = tt
-
-  -- an answer over rows is one over those of their series in another order
-  pub answer_in_order : (limit : ℕ) (result : Result Table (Refusal OverLimit)) → IsAnswer typed some moment limit
-      result
-      → IsAnswer typed others moment limit result
-  answer_in_order limit (Ok table) meant = record {
-    columns = meant.columns;
-    rows = IsPermutation-trans _ _ _ (IsPermutation-sym (meaning typed some moment) _ meaning_in_order) meant.rows;
-    within = omega (arith, meant.within, load_in_order);
-  }
-  answer_in_order limit (Err refused) is = refused_in_order limit refused is
-
 -- ---- what holds of each row
 
 module _ (P : Row → Type 0) where
@@ -183,15 +164,3 @@ module _ (P : Row → Type 0) where
   less key row rows all =
       let b = same_series key row.key in
       less_by key row rows b (subst (OfPoints key) (points_with key row rows b refl) all)
-
-  from_series : (keys : List SeriesKey) (rows : List Row)
-      → AllByRecursion (λ (row : Row). has_series row.key keys ≡ true) rows
-      → ((key : SeriesKey) → has_series key keys ≡ true → OfPoints key (points_of key rows)) → AllByRecursion P rows
-  from_series keys [] there all = tt
-  from_series keys (row ∷ rows) there all =
-      let itself : same_series row.key row.key ≡ true = (same_series-Decides row.key row.key).1 refl in
-      let own : OfPoints row.key (with_row row.key row rows true) =
-      subst (OfPoints row.key) (points_with row.key row rows true itself) (all row.key there.0) in (
-        own.0,
-        from_series keys rows there.1 (λ key has. less key row rows (all key has)),
-      )

@@ -400,13 +400,6 @@ unread {before} files asked ends written = record {
 
 -- ---- what a write leaves
 
--- where a text was written in part, the stop is that of a failed write
-pub cut_part : (result : Result ⊤ Stop) (P : Stop → Type 0) {text : List ℕ} {mid after : Progress}
-    → IfErr result (λ stopped. WriteStops text stopped mid after) →
-    (WroteFront text mid after → Rose mid.sink.faults after.sink.faults → P stop.WriteFailed) → IfErr result P
-cut_part (Ok unit) P stops then = tt
-cut_part (Err stopped) P stops then = subst P (sym stops.failed) (then stops.front stops.rose)
-
 pub err_weaker : {T : Type 0} (result : Result T Stop) (P Q : Stop → Type 0) → ((stopped : Stop) → P stopped
     → Q stopped) → IfErr result P → IfErr result Q
 err_weaker (Ok value) P Q weaker holds = tt

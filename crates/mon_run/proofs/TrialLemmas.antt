@@ -67,20 +67,6 @@ trial_said code status traces printed folder before after follows =
 
 -- ---- texts
 
--- a text was written whole
-pub text_written : (status : ℕ) (text : List ℕ) (folder : FolderState) (ends : List LineTrace) (before after : SinkState)
-    → Takes text before after
-    → Follows (ending status text) status (progress folder before ends) (progress folder after ends)
-text_written status text folder ends before after takes = inl (
-  refl,
-  record {
-    files = refl;
-    asked = sym (append-nil folder.asked);
-    ends = sym (append-nil ends);
-    wrote = takes ∙ ap (λ more. written_then more before.written) (sym (append-nil text));
-  },
-)
-
 -- a front of it
 pub text_cut : (status : ℕ) (text : List ℕ) (folder : FolderState) (ends : List LineTrace) (before after : SinkState)
     → TakesFront text before after → Rose before.faults after.faults

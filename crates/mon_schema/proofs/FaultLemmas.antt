@@ -38,16 +38,3 @@ metric_named-free held metric h =
     (neither (is_some (metric_named metric.name held.metrics)) _
     (past_third (is_metric_over held metric) (not (is_metric_named metric)) (is_metric_taken held metric)
     _ _ _ _ (λ e. cc) (λ e. cc) (λ e. cc) h))
-
--- a metric more at the end of a map
-pub held_more : (metrics : List MetricSchema) (metric : MetricSchema) → AreMetricsHeld metrics → IsHeld metric
-    → AreMetricsHeld (metrics ++ metric ∷ [])
-held_more [] metric all one = (one, tt)
-held_more (first ∷ metrics) metric all one = (all.0, held_more metrics metric all.1 one)
-
--- a target schema more at the end of a map
-pub located_more : (targets : List TargetSchema) (schema : TargetSchema) → AllTellLocations targets
-    → TellsLocation schema
-    → AllTellLocations (targets ++ schema ∷ [])
-located_more [] schema all one = (one, tt)
-located_more (first ∷ targets) schema all one = (all.0, located_more targets schema all.1 one)

@@ -118,12 +118,3 @@ module _ {S : Type 0} where
         ap named_entries (is ∙ insert_entry-new same_key m name made none)
         ∙ named_entries-append m.entries ((name, made) ∷ [])
         ∙ (λ i. done ++ (names i, mades i) ∷ [])
-
-  -- what was copied and what is still to be copied are all entries, before a copy and after it
-  pub copied_more : (done new : List (Entry S)) (key : Vec ℕ Global) (schema : S) (rest all : List (Entry S))
-      → named_entries new ≡ named_entries done ++ (key.items, schema) ∷ []
-      → named_entries done ++ named_entries ((key, schema) ∷ rest) ≡ named_entries all
-      → named_entries new ++ named_entries rest ≡ named_entries all
-  copied_more done new key schema rest all put whole =
-      ap (λ entries. entries ++ named_entries rest) put
-      ∙ append_assoc (named_entries done) ((key.items, schema) ∷ []) (named_entries rest) ∙ whole

@@ -29,9 +29,6 @@ abbrev IsClosed : Option ℕ → List (List ℕ) → Type 0
 IsClosed None lines = Unit {0}
 IsClosed (Some count) lines = has_end lines ≡ true
 
-end_word : List ℕ
-end_word = codes "end"
-
 abbrev is_end : List ℕ → Bool
 is_end line = same_text line (codes "end")
 

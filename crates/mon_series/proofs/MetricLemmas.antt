@@ -72,18 +72,6 @@ same_set (e ∷ index) (suc at) numbers same metric =
     (lookup (same_text metric) index) refl
     (same_set index at numbers same metric)
 
-pub same_new : (index : Index) (key : List ℕ) (numbers : RoomList ℕ) → numbers.items ≡ [] → SameNumbers index
-    (index ++ (key, numbers) ∷ [])
-same_new [] key numbers none metric = by (same_text metric key)
-  where
-    by : (b : Bool) → listed_numbers (cond b (Some numbers) None) ≡ []
-    by true = none
-    by false = refl
-same_new (e ∷ index) key numbers none metric =
-    listed_same (same_text metric e.0) e.1 e.1 (lookup (same_text metric) (index ++ (key, numbers) ∷ []))
-    (lookup (same_text metric) index) refl
-    (same_new index key numbers none metric)
-
 -- ---- a number more
 
 taken_here : (b : Bool) (before after : RoomList ℕ) (number : ℕ) (rest : Option (RoomList ℕ)) → after.items

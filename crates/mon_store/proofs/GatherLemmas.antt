@@ -50,26 +50,6 @@ owns_on a b c h k = record {
   holds = k.holds ∙ h.holds;
 }
 
-called_same : (leaf : Leaf) (history : List Entry) (before after : Knowledge) → HasCalled leaf history [] before after
-    → after.purse.rooms ≡ before.purse.rooms → OwnsTheSame before after
-called_same leaf history before after called rooms = record {
-  fronts = called.fronts;
-  own = called.own ∙ none_kept leaf before.purse.own;
-  met = called.met;
-  stock = called.stock;
-  lost = called.lost;
-  rooms = rooms;
-  holds = called.holds;
-}
-
-pub gathered_same : (leaf : Leaf) (range : Range) (slot : Slot) (cut : ℕ) (rows : List Row) (before after : Knowledge)
-    → HasGathered leaf range slot cut rows before after → OwnsTheSame before after
-gathered_same leaf range slot cut rows before after h = called_same leaf h.history before after h.called h.rooms_are
-
-pub looked_same : (leaf : Leaf) (before after : Knowledge) → HasLooked leaf before.purse.rooms before after
-    → OwnsTheSame before after
-looked_same leaf before after h = called_same leaf h.history before after h.called h.rooms_are
-
 -- ---- rows, one slot after another
 
 pub none_handed : (n most : ℕ) → min n most ≡ min (n + 0) most

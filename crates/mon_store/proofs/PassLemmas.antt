@@ -41,19 +41,6 @@ numbered_pass setting know h borne = record {
   borne_out = borne;
 }
 
--- and the one that it was split off is as before
-pub after_pass : (setting : Setting) (know : Knowledge) → IsPass setting know
-    → IsPurseBorneOut (after_numbering know).seen (after_numbering know).purse
-    → IsPass setting (after_numbering know)
-after_pass setting know h borne = record {
-  number = h.number;
-  holds = h.holds;
-  rooms = h.rooms;
-  begun = h.begun;
-  exact = h.exact;
-  borne_out = borne;
-}
-
 both_none : {X : Type 0} (xs ys : List X) → xs ≡ [] → ys ≡ [] → xs ++ ys ≡ []
 both_none xs ys a b = (λ i. a i ++ b i)
 

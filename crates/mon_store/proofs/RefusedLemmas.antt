@@ -113,14 +113,6 @@ given_back leaves range history mid after back = record {
   handed = back.met.handed;
 }
 
--- a mark that is decided and took nothing missed the row
-missed_one : (mark : Mark) (f : Fate) → is_decided f ≡ true → has_taken f ≡ false
-    → (cut : ℕ) × (f ≡ fate.Missed cut)
-missed_one mark fate.Waiting d n = absurd cc
-missed_one mark fate.Ready d n = absurd cc
-missed_one mark fate.Took d n = absurd cc
-missed_one mark (fate.Missed cut) d n = (cut, refl)
-
 put_none : (pass : ℕ) (range : Range) (row : Row) (mark : Mark) (f : Fate) (kept : Kept) → has_taken f ≡ false
     → with_put_of pass range row mark f kept ≡ kept
 put_none pass range row mark fate.Waiting kept n = refl

@@ -196,9 +196,6 @@ module _ (setting : Setting) (before after : Knowledge) (is : IsPass setting bef
     pub new_number : (hand_of after.purse).own ≡ (hand_of before.purse).own
     new_number = ap (λ o. option_map (λ (k : Kept). k.number) o) own ∙ ap Some number ∙ sym is.number
 
-    numbers_same : pass_of after ≡ pass_of before
-    numbers_same = ap (number_or 0) new_number
-
     pub written_pass : IsPass setting after
     written_pass = record {
       number = number_still (hand_of after.purse).own (hand_of before.purse).own (pass_of before) new_number is.number;

@@ -95,9 +95,3 @@ module _ (held : SchemaLists) (zones : List ZoneSpec) (target : Target) (range :
 
   pub is_placed : range_for held zones target ≡ Some range → IsPlaced held zones target range
   is_placed found = at_location (location_of held target) refl found
-
-  -- it is one of the zones'
-  pub range_known : range_for held zones target ≡ Some range → range.0 < length (ranges_in zones)
-  range_known found =
-      let within = slice_get_within (range_zones zones) range.0 _ (is_placed found).zoned in
-      omega (arith, within, length-zones_of (λ (zone : ZoneSpec). zone.ranges) 0 zones)

@@ -5,7 +5,6 @@ pub mod Histories
 pub mod LeafHistories
 pub mod ListItems
 pub mod ListLends
-pub mod Notes
 pub mod Order
 pub mod Parts
 pub mod Rooms

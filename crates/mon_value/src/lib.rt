@@ -45,7 +45,7 @@ pub use positions::{
 };
 pub use refusals::{OutOfMemory, Refusal};
 pub use rooms::RoomListOf;
-pub use rows::{Point, Points, Row, RowList, SeriesKey, Target};
+pub use rows::{Point, Row, RowList, SeriesKey, Target};
 pub use schemas::{Field, Fields, Kind, MetricSchema, MetricSchemas, TargetSchema, TargetSchemas};
 pub use shared::Shared;
 pub use tables::{Cells, Positions, Table, TimedRow, TimedRows};

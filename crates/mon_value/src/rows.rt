@@ -37,9 +37,6 @@ pub struct Row {
     pub point: Point,
 }
 
-/// Points of one series.
-pub type Points = ListOf<Point>;
-
 /// Rows of any series.
 pub type RowList = ListOf<Row>;
 

@@ -340,12 +340,6 @@ series_wide target metric =
     (target_wide target.name 0 target.fields)
     (metric_wide metric.fields)
 
-get_same : {A : Type 0} (xs ys : List A) (place : ℕ) (x y : A) → slice_get xs place ≡ Some x
-    → slice_get (xs ++ ys) place ≡ Some y → slice_get xs place ≡ Some y
-get_same [] ys place x y e f = absurd (nothing_is x e)
-get_same (z ∷ xs) ys zero x y e f = f
-get_same (z ∷ xs) ys (suc place) x y e f = get_same xs ys place x y e f
-
 value_total : (by : Aligner) (metric : MetricSchema) (n : ℕ) → n ≤ 2 ^ 87
     → n ≤ 2 ^ (with_width (aligned_width by) (value_column metric)).total_bits
 value_total (aligner.Delta seconds) metric n h = h

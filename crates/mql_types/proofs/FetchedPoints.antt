@@ -217,11 +217,6 @@ value_small (type.Dist bounds) (value.Dist counts) e =
 
 -- ---- filters that name keys alone
 
-target_keys : (schema : List ℕ) (next : ℕ) (fields : List Field)
-    → AllByRecursion (λ (c : Column). c.key ≡ true) (target_columns schema next fields)
-target_keys schema next [] = tt
-target_keys schema next (f ∷ fs) = (refl, target_keys schema (next + 1) fs)
-
 key_test : (o : Option Column) → option_map_or (λ (c : Column). c.key) o false ≡ true → (c : Column) → o ≡ Some c
     → c.key ≡ true
 key_test None e c is = absurd cc

@@ -22,10 +22,6 @@ use Rattle.mql_types.specs.Nodes.{NodeTree, columns_of}
 use Rattle.mql_types.proofs.GroupSums.{group_sums_within}
 use Rattle.mon_value.proofs.PlainLemmas.{filter_map-few, filter-few}
 
-by_given : {A : Type 0} (o : Option A) (xs : List A) → length (cons_option o xs) ≤ length xs + 1
-by_given None xs = omega arith
-by_given (Some x) xs = omega arith
-
 count_ones_lem : {A : Type 0} (xs : List A) → sum_by (λ x. 1) xs ≡ length xs
 count_ones_lem [] = refl
 count_ones_lem (x ∷ xs) = sum_by-cons (λ x. 1) x xs ∙ ap (λ n. 1 + n) (count_ones_lem xs) ∙ omega arith

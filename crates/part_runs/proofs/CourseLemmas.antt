@@ -58,11 +58,6 @@ met_one way other before after met fronts same = subst
       met,
     )
 
-pub met_first : (way : Way) (ways : List Way) (before mid after : Knowledge) → HaveMet (way ∷ []) before mid
-    → HaveMet ways mid after → HaveMet (way ∷ ways) before after
-met_first way ways before mid after one rest =
-    (one.0, one.1, subst (λ know. HaveMet ways know after) one.2 rest)
-
 -- there is room for what each line comes to
 pub room_for : (rans : List LineRan) (ways : List Way) (count most : ℕ) → rans ≡ [] → length ways ≡ count
     → count ≤ most → length rans + length ways ≤ most
@@ -79,24 +74,8 @@ pub record AreBegun (count line : ℕ) (courses : List Way) (first know : Knowle
   pub seen : know.seen ≡ first.seen
   pub made : length courses ≡ line
 
-pub none_begun : (count : ℕ) (first : Knowledge) → CanSplit count first → AreBegun count 0 [] first first
-none_begun count first can =
-    let e : count - 0 ≡ count = omega arith in
-    record {
-      room = subst (λ n. CanSplit n first) (sym e) can;
-      all = ap (λ n. begun n first) e;
-      left = ap (λ n. after_begun n first) e;
-      seen = refl;
-      made = refl;
-    }
-
 one_less : (count line : ℕ) → line < count → count - line ≡ suc (count - (line + 1))
 one_less count line less = omega arith
-
-pub can_begin : (count line : ℕ) (courses : List Way) (first know : Knowledge) → line < count
-    → AreBegun count line courses first know → know.purse.stock.from < know.purse.stock.to
-can_begin count line courses first know less so = can_split_one (count - (line + 1)) know
-    (subst (λ n. CanSplit n know) (one_less count line less) so.room)
 
 pub one_more_begun : (count line : ℕ) (courses more : List Way) (way : Way) (first know next : Knowledge)
     → line < count → AreBegun count line courses first know → more ≡ courses ++ way ∷ [] → begun 1 know ≡ way ∷ []
@@ -114,14 +93,6 @@ one_more_begun count line courses more way first know next less so more_is is ne
       seen = so.seen;
       made = length-append courses (way ∷ []) ∙ ap (λ n. n + 1) so.made;
     }))
-
-pub all_begun : (count line : ℕ) (courses : List Way) (first know : Knowledge) → count ≤ line
-    → AreBegun count line courses first know → (courses ≡ begun count first) × (know ≡ after_begun count first)
-all_begun count line courses first know most so =
-    let e : count - line ≡ 0 = omega arith in (
-      sym (append-nil courses) ∙ ap (λ n. courses ++ begun n know) (sym e) ∙ so.all,
-      ap (λ n. after_begun n know) (sym e) ∙ so.left,
-    )
 
 -- ---- as lines run
 

@@ -99,22 +99,3 @@ module _ (config : Config) (before after : Knowledge) (state stands : StandingSt
   due_by ran traces is all =
       ap due_told is ∙ ap (λ (some : List Due). Some (Ok some)) all
       ∙ ap (λ (a : Result (List Due) DueFault). Some (due_outcome a)) (sym answer)
-
-  pub tick_did : (ran : LineRan) → TickRan config dues ran before after
-      → AloneDid config (form.Tick moment) content ran before after state stands
-  tick_did ran tick = record {
-    tells = tick_tells moment content dues ran tick;
-    due = due_by ran tick.traces tick.trace_is tick.all;
-    stood = stood ∙ ap (stands_behind state (form.Tick moment)) (sym tick.trace_is);
-  }
-
-  pub tick_answers : {E : Type 0} (result : Result LineRan E) → IfOk result (λ ran. TickRan config dues ran before after)
-      → IfOk result (λ ran. AloneDid config (form.Tick moment) content ran before after state stands)
-  tick_answers (Ok ran) tick = tick_did ran tick
-  tick_answers (Err failed) tick = tt
-
-  pub tick_stock : {E : Type 0} (result : Result LineRan E)
-      → IfOk result (λ ran. TickRan config dues ran before after)
-      → OnOk result (after.purse.stock ≡ before.purse.stock)
-  tick_stock (Ok ran) tick = tick.asked.stock
-  tick_stock (Err failed) tick = tt

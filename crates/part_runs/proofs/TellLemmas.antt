@@ -165,13 +165,3 @@ module _ {E : Type 0} (config : Config) (what : LineForm) (content : List ℕ) (
   answer_plain (Ok ran) did = (part_plain config know.seen known.seen (Alone (ran_line what content ran.trace))
       did.written).0
   answer_plain (Err e) did = tt
-
-  -- a line that may stand in a block did with the queries that stand what is to be done
-  pub answer_did_alone : (state : StandingState) → mark_of what ≡ mark.Acts → (answer : Result LineRan E)
-      → IfOk answer (λ ran. PartTells config (Alone (ran_line what content ran.trace)) (ran.text ∷ []) know known)
-      → IfOk answer (λ ran. is_ticked ran.trace ≡ false)
-      → IfOk answer (λ ran. AloneDid config what content ran know known state state)
-  answer_did_alone state acts (Ok ran) tells plain =
-      let due = acting_due config.schemas state what ran.trace acts plain in
-      record { tells = tells; due = due.0; stood = due.1 }
-  answer_did_alone state acts (Err e) tells plain = tt

@@ -99,12 +99,6 @@ points_flat key f [] = refl
 points_flat key f (x ∷ xs) =
     points_append key (f x) (flat_map f xs) ∙ ap (λ rest. points_of key (f x) ++ rest) (points_flat key f xs)
 
-pub points_together : (key : SeriesKey) (lists : List (List Row))
-    → points_of key (together lists) ≡ flat_map (points_of key) lists
-points_together key [] = refl
-points_together key (rows ∷ lists) =
-    points_append key rows (together lists) ∙ ap (λ rest. points_of key rows ++ rest) (points_together key lists)
-
 -- ---- the rows of ranges that resolved, by leaves
 
 -- a zone's number, and some of its leaves

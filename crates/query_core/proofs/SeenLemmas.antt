@@ -37,13 +37,6 @@ first_or : (n : ℕ) (found : Option SlotLeaf) (rest : List Resolved) → with_f
 first_or n None rest = refl
 first_or n (Some replica) rest = refl
 
-pub firsts_more : (made : List Resolved) (n : ℕ) (one : RangeSight) (rest : List RangeSight) (all : List Resolved)
-    → made ++ firsts_from n (one ∷ rest) ≡ all
-    → (made ++ with_first_replica n one.first []) ++ firsts_from (n + 1) rest ≡ all
-firsts_more made n one rest all e =
-    append_assoc made (with_first_replica n one.first []) (firsts_from (n + 1) rest)
-    ∙ ap (λ some. made ++ some) (first_or n one.first (firsts_from (n + 1) rest)) ∙ e
-
 -- ---- what is told
 
 abbrev range_of : Resolved → Range

@@ -58,14 +58,6 @@ use Rattle.query_core.specs.declared.looks.Look.{Look}
 
 -- ---- lists
 
-in_filter_by : {X : Type 0} (p : X → Bool) (first x : X) (xs : List X) (b : Bool) → p first ≡ b → (first ≡ x)
-    ⊎ Contains (filter p xs) x
-    → p x ≡ true → Contains (cond b (first ∷ filter p xs) (filter p xs)) x
-in_filter_by p first x xs true e (inl same) h = (zero, omega arith, same)
-in_filter_by p first x xs true e (inr there) h = Contains-append_right (first ∷ []) (filter p xs) x there
-in_filter_by p first x xs false e (inl same) h = absurd (let no : p x ≡ false = sym (ap p same) ∙ e in cc)
-in_filter_by p first x xs false e (inr there) h = there
-
 in_numbers : (base n i : ℕ) → i < n → Contains (range_with_len base n) (base + i)
 in_numbers base zero i lt = absurd (omega (arith, lt))
 in_numbers base (suc n) zero lt = (zero, omega arith, omega arith)

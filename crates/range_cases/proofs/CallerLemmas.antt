@@ -66,7 +66,3 @@ pub copied_none : {E : Type 0} (leaf : Leaf) (range : Range) (slot : Slot) (room
 copied_none leaf range slot rooms (Ok copy) before after done refused none =
     found_none leaf range slot copy before after done none
 copied_none leaf range slot rooms (Err fault) before after done refused none = refused.called.holds ∙ none
-
--- who meets another
-pub met_none : (mine theirs : List Range) → mine ≡ [] → theirs ≡ [] → mine ++ theirs ≡ []
-met_none mine theirs a b = λ i. a i ++ b i

@@ -18,16 +18,3 @@ begun_enter stage slot leaf asks is = lock_not (sym asks ∙ ap ask_of is)
   where
     lock_not : ask.Enter slot leaf ≡ ask.Lock → ⊥
     lock_not h = cc
-
-pub inside_begun : (stage : Stage) (slot : Slot) (leaf : Leaf) → ask_of stage ≡ ask.Enter slot leaf
-    → after stage (told.Up []) ≢ Locking
-inside_begun Locking slot leaf asks is = cc
-inside_begun (Reserving round) slot leaf asks is = reserving_not round.left asks
-  where
-    reserving_not : (left : List Mark) → reserve left ≡ ask.Enter slot leaf → ⊥
-    reserving_not [] h = cc
-    reserving_not (mark ∷ left) h = cc
-inside_begun (Entering round) slot leaf asks is = cc
-inside_begun (Inside round at_root in_zone) slot leaf asks is = cc
-inside_begun (Acking verdict) slot leaf asks is = cc
-inside_begun (Ended verdict) slot leaf asks is = cc

@@ -58,21 +58,6 @@ module _ (range : Range) (marks : List Mark) where
       → (some_took marks ≡ false) × (flat_map found_in_mark marks ≡ founds)
   unavailable_end founds e = unavailable_at founds (some_took marks) refl e
 
-  -- what the lock refuses is no end of it
-  pub old_no_end : (last : ℤ) → end.OldPoint last ≡ end_of range marks → ⊥
-  old_no_end last e = by (some_took marks) e
-    where
-      by : (b : Bool) → end.OldPoint last ≡ end_by b → ⊥
-      by true h = cc
-      by false h = cc
-
-  pub full_no_end : (count : ℕ) → end.RangeFull count ≡ end_of range marks → ⊥
-  full_no_end count e = by (some_took marks) e
-    where
-      by : (b : Bool) → end.RangeFull count ≡ end_by b → ⊥
-      by true h = cc
-      by false h = cc
-
   -- the machine that was told that it is done has ended so
   pub ended_so : (other : Range) (stage next : Stage) (e : WriteEnd) → stage ≡ Acking (Marked marks)
       → next ≡ after stage told.Done → other ≡ range → EndsSo other next e → e ≡ end_of range marks

@@ -81,20 +81,6 @@ same_just range history old new same just = record {
 
 -- ---- from the lock on
 
-pub looks_first : (range : Range) (begun : Knowledge) → IsLooking range begun.handed begun begun
-looks_first range begun = record {
-  fronts = (λ l. prefix_refl (leaf_history begun.seen l), λ r. prefix_refl (range_history begun.seen r));
-  same = λ slot leaf. record { opened = refl; rows = refl };
-  own = refl;
-  rooms = refl;
-  notes = ([], sym (append-nil begun.purse.notes));
-  holds = refl;
-  met = refl;
-  stock = refl;
-  lost = refl;
-  counted = refl;
-}
-
 module _ (range : Range) (n m : ℕ) (begun old new : Knowledge) (looking : IsLooking range n begun old)
     (begun_held : 0 < times_range range begun.purse.holds) (leaf : Leaf) (history : List Entry)
     (called : HasCalled leaf history [] old new) where

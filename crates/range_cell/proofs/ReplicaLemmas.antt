@@ -102,26 +102,6 @@ is_free history leaf free =
       left = ltb-true (length (opened_slots history)) MOST_SLOTS parts.2;
     }
 
-pub spent_is : (history : List RangeEntry) (leaf : Leaf) (count : ℕ) → denial_of history leaf ≡ Some (SlotsSpent count)
-    → count ≡ MOST_SLOTS
-spent_is history leaf count is =
-    by (slice_get (filter (is_on leaf) (serving history)) 0) (length (serving history)) (length (opened_slots history)) is
-  where
-    slots : (b : Bool) → cond {A = Option Denial} b None (Some (SlotsSpent MOST_SLOTS)) ≡ Some (SlotsSpent count)
-        → count ≡ MOST_SLOTS
-    slots true e = absurd cc
-    slots false e = cc
-
-    serves : (b c : Bool) → cond {A = Option Denial} b (cond c None (Some (SlotsSpent MOST_SLOTS)))
-        (Some ServesFully) ≡ Some (SlotsSpent count) → count ≡ MOST_SLOTS
-    serves true c e = slots c e
-    serves false c e = absurd cc
-
-    by : (first : Option SlotLeaf) (serve opened : ℕ) → denied_by first serve opened ≡ Some (SlotsSpent count)
-        → count ≡ MOST_SLOTS
-    by None serve opened e = serves (nat_lt serve MOST_REPLICAS) (nat_lt opened MOST_SLOTS) e
-    by (Some replica) serve opened e = absurd cc
-
 -- ---- on the leaf
 
 module _ (setting : Setting) (range : Range) (leaf : Leaf) (history : List RangeEntry) (know : Knowledge)

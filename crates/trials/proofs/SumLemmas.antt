@@ -32,12 +32,6 @@ pub with_cell : (count more : ℕ) (sum : Option ℤ) (cell : List ℕ) → coun
 with_cell count more (Some sum) cell less is = by_number count more sum (number_of cell) less is
 with_cell count more None cell less is = tt
 
--- a sum of few numbers may be one of more
-pub sum_of_more : (count more : ℕ) (sum : Option ℤ) → count ≤ more → IfSome sum (λ s. is_sum_of count s ≡ true)
-    → IfSome sum (λ s. is_sum_of more s ≡ true)
-sum_of_more count more (Some sum) less is = wider count more sum less is
-sum_of_more count more None less is = tt
-
 -- a line with a last cell is a row
 pub row_read : (sum : Option ℤ) (line cell : List ℕ) (lines : List (List ℕ)) → last_cell line ≡ Some cell
     → table_in sum (line ∷ lines) ≡ table_in (sum_with sum cell) lines

@@ -176,13 +176,3 @@ copied_there (Within rows [] (bucket ∷ in_zone)) e = absurd cc
 copied_there (Within rows [] []) e = absurd cc
 copied_there (Telling outcome) e = absurd cc
 copied_there (Over outcome) e = absurd cc
-
-pub copied_inside : (stage : CopyStage) → copy_ask_of stage ≡ ask.Put → is_some (rows_copied stage) ≡ true
-copied_inside Beginning e = absurd cc
-copied_inside (Copying founds []) e = absurd cc
-copied_inside (Copying founds (source ∷ left)) e = absurd cc
-copied_inside (Carrying rows) e = refl
-copied_inside (Nearing rows) e = refl
-copied_inside (Within rows at_root in_zone) e = refl
-copied_inside (Telling outcome) e = absurd cc
-copied_inside (Over outcome) e = absurd cc

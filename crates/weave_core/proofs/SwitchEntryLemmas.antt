@@ -22,6 +22,3 @@ switch_follows history down pass e is formed up few =
 switches : (down : Bool) (pass : ℕ) → is_switch (switch_of down pass) ≡ true
 switches true pass = refl
 switches false pass = refl
-
-pub entry_switches : (down : Bool) (pass : ℕ) (e : Entry) → e ≡ switch_of down pass → is_switch e ≡ true
-entry_switches down pass e is = ap is_switch is ∙ switches down pass

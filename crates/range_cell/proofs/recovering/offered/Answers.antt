@@ -1,4 +1,3 @@
 use Rattle.std.proofs.Common.{rules, ap, sym, subst, ◌∙◌}
 use Rattle.range_cell.specs.Recoveries.{IsDeniedAs}
-use Rattle.range_cell.proofs.ReplicaLemmas.{spent_is}
 use Rattle.range_cell.proofs.recovering.offered.Goals as goal

@@ -1,7 +1,7 @@
 use Rattle.std.proofs.Common.{◌≡◌, ◌∙◌, sym, subst}
 use Rattle.history_book.specs.Seats.{IsPurseBorneOut}
 use Rattle.know.specs.Knowledge.{Knowledge, after_numbering}
-use Rattle.mon_store.proofs.PassLemmas.{after_pass, numbered_pass}
+use Rattle.mon_store.proofs.PassLemmas.{numbered_pass}
 use Rattle.mon_store.proofs.stores.Store.pass.Goals as goal
 use Rattle.mon_store.specs.Passes.{IsPass}
 
