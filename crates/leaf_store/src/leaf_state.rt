@@ -144,7 +144,7 @@ impl LeafState {
         self.down
     }
 
-    /// How many entries the history has: fewer than 2^62, as they lie in memory. It is one that a leaf can have.
+    /// How many entries the history has: fewer than 2^62. It is one that a leaf can have.
     pub fn length(&self) -> u64
         ensures length { result ≡ length self.now.history }
         ensures short { result < 2 ^ 62 }
