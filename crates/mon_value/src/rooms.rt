@@ -1,5 +1,5 @@
 // The list for calls that promise to take no memory.
-ghost use Rattle.std.specs.Prelude.{◌≡◌, ◌+◌, ◌<◌, ◌≤◌, ◌++◌, ◌∷◌, [], length, slice_get, Some, IfOk, OnOk};
+ghost use Rattle.std.specs.Prelude.{◌≡◌, ◌+◌, ◌<◌, ◌≤◌, ◌/◌, ◌++◌, ◌∷◌, [], length, slice_get, Some, IfOk, OnOk};
 
 use crate::copying::{TryCopy, copied_items};
 use std::alloc::{AllocError, Global};
@@ -71,6 +71,7 @@ impl<T> RoomListOf<T> {
     /// quarter, so that at most a fifth of its memory lies idle.
     pub fn reserve_one(&mut self) -> Result<(), AllocError>
         ensures room { OnOk result (1 ≤ self.new.spare) }
+        ensures quarter { OnOk result (self.old.spare ≡ 0 → length self.old.items / 4 ≤ self.new.spare) }
         ensures kept { self.new.items ≡ self.old.items }
         ensures no_less { self.old.spare ≤ self.new.spare }
     {
@@ -93,6 +94,7 @@ impl<T> RoomListOf<T> {
 // For how many items more a full list of so many gets room.
 fn room_for_more(count: usize) -> usize
     ensures some { 1 ≤ result }
+    ensures quarter { count / 4 ≤ result }
 {
     FEW.max(count / 4)
 }
