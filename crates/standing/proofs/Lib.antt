@@ -3,3 +3,4 @@ pub mod DueLemmas
 pub mod MarkLemmas
 pub mod MomentLemmas
 pub mod NameLemmas
+pub mod QuietLemmas

@@ -5,6 +5,7 @@ ghost use Rattle.std.specs.List.{AllByRecursion, filter_map};
 ghost use Rattle.std.specs.Option.{option_copied};
 ghost use Rattle.std.specs.Prelude.{option_to_list};
 ghost use Rattle.standing.specs.DueLists as spec;
+ghost use Rattle.standing.specs.QuietMoments.{IsQuietUntil};
 
 use crate::faults::DueFault;
 use crate::marks::{Mark, due_marks};
@@ -32,12 +33,14 @@ pub(crate) fn due_list(
     last: Option<i64>,
     moment: i64,
     queries: &[StandingQuery],
+    next: u64,
 ) -> Result<Dues, OutOfMemory>
     requires lawful { AllByRecursion spec.HasPeriod queries.now }
+    requires quiet { AllByRecursion (IsQuietUntil last next) queries.now }
     requires moment { pos 0 ≤ℤ moment }
     ensures dues { IfOk result (λ dues. dues ≡ spec.due_list last moment queries.now) }
 {
-    let marks = due_marks(alloc, last, moment, queries)?;
+    let marks = due_marks(alloc, last, moment, queries, next)?;
     dues_of(alloc, queries, marks.as_slice())
 }
 
@@ -84,13 +87,15 @@ pub(crate) fn fault_of(
     last: Option<i64>,
     moment: i64,
     queries: &[StandingQuery],
+    next: u64,
 ) -> Option<DueFault>
     requires lawful { AllByRecursion spec.HasPeriod queries.now }
+    requires quiet { AllByRecursion (IsQuietUntil last next) queries.now }
     ensures fault { result ≡ spec.due_fault last moment queries.now }
 {
     match backwards(last, moment) {
         Some(fault) => Some(fault),
-        None => too_many(last, moment, queries),
+        None => too_many(last, moment, queries, next),
     }
 }
 
@@ -107,27 +112,52 @@ fn backwards(last: Option<i64>, moment: i64) -> Option<DueFault>
 }
 
 // Whether more would be due than may be.
-fn too_many(last: Option<i64>, moment: i64, queries: &[StandingQuery]) -> Option<DueFault>
+fn too_many(
+    last: Option<i64>,
+    moment: i64,
+    queries: &[StandingQuery],
+    next: u64,
+) -> Option<DueFault>
     requires lawful { AllByRecursion spec.HasPeriod queries.now }
+    requires quiet { AllByRecursion (IsQuietUntil last next) queries.now }
     ensures fault { result ≡ spec.too_many (spec.due_count last moment queries.now) }
 {
-    match room_left(last, moment, queries) {
+    match room_left(u64::from(MOST_DUE), last, moment, queries, next) {
         Some(_) => None,
         None => Some(DueFault::TooManyDue(MOST_DUE)),
     }
 }
 
-// How many more could be due, or `None` where more are than may be.
-fn room_left(last: Option<i64>, moment: i64, queries: &[StandingQuery]) -> Option<u64>
+// What is left of the room for queries that are due, or `None` where more are due than there is room for.
+fn room_left(
+    room: u64,
+    last: Option<i64>,
+    moment: i64,
+    queries: &[StandingQuery],
+    next: u64,
+) -> Option<u64>
     requires lawful { AllByRecursion spec.HasPeriod queries.now }
-    ensures left { MatchOption result (MOST_DUE < spec.due_count last moment queries.now)
-        (λ room. room + spec.due_count last moment queries.now ≡ MOST_DUE) }
+    requires quiet { AllByRecursion (IsQuietUntil last next) queries.now }
+    ensures left { MatchOption result (room < spec.due_count last moment queries.now)
+        (λ left. left + spec.due_count last moment queries.now ≡ room) }
 {
-    let mut room = u64::from(MOST_DUE);
-    for query in queries {
-        room = room.checked_sub(times_due(last, moment, query))?;
+    if moment.unsigned_abs() < next {
+        return Some(room);
     }
-    Some(room)
+    room_behind(room, last, moment, queries)
+}
+
+// The same, reckoned query by query.
+fn room_behind(room: u64, last: Option<i64>, moment: i64, queries: &[StandingQuery]) -> Option<u64>
+    requires lawful { AllByRecursion spec.HasPeriod queries.now }
+    ensures left { MatchOption result (room < spec.due_count last moment queries.now)
+        (λ left. left + spec.due_count last moment queries.now ≡ room) }
+{
+    let mut left = room;
+    for query in queries {
+        left = left.checked_sub(times_due(last, moment, query))?;
+    }
+    Some(left)
 }
 
 // How many times a query is due.

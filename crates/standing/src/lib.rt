@@ -5,6 +5,7 @@ mod dues;
 mod faults;
 mod marks;
 mod queries;
+mod quiet;
 mod texts;
 
 pub use dues::{Due, Dues, MOST_DUE};

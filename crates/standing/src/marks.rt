@@ -1,7 +1,9 @@
 // When which queries are due.
-ghost use Rattle.std.specs.Prelude.{◌≡◌, ◌≤◌, ◌<◌, ◌+◌, ◌*◌, ◌^◌, ◌++◌, ◌≤ℤ◌, ℕ, pos, map, IfOk, OnOk};
+ghost use Rattle.std.specs.Prelude.{◌≡◌, ◌≤◌, ◌<◌, ◌+◌, ◌*◌, ◌^◌, ◌++◌, ◌≤ℤ◌, ℕ, pos, map, length};
+ghost use Rattle.std.specs.Prelude.{IfOk, OnOk};
 ghost use Rattle.std.specs.List.{AllByRecursion, range_with_len};
 ghost use Rattle.standing.specs.DueLists as spec;
+ghost use Rattle.standing.specs.QuietMoments.{IsQuietUntil};
 
 use crate::queries::StandingQuery;
 use mon_value::OutOfMemory;
@@ -16,12 +18,14 @@ pub(crate) fn due_marks(
     last: Option<i64>,
     moment: i64,
     queries: &[StandingQuery],
+    next: u64,
 ) -> Result<Vec<Mark>, OutOfMemory>
     requires lawful { AllByRecursion spec.HasPeriod queries.now }
+    requires quiet { AllByRecursion (IsQuietUntil last next) queries.now }
     requires moment { pos 0 ≤ℤ moment }
     ensures marks { IfOk result (λ marks. marks.items ≡ spec.due_marks last moment queries.now) }
 {
-    let mut marks = all_marks(alloc, last, moment, queries)?;
+    let mut marks = all_marks(alloc, last, moment, queries, next)?;
     marks.sort_unstable();
     Ok(marks)
 }
@@ -32,16 +36,56 @@ fn all_marks(
     last: Option<i64>,
     moment: i64,
     queries: &[StandingQuery],
+    next: u64,
 ) -> Result<Vec<Mark>, OutOfMemory>
     requires lawful { AllByRecursion spec.HasPeriod queries.now }
+    requires quiet { AllByRecursion (IsQuietUntil last next) queries.now }
     requires moment { pos 0 ≤ℤ moment }
     ensures marks { IfOk result (λ marks. marks.items ≡ spec.marks_from 0 last moment queries.now) }
 {
     let mut marks = Vec::new(alloc);
-    for (number, query) in queries.iter().enumerate() {
-        push_marks(&mut marks, last, moment, query, number)?;
-    }
+    push_block(&mut marks, last, moment, queries, next, 0)?;
     Ok(marks)
+}
+
+// Adds the marks of queries that are quiet until the next moment, and are numbered on from a first one.
+fn push_block(
+    marks: &mut Vec<Mark>,
+    last: Option<i64>,
+    moment: i64,
+    queries: &[StandingQuery],
+    next: u64,
+    first: usize,
+) -> Result<(), OutOfMemory>
+    requires lawful { AllByRecursion spec.HasPeriod queries.now }
+    requires quiet { AllByRecursion (IsQuietUntil last next) queries.now }
+    requires moment { pos 0 ≤ℤ moment }
+    requires fits { first + length queries.now < 2 ^ 64 }
+    ensures marks { OnOk result (marks.new.items ≡ marks.old.items ++ spec.marks_from first last moment queries.now) }
+{
+    if moment.unsigned_abs() < next {
+        return Ok(());
+    }
+    push_each(marks, last, moment, queries, first)
+}
+
+// The same, query by query.
+fn push_each(
+    marks: &mut Vec<Mark>,
+    last: Option<i64>,
+    moment: i64,
+    queries: &[StandingQuery],
+    first: usize,
+) -> Result<(), OutOfMemory>
+    requires lawful { AllByRecursion spec.HasPeriod queries.now }
+    requires moment { pos 0 ≤ℤ moment }
+    requires fits { first + length queries.now < 2 ^ 64 }
+    ensures marks { OnOk result (marks.new.items ≡ marks.old.items ++ spec.marks_from first last moment queries.now) }
+{
+    for (number, query) in queries.iter().enumerate() {
+        push_marks(marks, last, moment, query, first + number)?;
+    }
+    Ok(())
 }
 
 // Adds the marks of a query, by its number.

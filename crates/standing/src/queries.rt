@@ -6,6 +6,7 @@ ghost use Rattle.standing.specs.DueLists as lists;
 
 use crate::dues::{Dues, due_list, fault_of};
 use crate::faults::{DueFault, StandingFault};
+use crate::quiet::{next_behind, next_of};
 use crate::texts::text_fault;
 use mon_schema::Schemas;
 use mon_value::{OutOfMemory, Refusal, Text, TryCopy};
@@ -29,6 +30,7 @@ pub struct Standing {
     queries: Vec<StandingQuery>,
     names: BTreeSet<Text>,
     last: Option<i64>,
+    next: u64,
 }
 
 impl Model for Standing {
@@ -53,6 +55,7 @@ impl Standing {
             queries: Vec::new(alloc),
             names: BTreeSet::new(alloc),
             last: None,
+            next: u64::MAX,
         }
     }
 
@@ -94,9 +97,11 @@ impl Standing {
     {
         let query = query_of(self.alloc, name, period, text)?;
         let key = name.copy(self.alloc)?;
+        let next = self.next.min(next_of(self.last, &query));
         self.queries.reserve(1)?;
         self.names.insert(key)?;
         self.queries.push_reserved(query);
+        self.next = next;
         Ok(())
     }
 
@@ -108,7 +113,7 @@ impl Standing {
         ensures kept { OnErr result (self.new ≡ self.old) }
         ensures last { OnOk result (self.new ≡ at_moment self.old moment) }
     {
-        match fault_of(self.last, moment, self.queries.as_slice()) {
+        match fault_of(self.last, moment, self.queries.as_slice(), self.next) {
             Some(fault) => Err(Refusal::Fault(fault)),
             None => Ok(self.take(moment)?),
         }
@@ -117,11 +122,14 @@ impl Standing {
     // The queries that are due at a moment that is the last one then.
     fn take(&mut self, moment: i64) -> Result<Dues, OutOfMemory>
         requires moment { pos 0 ≤ℤ moment }
+        requires taken { lists.due_fault self.old.last moment self.old.queries ≡ None }
         ensures dues { IfOk result (λ dues. dues ≡ lists.due_list self.old.last moment self.old.queries) }
         ensures kept { OnErr result (self.new ≡ self.old) }
         ensures last { OnOk result (self.new ≡ at_moment self.old moment) }
     {
-        let dues = due_list(self.alloc, self.last, moment, self.queries.as_slice())?;
+        let queries = self.queries.as_slice();
+        let dues = due_list(self.alloc, self.last, moment, queries, self.next)?;
+        self.next = next_behind(self.last, self.next, moment, queries);
         self.last = Some(moment);
         Ok(dues)
     }
