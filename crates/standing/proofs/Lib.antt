@@ -1,3 +1,4 @@
+pub mod BlockLemmas
 pub mod CountLemmas
 pub mod DueLemmas
 pub mod MarkLemmas

@@ -1,16 +1,12 @@
 -- Until when queries are due at no moment.
-use Rattle.std.proofs.Common.{◌≡◌, ◌∙◌, ◌<◌, ◌≤◌, ◌≤ℤ◌, ◌+◌, ◌-◌, ◌*◌, ◌/◌, ◌++◌, ◌∷◌, [], ℕ, ℤ, List, Option, Some, None}
-use Rattle.std.proofs.Common.{Bool, true, false, if◌then◌else◌, IfSome, map, pos, int_lt, refl, ap, arith}
+use Rattle.std.proofs.Common.{◌≡◌, ◌∙◌, ◌<◌, ◌≤◌, ◌+◌, ◌-◌, ◌*◌, ◌/◌, ◌++◌, ◌∷◌, [], ℕ, ℤ, List, Option, Some, None}
+use Rattle.std.proofs.Common.{map, pos, refl, ap, arith}
 use Rattle.std.proofs.Math.Nat.{div-lt_iff_lt-mul, lt-mul-div-succ}
-use Rattle.std.proofs.lemmas.Int.{ints}
 use Rattle.std.proofs.lemmas.List.Sums.{sum_by-cons}
 use Rattle.std.specs.List.{AllByRecursion, range_with_len}
-use Rattle.std.specs.Option.{option_or}
-use Rattle.standing.specs.DueLists.{HasPeriod, due_count, due_fault, due_times, marked, marks_from, seconds}
-use Rattle.standing.specs.DueLists.{times_due, too_many}
+use Rattle.standing.specs.DueLists.{HasPeriod, due_count, due_times, marked, marks_from, seconds}
+use Rattle.standing.specs.DueLists.{times_due}
 use Rattle.standing.specs.QuietMoments.{IsOnward, IsQuietUntil}
-use Rattle.standing.specs.declared.faults.DueFault.{DueFault}
-use Rattle.standing.specs.declared.faults.DueFault.TheVariants as refusal
 use Rattle.standing.specs.declared.queries.StandingQuery.{StandingQuery}
 use Rattle.mon_value.proofs.PlainLemmas.{all_append}
 
@@ -81,15 +77,3 @@ pub all_behind : (last : Option ℤ) (moment : ℤ) (bound : ℕ) (queries : Lis
 all_behind last moment bound [] has before all = tt
 all_behind last moment bound (query ∷ queries) has before all =
     (quiet_behind last moment bound query has.0 before all.0, all_behind last moment bound queries has.1 before all.1)
-
-not_backwards : (last moment : ℤ) (less : Bool) (rest : Option DueFault) → int_lt moment last ≡ less → pos 0 ≤ℤ last
-    → option_or (if less then Some (refusal.Backwards last) else None) rest ≡ None → seconds last ≤ seconds moment
-not_backwards last moment true rest is counted taken = absurd cc
-not_backwards last moment false rest is counted taken = grind (arith, ints)
-
--- a moment that is taken is none before the last one
-pub taken_onward : (last : Option ℤ) (moment : ℤ) (queries : List StandingQuery) → IfSome last (λ last. pos 0 ≤ℤ last)
-    → due_fault last moment queries ≡ None → IsOnward last moment
-taken_onward None moment queries counted taken = tt
-taken_onward (Some last) moment queries counted taken =
-    not_backwards last moment (int_lt moment last) (too_many (due_count (Some last) moment queries)) refl counted taken

@@ -1,6 +1,7 @@
 //! Standing queries: which of them are due at a moment.
 #![tactic(auto)]
 
+mod blocks;
 mod dues;
 mod faults;
 mod marks;

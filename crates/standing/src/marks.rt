@@ -3,8 +3,9 @@ ghost use Rattle.std.specs.Prelude.{◌≡◌, ◌≤◌, ◌<◌, ◌+◌, ◌*
 ghost use Rattle.std.specs.Prelude.{IfOk, OnOk};
 ghost use Rattle.std.specs.List.{AllByRecursion, range_with_len};
 ghost use Rattle.standing.specs.DueLists as spec;
-ghost use Rattle.standing.specs.QuietMoments.{IsQuietUntil};
+ghost use Rattle.standing.specs.QuietMoments.{AreQuiet, IsQuietUntil};
 
+use crate::blocks::split_block;
 use crate::queries::StandingQuery;
 use mon_value::OutOfMemory;
 use std::alloc::Global;
@@ -18,55 +19,62 @@ pub(crate) fn due_marks(
     last: Option<i64>,
     moment: i64,
     queries: &[StandingQuery],
-    next: u64,
+    nexts: &[u64],
 ) -> Result<Vec<Mark>, OutOfMemory>
     requires lawful { AllByRecursion spec.HasPeriod queries.now }
-    requires quiet { AllByRecursion (IsQuietUntil last next) queries.now }
+    requires quiet { AreQuiet last nexts.now queries.now }
     requires moment { pos 0 ≤ℤ moment }
     ensures marks { IfOk result (λ marks. marks.items ≡ spec.due_marks last moment queries.now) }
 {
-    let mut marks = all_marks(alloc, last, moment, queries, next)?;
+    let mut marks = all_marks(alloc, last, moment, queries, nexts)?;
     marks.sort_unstable();
     Ok(marks)
 }
 
-// The marks query by query.
+// The marks in the order of adding. It goes over the blocks, and over the queries of those in which one is due.
 fn all_marks(
     alloc: Global,
     last: Option<i64>,
     moment: i64,
     queries: &[StandingQuery],
-    next: u64,
+    nexts: &[u64],
 ) -> Result<Vec<Mark>, OutOfMemory>
     requires lawful { AllByRecursion spec.HasPeriod queries.now }
-    requires quiet { AllByRecursion (IsQuietUntil last next) queries.now }
+    requires quiet { AreQuiet last nexts.now queries.now }
     requires moment { pos 0 ≤ℤ moment }
     ensures marks { IfOk result (λ marks. marks.items ≡ spec.marks_from 0 last moment queries.now) }
 {
     let mut marks = Vec::new(alloc);
-    push_block(&mut marks, last, moment, queries, next, 0)?;
+    let mut rest = queries;
+    let mut first = 0;
+    for next in nexts {
+        let (block, behind) = split_block(rest);
+        push_block(&mut marks, last, moment, block, *next, first)?;
+        first += block.len();
+        rest = behind;
+    }
     Ok(marks)
 }
 
-// Adds the marks of queries that are quiet until the next moment, and are numbered on from a first one.
+// Adds the marks of a block of queries that are numbered on from a first one.
 fn push_block(
     marks: &mut Vec<Mark>,
     last: Option<i64>,
     moment: i64,
-    queries: &[StandingQuery],
+    block: &[StandingQuery],
     next: u64,
     first: usize,
 ) -> Result<(), OutOfMemory>
-    requires lawful { AllByRecursion spec.HasPeriod queries.now }
-    requires quiet { AllByRecursion (IsQuietUntil last next) queries.now }
+    requires lawful { AllByRecursion spec.HasPeriod block.now }
+    requires quiet { AllByRecursion (IsQuietUntil last next) block.now }
     requires moment { pos 0 ≤ℤ moment }
-    requires fits { first + length queries.now < 2 ^ 64 }
-    ensures marks { OnOk result (marks.new.items ≡ marks.old.items ++ spec.marks_from first last moment queries.now) }
+    requires fits { first + length block.now < 2 ^ 64 }
+    ensures marks { OnOk result (marks.new.items ≡ marks.old.items ++ spec.marks_from first last moment block.now) }
 {
     if moment.unsigned_abs() < next {
         return Ok(());
     }
-    push_each(marks, last, moment, queries, first)
+    push_each(marks, last, moment, block, first)
 }
 
 // The same, query by query.
@@ -74,15 +82,15 @@ fn push_each(
     marks: &mut Vec<Mark>,
     last: Option<i64>,
     moment: i64,
-    queries: &[StandingQuery],
+    block: &[StandingQuery],
     first: usize,
 ) -> Result<(), OutOfMemory>
-    requires lawful { AllByRecursion spec.HasPeriod queries.now }
+    requires lawful { AllByRecursion spec.HasPeriod block.now }
     requires moment { pos 0 ≤ℤ moment }
-    requires fits { first + length queries.now < 2 ^ 64 }
-    ensures marks { OnOk result (marks.new.items ≡ marks.old.items ++ spec.marks_from first last moment queries.now) }
+    requires fits { first + length block.now < 2 ^ 64 }
+    ensures marks { OnOk result (marks.new.items ≡ marks.old.items ++ spec.marks_from first last moment block.now) }
 {
-    for (number, query) in queries.iter().enumerate() {
+    for (number, query) in block.iter().enumerate() {
         push_marks(marks, last, moment, query, first + number)?;
     }
     Ok(())

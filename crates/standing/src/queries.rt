@@ -4,9 +4,9 @@ ghost use Rattle.mon_value.specs.Answers.{AnswersBy, Gives};
 ghost use Rattle.standing.specs.DueLists.{add_fault, is_taken, at_moment, standing_query, standing_state, with_query};
 ghost use Rattle.standing.specs.DueLists as lists;
 
+use crate::blocks::{note, settle};
 use crate::dues::{Dues, due_list, fault_of};
 use crate::faults::{DueFault, StandingFault};
-use crate::quiet::{next_behind, next_of};
 use crate::texts::text_fault;
 use mon_schema::Schemas;
 use mon_value::{OutOfMemory, Refusal, Text, TryCopy};
@@ -23,14 +23,14 @@ pub struct StandingQuery {
 }
 
 /// Standing queries, and the last moment at which those that are due were asked for. Contracts see the queries in the
-/// order in which they were added.
+/// order in which they were added. Beside the queries stands the next moment of each block of them.
 #[derive(Drop)]
 pub struct Standing {
     alloc: Global,
     queries: Vec<StandingQuery>,
     names: BTreeSet<Text>,
     last: Option<i64>,
-    next: u64,
+    nexts: Vec<u64>,
 }
 
 impl Model for Standing {
@@ -55,7 +55,7 @@ impl Standing {
             queries: Vec::new(alloc),
             names: BTreeSet::new(alloc),
             last: None,
-            next: u64::MAX,
+            nexts: Vec::new(alloc),
         }
     }
 
@@ -97,11 +97,11 @@ impl Standing {
     {
         let query = query_of(self.alloc, name, period, text)?;
         let key = name.copy(self.alloc)?;
-        let next = self.next.min(next_of(self.last, &query));
         self.queries.reserve(1)?;
+        self.nexts.reserve(1)?;
         self.names.insert(key)?;
+        note(&mut self.nexts, self.last, self.queries.as_slice(), &query);
         self.queries.push_reserved(query);
-        self.next = next;
         Ok(())
     }
 
@@ -113,7 +113,13 @@ impl Standing {
         ensures kept { OnErr result (self.new ≡ self.old) }
         ensures last { OnOk result (self.new ≡ at_moment self.old moment) }
     {
-        match fault_of(self.last, moment, self.queries.as_slice(), self.next) {
+        let fault = fault_of(
+            self.last,
+            moment,
+            self.queries.as_slice(),
+            self.nexts.as_slice(),
+        );
+        match fault {
             Some(fault) => Err(Refusal::Fault(fault)),
             None => Ok(self.take(moment)?),
         }
@@ -128,8 +134,14 @@ impl Standing {
         ensures last { OnOk result (self.new ≡ at_moment self.old moment) }
     {
         let queries = self.queries.as_slice();
-        let dues = due_list(self.alloc, self.last, moment, queries, self.next)?;
-        self.next = next_behind(self.last, self.next, moment, queries);
+        let dues = due_list(
+            self.alloc,
+            self.last,
+            moment,
+            queries,
+            self.nexts.as_slice(),
+        )?;
+        settle(self.nexts.as_mut_slice(), self.last, moment, queries);
         self.last = Some(moment);
         Ok(dues)
     }

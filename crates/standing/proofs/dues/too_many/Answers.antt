@@ -1,4 +1,4 @@
-use Rattle.std.proofs.Common.{rules, ◌≡◌, ◌∙◌, ℤ, ◌<◌, to_z, of_z, w64, subst, ap, sym}
+use Rattle.std.proofs.Common.{rules, ◌≡◌, ◌∙◌, ℤ, to_z, of_z, w64, ap, sym}
 use Rattle.standing.specs.DueLists.{due_count, too_many}
 use Rattle.standing.proofs.CountLemmas.{many, not_many}
 use Rattle.standing.proofs.dues.too_many.Goals as goal
@@ -6,21 +6,17 @@ use Rattle.standing.proofs.dues.too_many.Goals as goal
 pub returns-in-Some : goal.returns-in-Some
 returns-in-Some c =
     let moment : ℤ = to_z w64 (of_z w64 c.args.moment) in
-    let most : c.from.result ≡ 1000 = search rules in
     let same : moment ≡ c.args.moment = search rules in
     record {
-      fault = sym (not_many (due_count c.args.last moment c.args.queries.now) c.in-Some.field-0
-          (c.in-Some.ensures.left ∙ most))
+      fault = sym (not_many (due_count c.args.last moment c.args.queries.now) c.in-Some.field-0 c.in-Some.ensures.left)
           ∙ ap (λ (z : ℤ). too_many (due_count c.args.last z c.args.queries.now)) same;
     }
 
 pub returns-in-None : goal.returns-in-None
 returns-in-None c =
     let moment : ℤ = to_z w64 (of_z w64 c.args.moment) in
-    let most : c.from.result ≡ 1000 = search rules in
     let same : moment ≡ c.args.moment = search rules in
     record {
-      fault = sym (many (due_count c.args.last moment c.args.queries.now)
-          (subst (λ room. room < due_count c.args.last moment c.args.queries.now) most c.in-None.ensures.left))
+      fault = sym (many (due_count c.args.last moment c.args.queries.now) c.in-None.ensures.left)
           ∙ ap (λ (z : ℤ). too_many (due_count c.args.last z c.args.queries.now)) same;
     }

@@ -10,11 +10,11 @@ use Rattle.standing.proofs.marks.push_each.Goals as goal
 
 pub push_marks-requires : goal.push_marks-requires
 push_marks-requires c =
-    let queries = c.args.queries.now in
+    let queries = c.args.block.now in
     let i = c.loop-number.number in
-    let q : StandingQuery = c.index-queries-number.result in
+    let q : StandingQuery = c.index-block-number.result in
     let next : drop i queries ≡ q ∷ drop (i + 1) queries = drop_more queries i q c.loop-number-test.true
-    ∙ ap (λ (x : StandingQuery). x ∷ drop (i + 1) queries) (sym c.index-queries-number.is) in
+    ∙ ap (λ (x : StandingQuery). x ∷ drop (i + 1) queries) (sym c.index-block-number.is) in
     let same : to_z w64 (of_z w64 c.args.moment) ≡ c.args.moment = search rules in
     record {
       lawful = (subst (AllByRecursion HasPeriod) next c.loop-number.invariant.lawful).0;
@@ -23,7 +23,7 @@ push_marks-requires c =
 
 pub loop-number-init : goal.loop-number-init
 loop-number-init c =
-    let queries = c.args.queries.now in
+    let queries = c.args.block.now in
     let moment : ℤ = to_z w64 (of_z w64 c.args.moment) in
     let start : c.args.first + 0 ≡ c.args.first = omega arith in
     record {
@@ -33,12 +33,12 @@ loop-number-init c =
 
 pub loop-number-preserved : goal.loop-number-preserved
 loop-number-preserved c =
-    let queries = c.args.queries.now in
+    let queries = c.args.block.now in
     let i = c.loop-number.number in
     let n : ℕ = c.args.first + i in
-    let q : StandingQuery = c.index-queries-number.result in
+    let q : StandingQuery = c.index-block-number.result in
     let next : drop i queries ≡ q ∷ drop (i + 1) queries = drop_more queries i q c.loop-number-test.true
-    ∙ ap (λ (x : StandingQuery). x ∷ drop (i + 1) queries) (sym c.index-queries-number.is) in
+    ∙ ap (λ (x : StandingQuery). x ∷ drop (i + 1) queries) (sym c.index-block-number.is) in
     let moment : ℤ = to_z w64 (of_z w64 c.args.moment) in
     let so_far : List Mark = c.loop-number.marks.items in
     let rest : ℕ → List Mark = λ k. marks_from k c.args.last moment (drop (i + 1) queries) in
@@ -56,7 +56,7 @@ loop-number-preserved c =
 
 pub returns : goal.returns
 returns c =
-    let queries = c.args.queries.now in
+    let queries = c.args.block.now in
     let i = c.loop-number.number in
     let moment : ℤ = to_z w64 (of_z w64 c.args.moment) in
     let same : moment ≡ c.args.moment = search rules in

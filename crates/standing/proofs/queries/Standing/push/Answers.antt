@@ -1,4 +1,4 @@
-use Rattle.std.proofs.Common.{rules, ◌≡◌, ◌∙◌, ◌<◌, ◌≤◌, ◌++◌, ◌∷◌, [], ℕ, ℤ, List, true, cond}
+use Rattle.std.proofs.Common.{rules, ◌≡◌, ◌∙◌, ◌<◌, ◌++◌, ◌∷◌, [], ℕ, ℤ, List, true, cond}
 use Rattle.std.proofs.Common.{to_z, of_z, w64, subst, ap, sym}
 use Rattle.std.specs.BTreeSet.{contains}
 use Rattle.std.specs.List.{AllByRecursion}
@@ -7,8 +7,7 @@ use Rattle.mon_value.specs.Order.{text_cmp}
 use Rattle.standing.specs.DueLists.{is_taken, HasPeriod, seconds}
 use Rattle.standing.specs.declared.queries.StandingQuery.{StandingQuery}
 use Rattle.standing.proofs.NameLemmas.{has_period, lawful_more, named_more}
-use Rattle.standing.proofs.QuietLemmas.{lowered_with}
-use Rattle.standing.specs.QuietMoments.{IsQuietUntil}
+use Rattle.standing.specs.QuietMoments.{AreQuiet}
 use Rattle.standing.proofs.queries.Standing.push.Goals as goal
 
 pub invariant_of-self-2 : goal.invariant_of-self-2
@@ -23,12 +22,10 @@ invariant_of-self-2 c =
     let has : HasPeriod query = subst HasPeriod (sym c.in_ok-query.ensures.query) some in
     let key : c.in_ok-key.key ≡ query.name =
     c.in_ok-key.ensures.equal ∙ sym (ap (λ (q : StandingQuery). q.name) c.in_ok-query.ensures.query) in
-    let before : c.min-next.result ≤ c.self.inside.next = search rules in
-    let here : c.min-next.result ≤ c.next_of.result = search rules in
+    let seen : c.as_slice.result.now ≡ queries = search rules in
     record {
-      quiet = subst (AllByRecursion (IsQuietUntil c.self.inside.last c.min-next.result)) (sym pushed)
-          (lowered_with c.self.inside.last c.self.inside.next c.next_of.result c.min-next.result queries query before here
-          c.self.invariant.quiet c.next_of.ensures.quiet);
+      quiet = subst (AreQuiet c.self.inside.last c.note.new.nexts.items)
+          (ap (λ (qs : List StandingQuery). qs ++ query ∷ []) seen ∙ sym pushed) c.note.ensures.quiet;
       counted = c.self.invariant.counted;
       lawful = subst (AllByRecursion HasPeriod) (sym pushed) (lawful_more queries query c.self.invariant.lawful has);
       named = λ name. named_more queries query (λ n. contains text_cmp c.self.inside.names n)
