@@ -107,6 +107,23 @@ def script_of_queries(size):
     return case(ONE_FIELD, ["query 1 fetch T::/m"] * (10_000 * size))
 
 
+def standing(first, end):
+    """Lines of queries that stand, each with a period of many years."""
+    return [f"standing a{number} 1000000000 fetch T::/m" for number in range(first, end)]
+
+
+def script_of_ticks(size):
+    """Ticks at which none of the queries that stand is due."""
+    return case(ONE_FIELD, ["tick 0", *standing(0, 3_200 * size)] + ["tick 1"] * (16_000 * size))
+
+
+def script_of_ticks_beside_a_minute(size):
+    """A tick at each minute, at which one query among those that stand is due."""
+    middle, end = 1_600 * size, 3_200 * size
+    stand = [*standing(0, middle), "standing m 60 fetch T::/m", *standing(middle, end)]
+    return case(ONE_FIELD, ["tick 0", *stand, *(f"tick {60 * minute}" for minute in range(1, 9_000 * size))])
+
+
 def chain(part, count, start="fetch T::/m"):
     return start + "".join(f" | {part}" for _ in range(count))
 
@@ -268,6 +285,8 @@ CASES = {
     "configuration: ranges with long bounds": config_of_ranges,
     "script: comments": script_of_comments,
     "script: queries": script_of_queries,
+    "script: ticks": script_of_ticks,
+    "script: ticks beside a minute": script_of_ticks_beside_a_minute,
     "text: conditions": text_of_conditions,
     "text: patterns": text_of_patterns,
     "text: operations": text_of_operations,

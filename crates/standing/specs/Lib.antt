@@ -1,2 +1,3 @@
 pub mod DueLists
+pub mod QuietMoments
 pub mod StandingFields

@@ -5,7 +5,9 @@ ghost use Rattle.std.specs.List.{AllByRecursion, filter_map};
 ghost use Rattle.std.specs.Option.{option_copied};
 ghost use Rattle.std.specs.Prelude.{option_to_list};
 ghost use Rattle.standing.specs.DueLists as spec;
+ghost use Rattle.standing.specs.QuietMoments.{AreQuiet, IsQuietUntil};
 
+use crate::blocks::split_block;
 use crate::faults::DueFault;
 use crate::marks::{Mark, due_marks};
 use crate::queries::StandingQuery;
@@ -32,12 +34,14 @@ pub(crate) fn due_list(
     last: Option<i64>,
     moment: i64,
     queries: &[StandingQuery],
+    nexts: &[u64],
 ) -> Result<Dues, OutOfMemory>
     requires lawful { AllByRecursion spec.HasPeriod queries.now }
+    requires quiet { AreQuiet last nexts.now queries.now }
     requires moment { pos 0 ≤ℤ moment }
     ensures dues { IfOk result (λ dues. dues ≡ spec.due_list last moment queries.now) }
 {
-    let marks = due_marks(alloc, last, moment, queries)?;
+    let marks = due_marks(alloc, last, moment, queries, nexts)?;
     dues_of(alloc, queries, marks.as_slice())
 }
 
@@ -84,13 +88,15 @@ pub(crate) fn fault_of(
     last: Option<i64>,
     moment: i64,
     queries: &[StandingQuery],
+    nexts: &[u64],
 ) -> Option<DueFault>
     requires lawful { AllByRecursion spec.HasPeriod queries.now }
+    requires quiet { AreQuiet last nexts.now queries.now }
     ensures fault { result ≡ spec.due_fault last moment queries.now }
 {
     match backwards(last, moment) {
         Some(fault) => Some(fault),
-        None => too_many(last, moment, queries),
+        None => too_many(last, moment, queries, nexts),
     }
 }
 
@@ -107,27 +113,80 @@ fn backwards(last: Option<i64>, moment: i64) -> Option<DueFault>
 }
 
 // Whether more would be due than may be.
-fn too_many(last: Option<i64>, moment: i64, queries: &[StandingQuery]) -> Option<DueFault>
+fn too_many(
+    last: Option<i64>,
+    moment: i64,
+    queries: &[StandingQuery],
+    nexts: &[u64],
+) -> Option<DueFault>
     requires lawful { AllByRecursion spec.HasPeriod queries.now }
+    requires quiet { AreQuiet last nexts.now queries.now }
     ensures fault { result ≡ spec.too_many (spec.due_count last moment queries.now) }
 {
-    match room_left(last, moment, queries) {
+    match room_left(last, moment, queries, nexts) {
         Some(_) => None,
         None => Some(DueFault::TooManyDue(MOST_DUE)),
     }
 }
 
-// How many more could be due, or `None` where more are than may be.
-fn room_left(last: Option<i64>, moment: i64, queries: &[StandingQuery]) -> Option<u64>
+// How many more could be due, or `None` where more are than may be. It goes over the blocks, and over the queries of
+// those in which one is due.
+fn room_left(
+    last: Option<i64>,
+    moment: i64,
+    queries: &[StandingQuery],
+    nexts: &[u64],
+) -> Option<u64>
     requires lawful { AllByRecursion spec.HasPeriod queries.now }
+    requires quiet { AreQuiet last nexts.now queries.now }
     ensures left { MatchOption result (MOST_DUE < spec.due_count last moment queries.now)
         (λ room. room + spec.due_count last moment queries.now ≡ MOST_DUE) }
 {
     let mut room = u64::from(MOST_DUE);
-    for query in queries {
-        room = room.checked_sub(times_due(last, moment, query))?;
+    let mut rest = queries;
+    for next in nexts {
+        let (block, behind) = split_block(rest);
+        room = room_behind(room, last, moment, block, *next)?;
+        rest = behind;
     }
     Some(room)
+}
+
+// What a block of queries leaves of the room, or `None` where more of them are due than there is room for.
+fn room_behind(
+    room: u64,
+    last: Option<i64>,
+    moment: i64,
+    block: &[StandingQuery],
+    next: u64,
+) -> Option<u64>
+    requires lawful { AllByRecursion spec.HasPeriod block.now }
+    requires quiet { AllByRecursion (IsQuietUntil last next) block.now }
+    ensures left { MatchOption result (room < spec.due_count last moment block.now)
+        (λ left. left + spec.due_count last moment block.now ≡ room) }
+{
+    if moment.unsigned_abs() < next {
+        return Some(room);
+    }
+    room_behind_each(room, last, moment, block)
+}
+
+// The same, reckoned query by query.
+fn room_behind_each(
+    room: u64,
+    last: Option<i64>,
+    moment: i64,
+    block: &[StandingQuery],
+) -> Option<u64>
+    requires lawful { AllByRecursion spec.HasPeriod block.now }
+    ensures left { MatchOption result (room < spec.due_count last moment block.now)
+        (λ left. left + spec.due_count last moment block.now ≡ room) }
+{
+    let mut left = room;
+    for query in block {
+        left = left.checked_sub(times_due(last, moment, query))?;
+    }
+    Some(left)
 }
 
 // How many times a query is due.

@@ -4,6 +4,7 @@ ghost use Rattle.mon_value.specs.Answers.{AnswersBy, Gives};
 ghost use Rattle.standing.specs.DueLists.{add_fault, is_taken, at_moment, standing_query, standing_state, with_query};
 ghost use Rattle.standing.specs.DueLists as lists;
 
+use crate::blocks::{note, settle};
 use crate::dues::{Dues, due_list, fault_of};
 use crate::faults::{DueFault, StandingFault};
 use crate::texts::text_fault;
@@ -22,13 +23,14 @@ pub struct StandingQuery {
 }
 
 /// Standing queries, and the last moment at which those that are due were asked for. Contracts see the queries in the
-/// order in which they were added.
+/// order in which they were added. Beside the queries stands the next moment of each block of them.
 #[derive(Drop)]
 pub struct Standing {
     alloc: Global,
     queries: Vec<StandingQuery>,
     names: BTreeSet<Text>,
     last: Option<i64>,
+    nexts: Vec<u64>,
 }
 
 impl Model for Standing {
@@ -53,6 +55,7 @@ impl Standing {
             queries: Vec::new(alloc),
             names: BTreeSet::new(alloc),
             last: None,
+            nexts: Vec::new(alloc),
         }
     }
 
@@ -95,7 +98,9 @@ impl Standing {
         let query = query_of(self.alloc, name, period, text)?;
         let key = name.copy(self.alloc)?;
         self.queries.reserve(1)?;
+        self.nexts.reserve(1)?;
         self.names.insert(key)?;
+        note(&mut self.nexts, self.last, self.queries.as_slice(), &query);
         self.queries.push_reserved(query);
         Ok(())
     }
@@ -108,7 +113,13 @@ impl Standing {
         ensures kept { OnErr result (self.new ≡ self.old) }
         ensures last { OnOk result (self.new ≡ at_moment self.old moment) }
     {
-        match fault_of(self.last, moment, self.queries.as_slice()) {
+        let fault = fault_of(
+            self.last,
+            moment,
+            self.queries.as_slice(),
+            self.nexts.as_slice(),
+        );
+        match fault {
             Some(fault) => Err(Refusal::Fault(fault)),
             None => Ok(self.take(moment)?),
         }
@@ -117,11 +128,20 @@ impl Standing {
     // The queries that are due at a moment that is the last one then.
     fn take(&mut self, moment: i64) -> Result<Dues, OutOfMemory>
         requires moment { pos 0 ≤ℤ moment }
+        requires taken { lists.due_fault self.old.last moment self.old.queries ≡ None }
         ensures dues { IfOk result (λ dues. dues ≡ lists.due_list self.old.last moment self.old.queries) }
         ensures kept { OnErr result (self.new ≡ self.old) }
         ensures last { OnOk result (self.new ≡ at_moment self.old moment) }
     {
-        let dues = due_list(self.alloc, self.last, moment, self.queries.as_slice())?;
+        let queries = self.queries.as_slice();
+        let dues = due_list(
+            self.alloc,
+            self.last,
+            moment,
+            queries,
+            self.nexts.as_slice(),
+        )?;
+        settle(self.nexts.as_mut_slice(), self.last, moment, queries);
         self.last = Some(moment);
         Ok(dues)
     }

@@ -1,10 +1,13 @@
-use Rattle.std.proofs.Common.{◌≡◌, ◌+◌, drop, take, sum_by}
+-- what is left of the room, and the blocks that are left
+use Rattle.std.proofs.Common.{◌≡◌, ◌+◌, drop}
 use Rattle.std.specs.List.{AllByRecursion}
-use Rattle.standing.specs.DueLists.{HasPeriod, times_due}
+use Rattle.standing.specs.DueLists.{HasPeriod, due_count}
+use Rattle.standing.specs.QuietMoments.{AreQuiet}
 use Rattle.standing.proofs.dues.room_left.Given as goal
 
-abbrev pub invariant-loop-query : goal.invariant-loop-query
-invariant-loop-query l = record {
-  lawful : AllByRecursion HasPeriod (drop l.query-index l.queries);
-  room : l.room + sum_by (times_due l.last l.moment) (take l.query-index l.queries) ≡ 1000;
+abbrev pub invariant-loop-next : goal.invariant-loop-next
+invariant-loop-next l = record {
+  lawful : AllByRecursion HasPeriod l.rest;
+  quiet : AreQuiet l.last (drop l.next-index l.nexts) l.rest;
+  room : l.room + due_count l.last l.moment l.queries ≡ 1000 + due_count l.last l.moment l.rest;
 }

@@ -1,57 +1,61 @@
-use Rattle.std.proofs.Common.{rules, ◌≡◌, ◌∙◌, ◌+◌, ◌++◌, ◌∷◌, ◌≤ℤ◌, [], ℤ, List, drop, pos}
-use Rattle.std.proofs.Common.{to_z, of_z, w64, subst, ap, sym}
-use Rattle.std.proofs.Common.{append-nil, arith}
+use Rattle.std.proofs.Common.{rules, ◌≡◌, ◌∙◌, ◌<◌, ◌≤◌, ◌+◌, ◌++◌, [], ℕ, ℤ, List, length, take, drop, to_z, of_z, w64}
+use Rattle.std.proofs.Common.{subst, ap, sym, append-nil, arith}
 use Rattle.std.specs.List.{AllByRecursion}
-use Rattle.std.proofs.lemmas.List.{drop_all, drop_more}
-use Rattle.standing.specs.DueLists.{HasPeriod, Mark, due_times, marked, marks_from, seconds}
+use Rattle.standing.specs.DueLists.{HasPeriod, Mark, marks_from}
+use Rattle.standing.specs.QuietMoments.{AreQuiet}
 use Rattle.standing.specs.declared.queries.StandingQuery.{StandingQuery}
-use Rattle.standing.proofs.MarkLemmas.{marks_next}
+use Rattle.standing.proofs.BlockLemmas.{all_dropped, all_taken, length_split, marks_block, none_left, of_next}
 use Rattle.standing.proofs.marks.all_marks.Goals as goal
 
-pub push_marks-requires : goal.push_marks-requires
-push_marks-requires c =
-    let queries = c.args.queries.now in
-    let i = c.loop-number.number in
-    let q : StandingQuery = c.index-queries-number.result in
-    let next : drop i queries ≡ q ∷ drop (i + 1) queries = drop_more queries i q c.loop-number-test.true
-    ∙ ap (λ (x : StandingQuery). x ∷ drop (i + 1) queries) (sym c.index-queries-number.is) in
-    let same : to_z w64 (of_z w64 c.args.moment) ≡ c.args.moment = search rules in
-    record {
-      lawful = (subst (AllByRecursion HasPeriod) next c.loop-number.invariant.lawful).0;
-      moment = subst (λ (z : ℤ). pos 0 ≤ℤ z) (sym same) c.requires.moment;
-    }
+pub push_block-requires-clause-lawful : goal.push_block-requires-clause-lawful
+push_block-requires-clause-lawful c =
+    subst (AllByRecursion HasPeriod) (sym c.split_block.ensures.block)
+    (all_taken HasPeriod 64 c.loop-next.rest.now c.loop-next.invariant.lawful)
 
-pub loop-number-preserved : goal.loop-number-preserved
-loop-number-preserved c =
-    let queries = c.args.queries.now in
-    let i = c.loop-number.number in
-    let q : StandingQuery = c.index-queries-number.result in
-    let next : drop i queries ≡ q ∷ drop (i + 1) queries = drop_more queries i q c.loop-number-test.true
-    ∙ ap (λ (x : StandingQuery). x ∷ drop (i + 1) queries) (sym c.index-queries-number.is) in
+pub loop-next-preserved : goal.loop-next-preserved
+loop-next-preserved c =
+    let queries : List StandingQuery = c.args.queries.now in
+    let rest : List StandingQuery = c.loop-next.rest.now in
+    let block : List StandingQuery = c.split_block.result.0.now in
+    let behind : List StandingQuery = c.split_block.result.1.now in
+    let nexts : List ℕ = c.args.nexts.now in
+    let i : ℕ = c.loop-next.next-index in
+    let first : ℕ = c.loop-next.first in
     let moment : ℤ = to_z w64 (of_z w64 c.args.moment) in
-    let so_far : List Mark = c.loop-number.marks.items in
-    let rest : List Mark = marks_from (i + 1) c.args.last moment (drop (i + 1) queries) in
-    let pushed : c.push_marks.new.marks.items ≡ so_far ++ marked i (due_times c.args.last moment (seconds q.period)) =
-    c.in_ok-push_marks.ensures.marks in
+    let there : i < length nexts = search rules in
+    let front : block ≡ take 64 rest = c.split_block.ensures.block in
+    let back : behind ≡ drop 64 rest = c.split_block.ensures.behind in
+    let many : length block ≡ length (take 64 rest) = ap length front in
+    let others : length behind ≡ length (drop 64 rest) = ap length back in
+    let places : first + length rest ≡ length queries = c.loop-next.invariant.places in
+    let so_far : List Mark = c.loop-next.marks.items in
+    let pushed : c.push_block.new.marks.items ≡ so_far ++ marks_from first c.args.last moment block =
+    c.in_ok-push_block.ensures.marks in
     record {
-      lawful = (subst (AllByRecursion HasPeriod) next c.loop-number.invariant.lawful).1;
-      marks = ap (λ (ms : List Mark). ms ++ rest) pushed
-          ∙ marks_next i c.args.last moment q (drop (i + 1) queries) so_far
-          ∙ ap (λ (qs : List StandingQuery). so_far ++ marks_from i c.args.last moment qs) (sym next)
-          ∙ c.loop-number.invariant.marks;
+      lawful = subst (AllByRecursion HasPeriod) (sym back) (all_dropped HasPeriod 64 rest c.loop-next.invariant.lawful);
+      quiet = subst (AreQuiet c.args.last (drop (i + 1) nexts)) (sym back)
+          (of_next c.args.last nexts i 0 rest there c.loop-next.invariant.quiet).1;
+      places = omega (arith, many, others, places, length_split rest);
+      marks = ap (λ (ms : List Mark). ms ++ marks_from (first + length block) c.args.last moment behind) pushed
+          ∙ (λ j. (so_far ++ marks_from first c.args.last moment (front j))
+          ++ marks_from (first + length (front j)) c.args.last moment (back j))
+          ∙ marks_block first c.args.last moment rest so_far
+          ∙ c.loop-next.invariant.marks;
     }
 
 pub returns : goal.returns
 returns c =
-    let queries = c.args.queries.now in
-    let i = c.loop-number.number in
+    let queries : List StandingQuery = c.args.queries.now in
+    let rest : List StandingQuery = c.loop-next.rest.now in
     let moment : ℤ = to_z w64 (of_z w64 c.args.moment) in
     let same : moment ≡ c.args.moment = search rules in
-    let so_far : List Mark = c.loop-number.marks.items in
-    let none : drop i queries ≡ [] = drop_all i queries (omega (arith, c.loop-number-test.false)) in
+    let so_far : List Mark = c.loop-next.marks.items in
+    let all : length c.args.nexts.now ≤ c.loop-next.next-index = search rules in
+    let none : rest ≡ [] = none_left c.args.last c.args.nexts.now c.loop-next.next-index rest all
+    c.loop-next.invariant.quiet in
     record {
       marks = sym (append-nil so_far)
-          ∙ ap (λ (qs : List StandingQuery). so_far ++ marks_from i c.args.last moment qs) (sym none)
-          ∙ c.loop-number.invariant.marks
+          ∙ ap (λ (qs : List StandingQuery). so_far ++ marks_from c.loop-next.first c.args.last moment qs) (sym none)
+          ∙ c.loop-next.invariant.marks
           ∙ ap (λ (z : ℤ). marks_from 0 c.args.last z queries) same;
     }

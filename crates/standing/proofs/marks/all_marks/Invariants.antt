@@ -1,11 +1,14 @@
-use Rattle.std.proofs.Common.{◌≡◌, ◌++◌, drop}
+-- the marks so far, and the blocks that are left
+use Rattle.std.proofs.Common.{◌≡◌, ◌+◌, ◌++◌, drop, length}
 use Rattle.std.specs.List.{AllByRecursion}
 use Rattle.standing.specs.DueLists.{HasPeriod, marks_from}
+use Rattle.standing.specs.QuietMoments.{AreQuiet}
 use Rattle.standing.proofs.marks.all_marks.Given as goal
 
-abbrev pub invariant-loop-number : goal.invariant-loop-number
-invariant-loop-number l = record {
-  lawful : AllByRecursion HasPeriod (drop l.number l.queries);
-  marks : l.marks.items ++ marks_from l.number l.last l.moment (drop l.number l.queries)
-      ≡ marks_from 0 l.last l.moment l.queries;
+abbrev pub invariant-loop-next : goal.invariant-loop-next
+invariant-loop-next l = record {
+  lawful : AllByRecursion HasPeriod l.rest;
+  quiet : AreQuiet l.last (drop l.next-index l.nexts) l.rest;
+  places : l.first + length l.rest ≡ length l.queries;
+  marks : l.marks.items ++ marks_from l.first l.last l.moment l.rest ≡ marks_from 0 l.last l.moment l.queries;
 }

@@ -7,6 +7,7 @@ use Rattle.mon_value.specs.Order.{text_cmp}
 use Rattle.standing.specs.DueLists.{is_taken, HasPeriod, seconds}
 use Rattle.standing.specs.declared.queries.StandingQuery.{StandingQuery}
 use Rattle.standing.proofs.NameLemmas.{has_period, lawful_more, named_more}
+use Rattle.standing.specs.QuietMoments.{AreQuiet}
 use Rattle.standing.proofs.queries.Standing.push.Goals as goal
 
 pub invariant_of-self-2 : goal.invariant_of-self-2
@@ -21,7 +22,11 @@ invariant_of-self-2 c =
     let has : HasPeriod query = subst HasPeriod (sym c.in_ok-query.ensures.query) some in
     let key : c.in_ok-key.key ≡ query.name =
     c.in_ok-key.ensures.equal ∙ sym (ap (λ (q : StandingQuery). q.name) c.in_ok-query.ensures.query) in
+    let seen : c.as_slice.result.now ≡ queries = search rules in
     record {
+      quiet = subst (AreQuiet c.self.inside.last c.note.new.nexts.items)
+          (ap (λ (qs : List StandingQuery). qs ++ query ∷ []) seen ∙ sym pushed) c.note.ensures.quiet;
+      counted = c.self.invariant.counted;
       lawful = subst (AllByRecursion HasPeriod) (sym pushed) (lawful_more queries query c.self.invariant.lawful has);
       named = λ name. named_more queries query (λ n. contains text_cmp c.self.inside.names n)
           (λ n. contains text_cmp c.insert.new.self n) c.self.invariant.named
