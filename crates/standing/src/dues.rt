@@ -194,11 +194,25 @@ fn times_due(last: Option<i64>, moment: i64, query: &StandingQuery) -> u64
     requires lawful { spec.HasPeriod query.now }
     ensures count { result ≡ spec.times_due last moment query.now }
 {
-    let period = query.period.unsigned_abs();
     match last {
-        Some(last) => {
-            (moment.unsigned_abs() / period).saturating_sub(last.unsigned_abs() / period)
-        }
+        Some(last) => multiples_between(
+            query.period.unsigned_abs(),
+            last.unsigned_abs(),
+            moment.unsigned_abs(),
+        ),
         None => 1,
     }
+}
+
+// How many multiples of a period are above the last moment and at most this one. Where the newest isn't above the last
+// moment, one division tells that there is none.
+fn multiples_between(period: u64, last: u64, moment: u64) -> u64
+    requires some { 0 < period }
+    ensures count { result ≡ spec.count_between period last moment }
+{
+    let newest = moment - moment % period;
+    if newest <= last {
+        return 0;
+    }
+    (moment / period).saturating_sub(last / period)
 }
