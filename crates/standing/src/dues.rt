@@ -204,14 +204,13 @@ fn times_due(last: Option<i64>, moment: i64, query: &StandingQuery) -> u64
     }
 }
 
-// How many multiples of a period are above the last moment and at most this one. Where the newest isn't above the last
-// moment, one division tells that there is none.
+// How many multiples of a period are above the last moment and at most this one. There is none where the period is
+// greater than the moment, or where the newest multiple isn't above the last moment: that takes no division, or one.
 fn multiples_between(period: u64, last: u64, moment: u64) -> u64
     requires some { 0 < period }
     ensures count { result ≡ spec.count_between period last moment }
 {
-    let newest = moment - moment % period;
-    if newest <= last {
+    if moment < period || moment - moment % period <= last {
         return 0;
     }
     (moment / period).saturating_sub(last / period)
