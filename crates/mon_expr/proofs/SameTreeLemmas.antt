@@ -15,6 +15,10 @@ use Rattle.mon_expr.specs.SameTrees.{bare_predicate, bare_sum}
 pub pieces_same : (own others : List (List ℕ)) → pointwise same_text own others ≡ true → own ≡ others
 pieces_same own others = (slice_eq-Decides same_text-Decides own others (pointwise same_text own others) refl).0
 
+-- and equal pieces compare as the same
+pub pieces_told : (own others : List (List ℕ)) → own ≡ others → pointwise same_text own others ≡ true
+pieces_told own others = (slice_eq-Decides same_text-Decides own others (pointwise same_text own others) refl).1
+
 module _ (columns : List Column) (cells : List Value) where
   pub bare-truth : (p : PredicateTree) → predicate_truth (bare_predicate p) columns cells ≡ predicate_truth p columns cells
   bare-truth (tree.Compare name how literal) = refl

@@ -11,6 +11,8 @@ use mql_ast::{Comparison, Literal, Name, Pattern, Pieces, Predicate};
 pub fn are_same_predicate(one: &Predicate, other: &Predicate) -> bool
     ensures same { IsTrue result
         → bare_predicate (predicate_tree one.now) ≡ bare_predicate (predicate_tree other.now) }
+    ensures told { bare_predicate (predicate_tree one.now) ≡ bare_predicate (predicate_tree other.now)
+        → IsTrue result }
 {
     let mut one = one;
     let mut other = other;
@@ -55,6 +57,8 @@ pub fn are_same_predicate(one: &Predicate, other: &Predicate) -> bool
 fn is_comparison(predicate: &Predicate, name: &Name, how: Comparison, literal: &Literal) -> bool
     ensures same { IsTrue result → bare_predicate (tree.Compare name.now how literal.now)
         ≡ bare_predicate (predicate_tree predicate.now) }
+    ensures told { bare_predicate (tree.Compare name.now how literal.now)
+        ≡ bare_predicate (predicate_tree predicate.now) → IsTrue result }
 {
     match predicate {
         Predicate::Compare(other, asked, against) => {
@@ -70,6 +74,8 @@ fn is_comparison(predicate: &Predicate, name: &Name, how: Comparison, literal: &
 fn is_likeness(predicate: &Predicate, name: &Name, pattern: &Pattern) -> bool
     ensures same { IsTrue result → bare_predicate (tree.Like name.now pattern.now)
         ≡ bare_predicate (predicate_tree predicate.now) }
+    ensures told { bare_predicate (tree.Like name.now pattern.now)
+        ≡ bare_predicate (predicate_tree predicate.now) → IsTrue result }
 {
     match predicate {
         Predicate::Like(other, asked) => {
@@ -80,9 +86,10 @@ fn is_likeness(predicate: &Predicate, name: &Name, pattern: &Pattern) -> bool
 }
 
 // Whether two patterns are cut into the same pieces.
-#[tactic(auto, using(crate::proofs::SameTreeLemmas::pieces_same))]
+#[tactic(auto, using(crate::proofs::SameTreeLemmas::pieces_same, crate::proofs::SameTreeLemmas::pieces_told))]
 fn are_same_pieces(pieces: &Pieces, others: &Pieces) -> bool
     ensures same { IsTrue result → pieces.now ≡ others.now }
+    ensures told { pieces.now ≡ others.now → IsTrue result }
 {
     *pieces == *others
 }
@@ -90,6 +97,7 @@ fn are_same_pieces(pieces: &Pieces, others: &Pieces) -> bool
 // Whether two comparisons ask the same.
 fn is_same_comparison(how: Comparison, asked: Comparison) -> bool
     ensures same { IsTrue result → how ≡ asked }
+    ensures told { how ≡ asked → IsTrue result }
 {
     match how {
         Comparison::Equal => matches!(asked, Comparison::Equal),

@@ -10,6 +10,7 @@ use mql_ast::{Expr, Name};
 /// have many thousand terms. No memory is taken.
 pub fn are_same_sum(one: &Expr, other: &Expr) -> bool
     ensures same { IsTrue result → bare_sum (sum_tree one.now) ≡ bare_sum (sum_tree other.now) }
+    ensures told { bare_sum (sum_tree one.now) ≡ bare_sum (sum_tree other.now) → IsTrue result }
 {
     let mut one = one;
     let mut other = other;
@@ -45,6 +46,7 @@ pub fn are_same_sum(one: &Expr, other: &Expr) -> bool
 // Whether a sum is the column of a name.
 fn is_column(sum: &Expr, name: &Name) -> bool
     ensures same { IsTrue result → bare_sum (tree.Column name.now) ≡ bare_sum (sum_tree sum.now) }
+    ensures told { bare_sum (tree.Column name.now) ≡ bare_sum (sum_tree sum.now) → IsTrue result }
 {
     match sum {
         Expr::Column(other) => name.text == other.text,
@@ -55,6 +57,7 @@ fn is_column(sum: &Expr, name: &Name) -> bool
 // Whether a sum is a number.
 fn is_number(sum: &Expr, number: i64) -> bool
     ensures same { IsTrue result → bare_sum (tree.Number 0 number) ≡ bare_sum (sum_tree sum.now) }
+    ensures told { bare_sum (tree.Number 0 number) ≡ bare_sum (sum_tree sum.now) → IsTrue result }
 {
     match sum {
         Expr::Number { at: _, value } => number == *value,
@@ -66,6 +69,8 @@ fn is_number(sum: &Expr, number: i64) -> bool
 fn is_percentile(sum: &Expr, name: &Name, share: u8) -> bool
     ensures same { IsTrue result
         → bare_sum (tree.Percentile 0 name.now share) ≡ bare_sum (sum_tree sum.now) }
+    ensures told { bare_sum (tree.Percentile 0 name.now share) ≡ bare_sum (sum_tree sum.now)
+        → IsTrue result }
 {
     match sum {
         Expr::Percentile { at: _, column, p } => name.text == column.text && share == *p,

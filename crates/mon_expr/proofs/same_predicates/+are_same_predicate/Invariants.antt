@@ -10,3 +10,5 @@ invariant-loop-one l =
     (size-Predicate l.one ≤ size-Predicate l.fn.one)
     × (bare_predicate (predicate_tree l.one) ≡ bare_predicate (predicate_tree l.other)
     → bare_predicate (predicate_tree l.fn.one) ≡ bare_predicate (predicate_tree l.fn.other))
+    × (bare_predicate (predicate_tree l.fn.one) ≡ bare_predicate (predicate_tree l.fn.other)
+    → bare_predicate (predicate_tree l.one) ≡ bare_predicate (predicate_tree l.other))

@@ -10,3 +10,5 @@ invariant-loop-one l =
     (size-Expr l.one ≤ size-Expr l.fn.one)
     × (bare_sum (sum_tree l.one) ≡ bare_sum (sum_tree l.other)
     → bare_sum (sum_tree l.fn.one) ≡ bare_sum (sum_tree l.fn.other))
+    × (bare_sum (sum_tree l.fn.one) ≡ bare_sum (sum_tree l.fn.other)
+    → bare_sum (sum_tree l.one) ≡ bare_sum (sum_tree l.other))
