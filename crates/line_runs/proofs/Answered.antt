@@ -1,5 +1,6 @@
 -- What was looked at for a table, between what its caller had seen before it and has seen behind it.
-use Rattle.std.proofs.Common.{◌<◌, ℕ, ℤ, List, Ok, sym, subst}
+use Rattle.std.proofs.Common.{◌≡◌, ◌<◌, ◌≤◌, ℕ, ℤ, List, Ok, sym, subst}
+use Rattle.std.specs.List.{AllByRecursion}
 use Rattle.history_book.specs.Histories.{AreFronts}
 use Rattle.know.specs.Knowledge.{Knowledge}
 use Rattle.leaf_store.specs.LeafStates.{key_buckets}
@@ -9,15 +10,19 @@ use Rattle.mon_config.specs.declared.config.Config.{Config}
 use Rattle.mon_meaning.specs.Central.{IsMeant}
 use Rattle.mon_store.specs.Queries.{IsEnded}
 use Rattle.mon_value.specs.declared.histories.Histories.{Histories}
+use Rattle.mon_value.specs.declared.positions.FoundDown.{FoundDown}
 use Rattle.mon_value.specs.declared.positions.Leaf.{Leaf}
 use Rattle.mon_value.specs.declared.rows.SeriesKey.{SeriesKey}
+use Rattle.mql_types.specs.Meaning.{load}
 use Rattle.mql_types.specs.Nodes.{TypedTree}
 use Rattle.mql_types.specs.declared.plans.Plan.{Plan}
+use Rattle.query_core.specs.Courses.{IsFoundBetween}
 use Rattle.query_core.specs.Mixtures.{typed_of}
 use Rattle.query_core.specs.Traces.{AreWider, IsFreshSince, IsReadRightly, IsTraceBetween, Lengths}
 use Rattle.query_core.specs.Traces.{lengths_of, source_of}
 use Rattle.query_core.specs.declared.answers.Answer.{Answer}
 use Rattle.query_core.specs.declared.answers.Trace.{Trace}
+use Rattle.run_traces.proofs.ListFacts.{all_as}
 use Rattle.run_traces.specs.LineClaims.{HaveGrown, LookFound, marked}
 
 module _ (config : Config) (text : List ℕ) (moment : ℤ) (before mid : Knowledge) (answer : Answer)
@@ -38,6 +43,12 @@ module _ (config : Config) (text : List ℕ) (moment : ℤ) (before mid : Knowle
       (stays : (typed : TypedTree) (moment : ℤ) (from to earlier later : Lengths) (seen more : Histories)
       (trace : Trace) → AreWider from to earlier later seen more → IsTraceBetween typed moment from to seen trace
       → IsTraceBetween typed moment earlier later more trace)
+      (stays_rows : (typed : TypedTree) (moment : ℤ) (from to earlier later : Lengths) (seen more : Histories)
+      (trace : Trace) → AreWider from to earlier later seen more → IsTraceBetween typed moment from to seen trace
+      → source_of more trace ≡ source_of seen trace)
+      (stays_found : (from to earlier later : Lengths) (seen more : Histories) (found : FoundDown)
+      → AreWider from to earlier later seen more → IsFoundBetween from to seen found
+      → IsFoundBetween earlier later more found)
       (stays_fresh : (typed : TypedTree) (moment : ℤ) (from to earlier later : Lengths) (seen more : Histories)
       (trace : Trace) → AreWider from to earlier later seen more → IsTraceBetween typed moment from to seen trace
       → IsFreshSince from seen trace → IsFreshSince earlier more trace)
@@ -69,6 +80,19 @@ module _ (config : Config) (text : List ℕ) (moment : ℤ) (before mid : Knowle
           (stays_fresh its_type moment (lengths_of before.seen) (lengths_of mid.seen) (lengths_of before.seen)
           (lengths_of after.seen) mid.seen after.seen answer.trace wide ended.ends.rightly.of
           ended.ends.rightly.fresh);
+      down = subst (λ (low : Lengths). AllByRecursion (IsFoundBetween low (marked (seen_of after.seen)) after.seen)
+          answer.trace.down) (sym (marks before.seen))
+          (subst (λ (high : Lengths). AllByRecursion (IsFoundBetween (lengths_of before.seen) high after.seen)
+          answer.trace.down) (sym (marks after.seen))
+          (all_as (IsFoundBetween (lengths_of before.seen) (lengths_of mid.seen) mid.seen)
+          (IsFoundBetween (lengths_of before.seen) (lengths_of after.seen) after.seen)
+          (λ one is. stays_found (lengths_of before.seen) (lengths_of mid.seen) (lengths_of before.seen)
+          (lengths_of after.seen) mid.seen after.seen one wide is) answer.trace.down ended.ends.rightly.down));
+      within = subst (λ source. load its_type source moment ≤ config.limit)
+          (sym (stays_rows its_type moment (lengths_of before.seen) (lengths_of mid.seen) (lengths_of before.seen)
+          (lengths_of after.seen) mid.seen after.seen answer.trace wide ended.ends.rightly.of))
+          (subst (λ limit. load its_type (source_of mid.seen answer.trace) moment ≤ limit) ended.of_text.limit_is
+          ended.ends.rightly.table.within);
       read = record {
         plan = ended.setting.plan;
         planned = ended.of_text.plan;

@@ -11,7 +11,7 @@ use Rattle.mon_store.specs.Stores.{setting_of}
 use Rattle.mon_store.specs.declared.queries.QueryFault.{QueryFault}
 use Rattle.mon_store.specs.declared.queries.QueryFault.TheVariants as fault
 use Rattle.mon_topo.proofs.RangeHistoryLemmas.{all_filter}
-use Rattle.mon_value.specs.Histories.{leaf_history, same_leaf}
+use Rattle.mon_value.specs.Histories.{leaf_history, same_leaf, zone_numbered}
 use Rattle.mon_value.specs.declared.histories.Histories.{Histories}
 use Rattle.mon_value.specs.declared.positions.FoundDown.{FoundDown}
 use Rattle.mon_value.specs.declared.positions.Leaf.{Leaf}
@@ -71,19 +71,26 @@ module _ (config : Config) (what : LineForm) (before after : Knowledge) where
     pub cuts : (leaf : Leaf) → leaf.0 < length after.seen.leaves
         → AllByRecursion (LiesBetween before.seen after.seen leaf) (refusal_cuts leaf what told)
 
-  none_up : (range : Range) (named : List FoundDown) → HasNoReplica config.topology before.seen after.seen range named
-      → HasItsCause (why.NoReplica range named)
-  none_up range named none =
+  none_up : (setting : QuerySetting) (range : Range) (named : List FoundDown)
+      → IsSettingOf config (text_of what) config.limit setting
+      → HasNoReplica config.topology before.seen after.seen range named → HasItsCause (why.NoReplica range named)
+  none_up setting range named of_text none =
       let are : AreFoundThen before.seen after.seen named =
       subst (AreFoundThen before.seen after.seen) (sym none.named_are)
       (all_filter (IsFoundThen before.seen after.seen)
       (λ (found : FoundDown). has_leaf (area_of config.topology none.zone) found.leaf) none.founds none.were_found) in
       record {
         cause = record {
-          were_found = are;
-          found = none.found;
-          between = none.between;
-          all_down = none.all_down;
+          typed = typed_of setting;
+          type_is = of_text.typed;
+          zone = zone_numbered none.zone;
+          zoned = none.zoned;
+          none_up = record {
+            were_found = are;
+            found = none.found;
+            between = none.between;
+            all_down = none.all_down;
+          };
         };
         cuts = λ leaf there. founds_between before.seen after.seen leaf named are;
       }
@@ -96,11 +103,16 @@ module _ (config : Config) (what : LineForm) (before after : Knowledge) where
       typed = typed_of setting;
       type_is = of_text.typed;
       of = stopped.of;
+      since = stopped.since;
+      down = stopped.down;
       limit_is = stopped.limit_is ∙ of_text.limit_is;
       above = subst (λ most. most < load (typed_of setting) (source_of after.seen trace) (moment_of what)) of_text.limit_is
           stopped.above;
     };
-    cuts = λ leaf there. (record { from = stopped.since leaf there; to = stopped.of.within leaf there }, tt);
+    cuts = λ leaf there. (
+      record { from = stopped.since leaf there; to = stopped.of.within leaf there },
+      founds_between before.seen after.seen leaf trace.down stopped.down,
+    );
   }
 
   -- of each query that is refused
@@ -112,7 +124,7 @@ module _ (config : Config) (what : LineForm) (before after : Knowledge) where
   has_cause (fault.Typing typing) queried told is =
       subst HasItsCause (same_Some (why.Typing typing) told is) (record { cause = queried; cuts = λ leaf there. tt })
   has_cause (fault.NoReplica range named) queried told is =
-      subst HasItsCause (same_Some (why.NoReplica range named) told is) (none_up range named queried.ends.rightly)
+      subst HasItsCause (same_Some (why.NoReplica range named) told is) (none_up queried.setting range named queried.of_text queried.ends.rightly)
   has_cause (fault.StepLimit limit trace) queried told is =
       subst HasItsCause (same_Some (why.StepLimit limit trace) told is)
       (over queried.setting limit trace queried.of_text queried.ends.rightly)

@@ -20,10 +20,12 @@ use Rattle.mon_store.specs.declared.queries.QueryFault.{QueryFault}
 use Rattle.mon_topo.specs.HeldHistories.{AreHeld}
 use Rattle.mon_topo.specs.Settings.{Setting}
 use Rattle.mon_value.specs.declared.histories.Histories.{Histories}
+use Rattle.mon_value.specs.declared.positions.FoundDown.{FoundDown}
 use Rattle.mon_value.specs.declared.positions.Leaf.{Leaf}
 use Rattle.mon_value.specs.declared.rows.SeriesKey.{SeriesKey}
 use Rattle.mql_types.specs.Nodes.{TypedTree}
 use Rattle.mql_types.specs.declared.plans.Plan.{Plan}
+use Rattle.query_core.specs.Courses.{IsFoundBetween}
 use Rattle.query_core.specs.Mixtures.{typed_of}
 use Rattle.query_core.specs.Traces.{AreWider, IsFreshSince, IsReadRightly, IsTraceBetween, Lengths}
 use Rattle.query_core.specs.Traces.{lengths_of, source_of}
@@ -119,6 +121,9 @@ module _ (store : Setting) (config : Config) (before : Knowledge)
       (stays_rows : (typed : TypedTree) (moment : ℤ) (from to earlier later : Lengths) (seen more : Histories)
       (trace : Trace) → AreWider from to earlier later seen more → IsTraceBetween typed moment from to seen trace
       → source_of more trace ≡ source_of seen trace)
+      (stays_found : (from to earlier later : Lengths) (seen more : Histories) (found : FoundDown)
+      → AreWider from to earlier later seen more → IsFoundBetween from to seen found
+      → IsFoundBetween earlier later more found)
       (stays_fresh : (typed : TypedTree) (moment : ℤ) (from to earlier later : Lengths) (seen more : Histories)
       (trace : Trace) → AreWider from to earlier later seen more → IsTraceBetween typed moment from to seen trace
       → IsFreshSince from seen trace → IsFreshSince earlier more trace)
@@ -154,7 +159,7 @@ module _ (store : Setting) (config : Config) (before : Knowledge)
         (subst (λ w. LineWrote config (ran_line (question what moment text) content trace) w before after)
         (sym printed_then)
         (asked_wrote config what moment text content before after (owns_then mid after held goes same) answer.trace
-        (look_found config text moment before mid answer ended stays stays_fresh stays_read after goes.fronts
+        (look_found config text moment before mid answer ended stays stays_rows stays_found stays_fresh stays_read after goes.fronts
         same.fronts (more held))))
 
     pub answered_ran : {F : Type 0} (result : Result LineRan F)

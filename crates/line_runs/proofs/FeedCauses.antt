@@ -143,11 +143,15 @@ module _ (config : Config) (x y z : Knowledge) (fronts : AreFronts y.seen z.seen
   -- the cause of a refusal stands there still
   pub cause_stands : (row : Row) (fault : WriteFault) → CanBeTold fault → IsRefused config row x y fault
       → IsUnwritten config z.seen (marked (lengths x)) (marked (lengths y)) row fault
+  unfolding none_up
   cause_stands row unwritten.NoZone told cause = cause
   cause_stands row (unwritten.OldPoint last) told cause = refused_by row (ranged.OldPoint last) cause
   cause_stands row (unwritten.RangeFull limit) told cause = refused_by row (ranged.RangeFull limit) cause
   cause_stands row (unwritten.Unavailable range founds) told cause = record {
     in_range = cause.cause.in_range;
     none_up = none_up row range founds cause;
+    free = ap (λ w. refusal config.range_points w row) (stood range cause.history
+        (subst (λ (r : Range). WasFoundSo config r cause.history x y)
+        (some_inside cause.range range (sym cause.in_range ∙ cause.cause.in_range)) cause.found)) ∙ cause.cause.free;
   }
   cause_stands row unwritten.OutOfMemory told cause = told

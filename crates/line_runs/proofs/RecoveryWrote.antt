@@ -306,6 +306,7 @@ module _ (config : Config) (what : LineForm) (recovery : Recovery) (asked : reco
             (subst (λ (leaves : List Leaf). AllByRecursion (λ replica. is_avoided leaves replica ≡ true)
             (serving so.history)) (sym so.cause.1.leaves) (all_avoided (serving so.history)));
       };
+      free = ap (λ w. denial_of w leaf) so.found.to ∙ so.cause.0;
     }
 
     target_cuts : (cut : ℕ) → WasFoundDown before after leaf cut → (other : Leaf) (b : Bool) → same_leaf other leaf ≡ b
@@ -339,7 +340,14 @@ module _ (config : Config) (what : LineForm) (recovery : Recovery) (asked : reco
         })
     caused (unopened.TargetDown cut) so told is =
         subst Caused (same_Some (why.TargetDown cut) told is) (record {
-          cause = record { recovery = recovery; asked = asked; down = found_then leaf cut so.cause.1 };
+          cause = record {
+            recovery = recovery;
+            asked = asked;
+            found = length so.history;
+            between = range_lies so.history so.found;
+            free = ap (λ w. denial_of w leaf) so.found.to ∙ so.cause.0;
+            down = found_then leaf cut so.cause.1;
+          };
           cuts = λ other there.
               subst (λ o. AllByRecursion (LiesBetween before.seen after.seen other) (cut_at other o cut)) (sym on)
               (target_cuts cut so.cause.1 other (same_leaf other leaf) refl);

@@ -10,7 +10,7 @@ use Rattle.history_book.specs.declared.views.History.{History}
 use Rattle.history_book.specs.declared.views.History.TheVariants as of
 use Rattle.history_book.specs.declared.views.Kept.{Kept}
 use Rattle.know.specs.Knowledge.{Knowledge}
-use Rattle.line_runs.proofs.Causes.{HasItsCause, LiesBetween}
+use Rattle.line_runs.proofs.Causes.{HasItsCause, LiesBetween, founds_between}
 use Rattle.line_runs.proofs.Growing.{forth, marks, seen_of}
 use Rattle.line_runs.specs.LineWrites.{KeepsItsPlace, LineWrote, ran_line}
 use Rattle.line_runs.specs.Questions.{asked_line, question}
@@ -26,6 +26,7 @@ use Rattle.mon_value.specs.declared.positions.Leaf.{Leaf}
 use Rattle.mon_value.specs.declared.rows.Row.{Row}
 use Rattle.mql_types.specs.Meaning.{meaning}
 use Rattle.mql_types.specs.Nodes.{TypedTree, columns_of}
+use Rattle.query_core.specs.Courses.{IsFoundBetween}
 use Rattle.query_core.specs.Traces.{IsBetween, Lengths}
 use Rattle.query_core.specs.Traces.{lengths_of, source_of}
 use Rattle.query_core.specs.declared.answers.Trace.{Trace}
@@ -35,7 +36,7 @@ use Rattle.run_traces.proofs.RunFacts.{book_length}
 use Rattle.run_traces.specs.LineCauses.{HasCause}
 use Rattle.run_traces.specs.LineClaims.{Finds, HaveGrown, LookFound, marked}
 use Rattle.run_traces.specs.LineForms.{IsQuestionFault, Suits}
-use Rattle.run_traces.specs.LineTables.{refusal_cuts, moment_of, text_of}
+use Rattle.run_traces.specs.LineTables.{found_cuts, refusal_cuts, moment_of, text_of}
 use Rattle.mon_script.specs.declared.forms.LineForm.{LineForm}
 use Rattle.owners.specs.Puts.{pass_of}
 use Rattle.run_traces.specs.LineTexts.{asked_text, explanation, line_text}
@@ -184,7 +185,13 @@ module _ (config : Config) (what : Asked) (moment : ℤ) (text content : List �
     suits = suits_asked what moment text trace;
     told = tt;
     cuts = λ leaf there.
-        (record { from = look.fresh.cuts leaf there; to = look.of.within leaf there }, tt);
+        (record { from = look.fresh.cuts leaf there; to = look.of.within leaf there },
+        between config (question what moment text) content before after owns leaf (found_cuts leaf trace.down)
+        (founds_between before.seen after.seen leaf trace.down
+        (subst (λ (low : Lengths). AllByRecursion (IsFoundBetween low (lengths_of after.seen) after.seen) trace.down)
+        (marks before.seen)
+        (subst (λ (high : Lengths). AllByRecursion (IsFoundBetween (marked since) high after.seen) trace.down)
+        (marks after.seen) look.down))));
     found =
         subst (λ asked. LookFound config after.seen since until asked moment trace) (sym (text_is what moment text)) look;
   }

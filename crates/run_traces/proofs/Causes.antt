@@ -36,7 +36,7 @@ use Rattle.run_theory.specs.InPlace as theory
 use Rattle.run_theory.specs.Parts.{RanBefore, RanBehind}
 use Rattle.run_theory.proofs.Lists.{first_place_behind, last_end_within}
 use Rattle.run_traces.specs.LineCauses.{HasCause, HasNoSource, HasNoTarget, HasNoneUp, HasRowCause, HasSwitchedEnough}
-use Rattle.run_traces.specs.LineCauses.{IsCaused, IsDenied, IsOverLimit, IsRefusedByRange, IsUnwritten, LineIsCaused}
+use Rattle.run_traces.specs.LineCauses.{IsCaused, IsDenied, IsLeftWithout, IsOverLimit, IsRefusedByRange, IsUnwritten, LineIsCaused}
 use Rattle.run_traces.specs.LineCauses.{WasAlready}
 use Rattle.run_traces.specs.LineCauses.{RowHasCause, RowsHaveCauses, fed, rows_before}
 use Rattle.run_traces.specs.LineClaims.{HasFound, Makes, RowFound, RowsFound, marked}
@@ -154,6 +154,16 @@ module _ (widen : (typed : TypedTree) (moment : ℤ) (from to earlier later : Le
           (front_stays range none.found none.between) none.all_down;
     }
 
+    left_wider : (text : List ℕ) (range : Range) (founds : List FoundDown)
+        → IsLeftWithout config seen from to text range founds → IsLeftWithout config more first last text range founds
+    left_wider text range founds left = record {
+      typed = left.typed;
+      type_is = left.type_is;
+      zone = left.zone;
+      zoned = left.zoned;
+      none_up = none_wider range founds left.none_up;
+    }
+
     over_wider : (text : List ℕ) (moment : ℤ) (limit : ℕ) (trace : Trace)
         → IsOverLimit config seen from to text moment limit trace
         → IsOverLimit config more first last text moment limit trace
@@ -161,6 +171,11 @@ module _ (widen : (typed : TypedTree) (moment : ℤ) (from to earlier later : Le
       typed = cause.typed;
       type_is = cause.type_is;
       of = widen cause.typed moment from to first last seen more trace wide cause.of;
+      since = λ leaf there.
+          let a = wide.sooner.leaves leaf in let b = cause.since leaf (subst (λ w. leaf.0 < w) wide.leaves there) in
+          omega arith;
+      down = all_as (IsFoundBetween from to seen) (IsFoundBetween first last more)
+          (λ found is. find from to first last seen more found wide is) trace.down cause.down;
       limit_is = cause.limit_is;
       above = subst (λ w. config.limit < load cause.typed w moment)
           (sym (rows cause.typed moment from to first last seen more trace wide cause.of)) cause.above;
@@ -221,10 +236,13 @@ module _ (widen : (typed : TypedTree) (moment : ℤ) (from to earlier later : Le
 
     source_wider : (what : LineForm) (founds : List FoundDown) → HasNoSource config seen from to what founds
         → HasNoSource config more first last what founds
+    unfolding none_wider
     source_wider what founds has = record {
       recovery = has.recovery;
       asked = has.asked;
       none_up = none_wider has.recovery.range founds has.none_up;
+      free = ap (λ w. denial_of w has.recovery.leaf)
+          (sym (front_stays has.recovery.range has.none_up.found has.none_up.between)) ∙ has.free;
     }
 
     target_wider : (what : LineForm) (cut : ℕ) → HasNoTarget config seen from to what cut
@@ -232,6 +250,10 @@ module _ (widen : (typed : TypedTree) (moment : ℤ) (from to earlier later : Le
     target_wider what cut has = record {
       recovery = has.recovery;
       asked = has.asked;
+      found = has.found;
+      between = length_wider has.recovery.range has.found has.between;
+      free = ap (λ w. denial_of w has.recovery.leaf) (sym (front_stays has.recovery.range has.found has.between))
+          ∙ has.free;
       down = find from to first last seen more (record { leaf = has.recovery.leaf; cut = cut }) wide has.down;
     }
 
@@ -239,7 +261,7 @@ module _ (widen : (typed : TypedTree) (moment : ℤ) (from to earlier later : Le
         → HasCause config more first last what fault
     line_wider what (why.Parse parse) cause = cause
     line_wider what (why.Typing typing) cause = cause
-    line_wider what (why.NoReplica range founds) cause = none_wider range founds cause
+    line_wider what (why.NoReplica range founds) cause = left_wider (text_of what) range founds cause
     line_wider what (why.StepLimit limit trace) cause =
         over_wider (text_of what) (moment_of what) limit trace cause
     line_wider what (why.AlreadyDown cut) cause = already_wider what true cut cause
@@ -267,12 +289,15 @@ module _ (widen : (typed : TypedTree) (moment : ℤ) (from to earlier later : Le
 
     write_wider : (row : Row) (fault : WriteFault) → IsUnwritten config seen from to row fault
         → IsUnwritten config more first last row fault
+    unfolding none_wider
     write_wider row unwritten.NoZone cause = cause
     write_wider row (unwritten.OldPoint end) cause = range_wider row (ranged.OldPoint end) cause
     write_wider row (unwritten.RangeFull limit) cause = range_wider row (ranged.RangeFull limit) cause
     write_wider row (unwritten.Unavailable range founds) cause = record {
       in_range = cause.in_range;
       none_up = none_wider range founds cause.none_up;
+      free = ap (λ w. refusal config.range_points w row)
+          (sym (front_stays range cause.none_up.found cause.none_up.between)) ∙ cause.free;
     }
     write_wider row unwritten.OutOfMemory cause = cause
 

@@ -1,5 +1,5 @@
 -- What lines made and found stays so as histories grow, and a part more runs behind the others.
-use Rattle.std.proofs.Common.{◌≡◌, ℕ, zero, suc, ◌+◌, ◌<◌, false, List, [], ◌∷◌, ◌++◌, length, take}
+use Rattle.std.proofs.Common.{◌≡◌, ℕ, zero, suc, ◌+◌, ◌<◌, ◌≤◌, false, List, [], ◌∷◌, ◌++◌, length, take}
 use Rattle.std.proofs.Common.{drop, slice_get, Some, refl, sym, ap, ◌∙◌, subst, arith}
 use Rattle.std.specs.Prelude.{ℤ}
 use Rattle.std.specs.List.{AllByRecursion}
@@ -20,6 +20,7 @@ use Rattle.mon_value.specs.declared.positions.Leaf.{Leaf}
 use Rattle.mon_value.specs.declared.positions.Range.{Range}
 use Rattle.mon_value.specs.declared.rows.Row.{Row}
 use Rattle.mon_value.specs.declared.rows.SeriesKey.{SeriesKey}
+use Rattle.mql_types.specs.Meaning.{load}
 use Rattle.mql_types.specs.Nodes.{TypedTree}
 use Rattle.mql_types.specs.declared.plans.Plan.{Plan}
 use Rattle.query_core.specs.Courses.{IsFoundBetween}
@@ -201,6 +202,12 @@ module _ (widen : (typed : TypedTree) (moment : ℤ) (from to earlier later : Le
         of = widen found.typed moment (marked from) (marked to) (marked from) (marked to) seen more trace wide found.of;
         fresh = freshen found.typed moment (marked from) (marked to) (marked from) (marked to) seen more trace wide
             found.of found.fresh;
+        down = all_as (IsFoundBetween (marked from) (marked to) seen) (IsFoundBetween (marked from) (marked to) more)
+            (λ one is. find (marked from) (marked to) (marked from) (marked to) seen more one wide is) trace.down
+            found.down;
+        within = subst (λ w. load found.typed w moment ≤ config.limit)
+            (sym (rows found.typed moment (marked from) (marked to) (marked from) (marked to) seen more trace wide
+            found.of)) found.within;
         read = record {
           plan = found.read.plan;
           planned = found.read.planned;

@@ -178,6 +178,10 @@ module _ (widen : (typed : TypedTree) (moment : ℤ) (from to earlier later : Le
           found.of;
       fresh = freshen found.typed moment (marked from) (marked to) (marked from) (marked later) more more trace raised
           found.of found.fresh;
+      down = all_as (IsFoundBetween (marked from) (marked to) more) (IsFoundBetween (marked from) (marked later) more)
+          (λ one is. find (marked from) (marked to) (marked from) (marked later) more more one raised is) trace.down
+          found.down;
+      within = found.within;
       read = found.read;
     }
     found_raised number made (came.Switched cut) none makes found = switched_wider more more from to from later

@@ -12,10 +12,12 @@ use Rattle.mon_config.specs.declared.config.Config.{Config}
 use Rattle.mon_topo.specs.RangeHistories.{acknowledged_rows}
 use Rattle.mon_value.specs.Histories.{leaf_history, range_history}
 use Rattle.mon_value.specs.declared.histories.Histories.{Histories}
+use Rattle.mon_value.specs.declared.positions.FoundDown.{FoundDown}
 use Rattle.mon_value.specs.declared.positions.Leaf.{Leaf}
 use Rattle.mon_value.specs.declared.positions.Range.{Range}
 use Rattle.mon_value.specs.declared.rows.Row.{Row}
 use Rattle.mql_types.specs.Nodes.{TypedTree}
+use Rattle.query_core.specs.Courses.{IsFoundBetween}
 use Rattle.query_core.specs.Traces.{AreWider, IsBetween, IsTraceBetween, Lengths, source_of}
 use Rattle.query_core.specs.declared.answers.Trace.{Trace}
 use Rattle.run_theory.specs.InPlace.{FoundThere, RanInPlace}
@@ -24,8 +26,8 @@ use Rattle.run_theory.specs.Parts.{RanBefore, Each, Part, all_lines, lines_of}
 use Rattle.run_traces.specs.LineClaims.{Finds, HasFound, HasMade, HasRange, Makes, marked}
 use Rattle.run_traces.specs.LineFeeds.{lies_in}
 use Rattle.run_traces.specs.LineTables.{CutsRise, HoldsRows, LineIsFresh, cuts_named, IsRead, LineIsRead, IsTabled}
-use Rattle.run_traces.specs.LineTables.{LineIsTabled, text_of}
-use Rattle.run_traces.specs.LineSwitches.{first_length, highs, is_entry_of, low, lows}
+use Rattle.run_traces.specs.LineTables.{LineIsPlaced, LineIsTabled, text_of}
+use Rattle.run_traces.specs.LineSwitches.{LineStands, first_length, high, highs, is_entry_of, low, lows}
 use Rattle.run_traces.specs.RanLines.{RanLine, accepted_rows, trace_rows}
 use Rattle.run_traces.specs.declared.traces.LineTrace.{LineTrace}
 use Rattle.run_traces.specs.declared.traces.LineTrace.TheVariants as came
@@ -168,6 +170,22 @@ module _ (config : Config) (ended : Histories) where
     holds_rows (came.Ticked dues) found = tt
     holds_rows came.Done found = tt
 
+    -- ---- places
+
+    pub is_placed : LineIsPlaced config ended seen later line
+    is_placed leaf there = all_as (IsBetween (place.from (of.Leaf leaf)) (place.to (of.Leaf leaf)))
+        (IsBetween (low config.topology ended seen (of.Leaf leaf)) (high config.topology ended later (of.Leaf leaf)))
+        (λ cut between. record {
+          from = let a = low_below (of.Leaf leaf) in let b = between.from in omega arith;
+          to = let a = place.to_high (of.Leaf leaf) in let b = between.to in omega arith;
+        })
+        (cuts_named leaf line.what line.trace) (place.ran.found.0.cuts leaf there)
+
+    pub stands : LineStands config ended seen later line
+    stands h k e at mine =
+        let p = place.ran.found.1 h k e at mine in let a = low_below h in let b = place.to_high h in
+        (omega arith, omega arith)
+
     pub is_fresh : LineIsFresh ended seen later line
     is_fresh = (holds_rows line.trace place.ran.found.0.found, cuts_rise)
 
@@ -190,7 +208,10 @@ module _ (config : Config) (ended : Histories) where
 
     module _ (widen : (typed : TypedTree) (moment : ℤ) (from to earlier later : Lengths) (seen more : Histories)
         (trace : Trace) → AreWider from to earlier later seen more → IsTraceBetween typed moment from to seen trace
-        → IsTraceBetween typed moment earlier later more trace) where
+        → IsTraceBetween typed moment earlier later more trace)
+        (find : (from to earlier later : Lengths) (seen more : Histories) (found : FoundDown)
+        → AreWider from to earlier later seen more → IsFoundBetween from to seen found
+        → IsFoundBetween earlier later more found) where
       tabled_by : (trace : LineTrace) → HasFound config ended place.from place.to place.number line trace
           → IsTabled config ended seen later (text_of line.what) trace
       tabled_by (came.Fed pass rows refused) found = tt
@@ -199,6 +220,11 @@ module _ (config : Config) (ended : Histories) where
         type_is = found.type_is;
         of = widen found.typed moment (marked place.from) (marked place.to) (lows config.topology ended seen)
             (highs config.topology ended later) ended ended trace wider found.of;
+        down = all_as (IsFoundBetween (marked place.from) (marked place.to) ended)
+            (IsFoundBetween (lows config.topology ended seen) (highs config.topology ended later) ended)
+            (λ one is. find (marked place.from) (marked place.to) (lows config.topology ended seen)
+            (highs config.topology ended later) ended ended one wider is) trace.down found.down;
+        within = found.within;
       }
       tabled_by (came.Switched cut) found = tt
       tabled_by (came.Recovered slot) found = tt

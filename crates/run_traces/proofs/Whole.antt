@@ -18,17 +18,17 @@ use Rattle.run_theory.proofs.Settled.{alone_beside, alone_later, placed_in_run}
 use Rattle.run_traces.specs.Headline.{RunHolds}
 use Rattle.run_traces.specs.LineCauses.{LineIsCaused}
 use Rattle.run_traces.specs.LineClaims.{AllRan, Finds, Makes}
-use Rattle.run_traces.specs.LineSwitches.{LineIsControlled, first_length, is_entry_of}
+use Rattle.run_traces.specs.LineSwitches.{LineIsControlled, LineStands, first_length, is_entry_of}
 use Rattle.run_traces.specs.LineFeeds.{LineIsTold}
 use Rattle.run_traces.specs.LineForms.{LineSuits}
-use Rattle.run_traces.specs.LineTables.{LineIsFresh, LineIsRead, LineIsTabled}
+use Rattle.run_traces.specs.LineTables.{LineIsFresh, LineIsPlaced, LineIsRead, LineIsTabled}
 use Rattle.run_traces.specs.RanLines.{RanLine}
 use Rattle.run_traces.proofs.Acks.{acknowledged}
 use Rattle.run_traces.proofs.Causes.{is_caused}
 use Rattle.run_traces.proofs.Controlled.{is_controlled}
 use Rattle.run_traces.proofs.ListFacts.{all_as}
 use Rattle.run_traces.proofs.Owners.{are_distinct, are_not_first, are_theirs, are_under}
-use Rattle.run_traces.proofs.RunFacts.{InPlace, each_as, is_fresh, is_read, is_tabled}
+use Rattle.run_traces.proofs.RunFacts.{InPlace, each_as, is_fresh, is_placed, is_read, is_tabled, stands}
 use Rattle.mon_value.proofs.PlainLemmas.{get_within}
 
 module _ (widen : (typed : TypedTree) (moment : ℤ) (from to earlier later : Lengths) (seen more : Histories)
@@ -60,9 +60,11 @@ module _ (widen : (typed : TypedTree) (moment : ℤ) (from to earlier later : Le
         (all_behind entries book_entry_pass (Makes config) (Finds config) ended (first_length config.topology ended) end
         parts ran);
     tables = each_as (InPlace config ended) (LineIsTabled config ended)
-        (λ seen later line place. is_tabled config ended seen later line place widen) [] parts places;
+        (λ seen later line place. is_tabled config ended seen later line place widen find) [] parts places;
     fresh = each_as (InPlace config ended) (LineIsFresh ended)
         (λ seen later line place. is_fresh config ended seen later line place) [] parts places;
+    placed = each_as (InPlace config ended) (LineIsPlaced config ended)
+        (λ seen later line place. is_placed config ended seen later line place) [] parts places;
     read = each_as (InPlace config ended) (LineIsRead config ended)
         (λ seen later line place. is_read config ended seen later line place) [] parts places;
     told = all_as
@@ -90,4 +92,6 @@ module _ (widen : (typed : TypedTree) (moment : ℤ) (from to earlier later : Le
         (λ seen later line place. is_caused widen find rows config ended seen later line place) [] parts places;
     controls = each_as (InPlace config ended) (LineIsControlled config ended)
         (λ seen later line place. is_controlled config ended seen later line place) [] parts places;
+    stands = each_as (InPlace config ended) (LineStands config ended)
+        (λ seen later line place. stands config ended seen later line place) [] parts places;
   }

@@ -5,11 +5,11 @@ use Rattle.mon_config.specs.declared.config.Config.{Config}
 use Rattle.mon_value.specs.declared.histories.Histories.{Histories}
 use Rattle.run_theory.specs.Parts.{Each, Part, all_lines}
 use Rattle.run_traces.specs.LineCauses.{LineIsCaused}
-use Rattle.run_traces.specs.LineSwitches.{LineIsControlled}
+use Rattle.run_traces.specs.LineSwitches.{LineIsControlled, LineStands}
 use Rattle.run_traces.specs.LineDues.{AreDue, asked_parts}
 use Rattle.run_traces.specs.LineFeeds.{AreAcknowledged, AreOfLines, LineIsTold, ShareNoEntry}
 use Rattle.run_traces.specs.LineForms.{LineSuits}
-use Rattle.run_traces.specs.LineTables.{LineIsFresh, LineIsRead, LineIsTabled}
+use Rattle.run_traces.specs.LineTables.{LineIsFresh, LineIsPlaced, LineIsRead, LineIsTabled}
 use Rattle.run_traces.specs.RanLines.{RanLine, parts_of, ran_lines}
 use Rattle.run_traces.specs.declared.traces.LineTrace.{LineTrace}
 use Rattle.mon_script.specs.declared.script.ScriptLine.{ScriptLine}
@@ -23,6 +23,7 @@ pub record RunHolds (config : Config) (ended : Histories) (parts : List (Part Ra
   pub suits : AllByRecursion LineSuits (all_lines parts)
   pub tables : Each (LineIsTabled config ended) [] parts
   pub fresh : Each (LineIsFresh ended) [] parts
+  pub placed : Each (LineIsPlaced config ended) [] parts
   pub read : Each (LineIsRead config ended) [] parts
   pub told : AllByRecursion (LineIsTold config) (all_lines parts)
   pub acknowledged : AreAcknowledged config ended (all_lines parts)
@@ -30,6 +31,7 @@ pub record RunHolds (config : Config) (ended : Histories) (parts : List (Part Ra
   pub apart : ShareNoEntry ended parts
   pub causes : Each (LineIsCaused config ended) [] parts
   pub controls : Each (LineIsControlled config ended) [] parts
+  pub stands : Each (LineStands config ended) [] parts
 
 -- All this holds of a script whose lines came to these traces, over files of these contents, where each tick counts as
 -- the queries that it asked, one after another; and these are just those that were due

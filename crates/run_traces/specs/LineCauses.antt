@@ -1,6 +1,6 @@
 -- Why lines and rows were refused: each has its cause in the histories at the end, at lengths in its place.
 use Rattle.std.specs.Prelude.{◌≡◌, ◌<◌, ◌+◌, ◌-◌, ◌∷◌, ◌++◌, ℕ, ℤ, Bool, true, false, not, List, [], take, drop}
-use Rattle.std.specs.Prelude.{slice_get, Some, None, Ok, Err}
+use Rattle.std.specs.Prelude.{slice_get, Some, None, Ok, Err, length, ◌≤◌}
 use Rattle.std.specs.List.{AllByRecursion, count_by}
 use Rattle.mon_config.specs.Configs.{range_of_key}
 use Rattle.mon_config.specs.declared.config.Config.{Config}
@@ -8,17 +8,20 @@ use Rattle.mon_points.specs.Records.{reads_of}
 use Rattle.mon_points.specs.declared.records.RowRead.{RowRead}
 use Rattle.mon_points.specs.declared.records.RowRead.TheVariants as read
 use Rattle.mon_topo.specs.RangeHistories.{serving, is_avoided}
+use Rattle.mon_topo.specs.Zones.{range_zones}
 use Rattle.mon_value.specs.Histories.{leaf_history, range_history}
 use Rattle.mon_value.specs.LeafHistories.{is_down, is_switch}
 use Rattle.mon_value.specs.declared.limits.TheConstants.{MOST_SWITCHES}
 use Rattle.mon_value.specs.declared.histories.Histories.{Histories}
 use Rattle.mon_value.specs.declared.positions.FoundDown.{FoundDown}
+use Rattle.mon_value.specs.declared.positions.Leaf.{Leaf}
 use Rattle.mon_value.specs.declared.positions.Range.{Range}
+use Rattle.mon_value.specs.declared.positions.Zone.{Zone}
 use Rattle.mon_value.specs.declared.rows.Row.{Row}
 use Rattle.mql_types.specs.Meaning.{load}
 use Rattle.mql_types.specs.Nodes.{TypedTree}
 use Rattle.query_core.specs.Courses.{IsFoundBetween}
-use Rattle.query_core.specs.Traces.{IsBetween, IsTraceBetween, Lengths, found_leaves, source_of}
+use Rattle.query_core.specs.Traces.{IsBetween, IsTraceBetween, Lengths, cut_of, found_leaves, source_of}
 use Rattle.query_core.specs.declared.answers.Trace.{Trace}
 use Rattle.query_texts.specs.TextTypes.{text_type}
 use Rattle.query_texts.specs.declared.faults.TextFault.TheVariants as fault
@@ -54,11 +57,21 @@ module _ (config : Config) (ended : Histories) (from to : Lengths) where
     pub all_down : AllByRecursion (λ replica. is_avoided (found_leaves founds) replica ≡ true)
         (serving (take found (range_history ended range)))
 
+  -- a text that has a type finds no replica of a range of some zone
+  pub record IsLeftWithout (text : List ℕ) (range : Range) (founds : List FoundDown) : Type 0 where
+    pub typed : TypedTree
+    pub type_is : text_type config.schemas text ≡ Ok typed
+    pub zone : Zone
+    pub zoned : slice_get (range_zones config.topology) range.0 ≡ Some zone
+    pub none_up : HasNoneUp range founds
+
   -- the load over the rows of what was looked at is above the limit
   pub record IsOverLimit (text : List ℕ) (moment : ℤ) (limit : ℕ) (trace : Trace) : Type 0 where
     pub typed : TypedTree
     pub type_is : text_type config.schemas text ≡ Ok typed
     pub of : IsTraceBetween typed moment from to ended trace
+    pub since : (leaf : Leaf) → leaf.0 < length ended.leaves → from.leaves leaf ≤ cut_of trace leaf
+    pub down : AllByRecursion (IsFoundBetween from to ended) trace.down
     pub limit_is : limit ≡ config.limit
     pub above : config.limit < load typed (source_of ended trace) moment
 
@@ -93,18 +106,22 @@ module _ (config : Config) (ended : Histories) (from to : Lengths) where
     pub recovery : Recovery
     pub asked : recovery_of what ≡ Some recovery
     pub none_up : HasNoneUp recovery.range founds
+    pub free : denial_of (take none_up.found (range_history ended recovery.range)) recovery.leaf ≡ None
 
   -- the leaf was found down
   pub record HasNoTarget (what : LineForm) (cut : ℕ) : Type 0 where
     pub recovery : Recovery
     pub asked : recovery_of what ≡ Some recovery
+    pub found : ℕ
+    pub between : IsBetween (from.ranges recovery.range) (to.ranges recovery.range) found
+    pub free : denial_of (take found (range_history ended recovery.range)) recovery.leaf ≡ None
     pub down : IsFoundBetween from to ended (record { leaf = recovery.leaf; cut = cut })
 
   -- why a line is refused; that a query isn't to stand, or a moment isn't taken, is told by the queries that stand
   abbrev pub HasCause : LineForm → LineFault → Type 0
   HasCause what (why.Parse parse) = text_type config.schemas (text_of what) ≡ Err (fault.Parse parse)
   HasCause what (why.Typing typing) = text_type config.schemas (text_of what) ≡ Err (fault.Typing typing)
-  HasCause what (why.NoReplica range founds) = HasNoneUp range founds
+  HasCause what (why.NoReplica range founds) = IsLeftWithout (text_of what) range founds
   HasCause what (why.StepLimit limit trace) = IsOverLimit (text_of what) (moment_of what) limit trace
   HasCause what (why.AlreadyDown cut) = WasAlready what true cut
   HasCause what (why.AlreadyUp cut) = WasAlready what false cut
@@ -130,6 +147,7 @@ module _ (config : Config) (ended : Histories) (from to : Lengths) where
   pub record IsUnavailable (row : Row) (range : Range) (founds : List FoundDown) : Type 0 where
     pub in_range : range_of_key config row.key ≡ Some range
     pub none_up : HasNoneUp range founds
+    pub free : refusal config.range_points (take none_up.found (range_history ended range)) row ≡ None
 
   abbrev pub IsUnwritten : Row → WriteFault → Type 0
   IsUnwritten row unwritten.NoZone = range_of_key config row.key ≡ None

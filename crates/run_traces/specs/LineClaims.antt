@@ -19,7 +19,9 @@ use Rattle.mon_value.specs.declared.positions.Slot.{Slot}
 use Rattle.mon_value.specs.declared.rows.Row.{Row}
 use Rattle.mon_script.specs.declared.forms.LineForm.{LineForm}
 use Rattle.mql_types.specs.Nodes.{TypedTree}
-use Rattle.query_core.specs.Traces.{IsBetween, IsFreshSince, IsTraceBetween, Lengths}
+use Rattle.mql_types.specs.Meaning.{load}
+use Rattle.query_core.specs.Courses.{IsFoundBetween}
+use Rattle.query_core.specs.Traces.{IsBetween, IsFreshSince, IsTraceBetween, Lengths, source_of}
 use Rattle.query_core.specs.declared.answers.Trace.{Trace}
 use Rattle.query_texts.specs.TextTypes.{text_type}
 use Rattle.mon_points.specs.Records.{reads_of}
@@ -135,6 +137,8 @@ module _ (config : Config) (seen : Histories) (from to : History → ℕ) where
     pub type_is : text_type config.schemas text ≡ Ok typed
     pub of : IsTraceBetween typed moment (marked from) (marked to) seen trace
     pub fresh : IsFreshSince (marked from) seen trace
+    pub down : AllByRecursion (IsFoundBetween (marked from) (marked to) seen) trace.down
+    pub within : load typed (source_of seen trace) moment ≤ config.limit
     pub read : IsReadByPlan config seen text trace
 
   -- under its caller's number; a tick stands as the queries that it asked

@@ -208,6 +208,14 @@ module _ (zones : List ZoneSpec) (ended : Histories) where
     ranges = λ range. high later (of.Range range);
   }
 
+-- Each entry of a line stands in its place.
+
+module _ (config : Config) (ended : Histories) where
+  abbrev pub LineStands : List RanLine → List RanLine → RanLine → Type 0
+  LineStands seen later line = (history : History) (place : ℕ) (e : BookEntry)
+      → slice_get (entries ended history) place ≡ Some e → is_entry_of line history place e ≡ true
+      → (low config.topology ended seen history ≤ place) × (place < high config.topology ended later history)
+
 -- What lines did that take a leaf down or up, or open a range's replica on a leaf.
 
 module _ (config : Config) (ended : Histories) (seen later : List RanLine) where

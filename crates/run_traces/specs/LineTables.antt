@@ -5,7 +5,9 @@ use Rattle.std.specs.List.{AllByRecursion, flat_map}
 use Rattle.mon_config.specs.declared.config.Config.{Config}
 use Rattle.mon_value.specs.declared.histories.Histories.{Histories}
 use Rattle.mql_types.specs.Nodes.{TypedTree}
-use Rattle.query_core.specs.Traces.{IsTraceBetween, cut_of, source_of, IsReadRightly}
+use Rattle.query_core.specs.Courses.{IsFoundBetween}
+use Rattle.query_core.specs.Traces.{IsBetween, IsTraceBetween, cut_of, source_of, IsReadRightly}
+use Rattle.mql_types.specs.Meaning.{load}
 use Rattle.query_core.specs.declared.answers.Trace.{Trace}
 use Rattle.query_texts.specs.TextTypes.{text_type, IsPlanOver, plan_type}
 use Rattle.mon_script.specs.declared.forms.LineForm.{LineForm}
@@ -65,6 +67,9 @@ module _ (config : Config) (ended : Histories) where
     pub type_is : text_type config.schemas text ≡ Ok typed
     pub of : IsTraceBetween typed moment (lows config.topology ended seen) (highs config.topology ended later) ended
         trace
+    pub down : AllByRecursion
+        (IsFoundBetween (lows config.topology ended seen) (highs config.topology ended later) ended) trace.down
+    pub within : load typed (source_of ended trace) moment ≤ config.limit
 
   abbrev pub IsTabled : List RanLine → List RanLine → List ℕ → LineTrace → Type 0
   IsTabled seen later text (came.Fed pass accepted refused) = Unit {0}
@@ -121,7 +126,7 @@ abbrev pub refusal_cuts : Leaf → LineForm → LineFault → List ℕ
 refusal_cuts leaf what (why.Parse fault) = []
 refusal_cuts leaf what (why.Typing fault) = []
 refusal_cuts leaf what (why.NoReplica range founds) = found_cuts leaf founds
-refusal_cuts leaf what (why.StepLimit limit trace) = cut_of trace leaf ∷ []
+refusal_cuts leaf what (why.StepLimit limit trace) = cut_of trace leaf ∷ found_cuts leaf trace.down
 refusal_cuts leaf what (why.AlreadyDown cut) = cut_at leaf (leaf_of what) cut
 refusal_cuts leaf what (why.AlreadyUp cut) = cut_at leaf (leaf_of what) cut
 refusal_cuts leaf what (why.SwitchesSpent count) = []
@@ -138,7 +143,7 @@ refusal_cuts leaf what (why.Backwards last) = []
 abbrev pub cuts_named : Leaf → LineForm → LineTrace → List ℕ
 cuts_named leaf what (came.Fed pass accepted refusals) =
     flat_map (λ (refusal : RowRefusal). row_cuts leaf refusal.fault) refusals
-cuts_named leaf what (came.Asked moment trace) = cut_of trace leaf ∷ []
+cuts_named leaf what (came.Asked moment trace) = cut_of trace leaf ∷ found_cuts leaf trace.down
 cuts_named leaf what (came.Ticked dues) = []
 cuts_named leaf what (came.Switched cut) = cut_at leaf (leaf_of what) cut
 cuts_named leaf what (came.Recovered slot) = []
@@ -169,6 +174,14 @@ module _ (ended : Histories) where
   abbrev pub LineIsFresh : List RanLine → List RanLine → RanLine → Type 0
   LineIsFresh seen later line = HoldsRows seen line.trace
       × ((leaf : Leaf) → leaf.0 < length ended.leaves → CutsRise seen line leaf)
+
+-- Each cut that a line names lies in its place.
+
+module _ (config : Config) (ended : Histories) where
+  abbrev pub LineIsPlaced : List RanLine → List RanLine → RanLine → Type 0
+  LineIsPlaced seen later line = (leaf : Leaf) → leaf.0 < length ended.leaves
+      → AllByRecursion (IsBetween ((lows config.topology ended seen).leaves leaf)
+      ((highs config.topology ended later).leaves leaf)) (cuts_named leaf line.what line.trace)
 
 -- Which leaves a line read: one that was left out has no row there that the query wants, and one that was read has a
 -- formula of the query that holds.

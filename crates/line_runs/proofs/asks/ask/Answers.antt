@@ -29,7 +29,7 @@ returns-in-Ok-clause-wrote g c =
     at_limit c.args.store.now c.args.text.now c.as_bytes.result.now _ c.args.moment _ c.args.p.now c.query.new.p
     (Ok c.in-Ok.answer) c.as_bytes.ensures.bytes same most c.in-Ok.ensures.queried in
     answered_ran g.N.Names.setting c.args.store.now c.args.p.now c.is_sound.ensures.held c.traces_stay.ensures.of
-    c.traces_stay.ensures.rows c.traces_stay.ensures.fresh c.traces_stay.ensures.read c.args.what c.args.moment
+    c.traces_stay.ensures.rows c.traces_stay.ensures.found c.traces_stay.ensures.fresh c.traces_stay.ensures.read c.args.what c.args.moment
     c.args.text.now c.query.new.p c.answered.new.p c.in-Ok.answer c.query.ensures.still c.answered.ensures.same ended
     c.answered.result
     (subst (λ (m : ℤ). IfOk c.answered.result (IsPrinted c.args.store.now c.args.what m c.args.text.now c.query.new.p
