@@ -73,117 +73,117 @@ none_ran config known p = record {
 }
 
 module _ {config : Config} {lines more : List ScriptLine} {from mid known : Histories} {before now after : Progress}
-    where
-  pub more_ran : LinesRan config lines from mid before now → LinesRan config more mid known now after
-      → LinesRan config (lines ++ more) from known before after
-  more_ran first second = record {
-    contents = first.contents ++ second.contents;
-    traces = first.traces ++ second.traces;
-    ends = second.ends ∙ ap (λ (ends : List LineTrace). ends ++ second.traces) first.ends
-        ∙ append_assoc before.ends first.traces second.traces;
-    count = length-append first.traces second.traces
-        ∙ (λ i. first.count i + second.count i) ∙ sym (length-append lines more);
-    given = first.given ++ second.given;
-    gave = second.gave ∙ ap (λ (reads : Files). reads ++ second.given) first.gave
-        ∙ append_assoc before.folder.gave first.given second.given;
-    have = lines_given {lines = lines} {more = more} first.have second.have;
-    apart = subst StandApart (sym both) apart;
-    grown = grown_then first.grown second.grown;
-    ran = λ parts ran.
-        subst (λ (all : List RanLine). AllRan config known (parts ++ asked_parts (parts_of all))) (sym both)
-        (subst (λ (all : Parts). AllRan config known (parts ++ asked_parts all)) (sym (first.apart other))
-        (asked_behind config known parts (parts_of one) (parts_of other)
-        (second.ran (parts ++ asked_parts (parts_of one)) (first.ran parts ran))));
-    did = λ later grown.
-        let went = plans_ran (first.did later (grown_then second.grown grown)) (second.did later grown) in
-        record {
-          steps = went.steps;
-          same = λ rest.
-              ap (λ (all : List RanLine). parts_plan (line_text config later) (parts_of all) rest) both
-              ∙ ap (λ (all : Parts). parts_plan (line_text config later) all rest) (first.apart other)
-              ∙ plans_both (line_text config later) (parts_of one) (parts_of other) rest
-              ∙ went.same rest;
-          did = went.did;
-        };
-  }
-    where
-      one : List RanLine
-      one = ran_lines lines first.contents first.traces
+  where
+    pub more_ran : LinesRan config lines from mid before now → LinesRan config more mid known now after
+        → LinesRan config (lines ++ more) from known before after
+    more_ran first second = record {
+      contents = first.contents ++ second.contents;
+      traces = first.traces ++ second.traces;
+      ends = second.ends ∙ ap (λ (ends : List LineTrace). ends ++ second.traces) first.ends
+          ∙ append_assoc before.ends first.traces second.traces;
+      count = length-append first.traces second.traces
+          ∙ (λ i. first.count i + second.count i) ∙ sym (length-append lines more);
+      given = first.given ++ second.given;
+      gave = second.gave ∙ ap (λ (reads : Files). reads ++ second.given) first.gave
+          ∙ append_assoc before.folder.gave first.given second.given;
+      have = lines_given {lines = lines} {more = more} first.have second.have;
+      apart = subst StandApart (sym both) apart;
+      grown = grown_then first.grown second.grown;
+      ran = λ parts ran.
+          subst (λ (all : List RanLine). AllRan config known (parts ++ asked_parts (parts_of all))) (sym both)
+          (subst (λ (all : Parts). AllRan config known (parts ++ asked_parts all)) (sym (first.apart other))
+          (asked_behind config known parts (parts_of one) (parts_of other)
+          (second.ran (parts ++ asked_parts (parts_of one)) (first.ran parts ran))));
+      did = λ later grown.
+          let went = plans_ran (first.did later (grown_then second.grown grown)) (second.did later grown) in
+          record {
+            steps = went.steps;
+            same = λ rest.
+                ap (λ (all : List RanLine). parts_plan (line_text config later) (parts_of all) rest) both
+                ∙ ap (λ (all : Parts). parts_plan (line_text config later) all rest) (first.apart other)
+                ∙ plans_both (line_text config later) (parts_of one) (parts_of other) rest
+                ∙ went.same rest;
+            did = went.did;
+          };
+    }
+      where
+        one : List RanLine
+        one = ran_lines lines first.contents first.traces
 
-      other : List RanLine
-      other = ran_lines more second.contents second.traces
+        other : List RanLine
+        other = ran_lines more second.contents second.traces
 
-      both : ran_lines (lines ++ more) (first.contents ++ second.contents) (first.traces ++ second.traces) ≡ one ++ other
-      both = ran_both lines more first.contents second.contents first.traces second.traces
-          (held_count {lines = lines} first.have) first.count
+        both : ran_lines (lines ++ more) (first.contents ++ second.contents) (first.traces ++ second.traces) ≡ one ++ other
+        both = ran_both lines more first.contents second.contents first.traces second.traces
+            (held_count {lines = lines} first.have) first.count
 
-      apart : StandApart (one ++ other)
-      apart rest =
-          ap parts_of (append_assoc one other rest)
-          ∙ first.apart (other ++ rest)
-          ∙ ap (λ (parts : Parts). parts_of one ++ parts) (second.apart rest)
-          ∙ sym (append_assoc (parts_of one) (parts_of other) (parts_of rest))
-          ∙ ap (λ (parts : Parts). parts ++ parts_of rest) (sym (first.apart other))
+        apart : StandApart (one ++ other)
+        apart rest =
+            ap parts_of (append_assoc one other rest)
+            ∙ first.apart (other ++ rest)
+            ∙ ap (λ (parts : Parts). parts_of one ++ parts) (second.apart rest)
+            ∙ sym (append_assoc (parts_of one) (parts_of other) (parts_of rest))
+            ∙ ap (λ (parts : Parts). parts ++ parts_of rest) (sym (first.apart other))
 
-  pub stopped_behind : (stopped : Stop) → LinesRan config lines from mid before now
-      → LinesStopped config more stopped mid known now after
-      → LinesStopped config (lines ++ more) stopped from known before after
-  stopped_behind stopped first second = record {
-    traces = first.traces ++ second.traces;
-    ends = second.ends ∙ ap (λ (ends : List LineTrace). ends ++ second.traces) first.ends
-        ∙ append_assoc before.ends first.traces second.traces;
-    reads = reads;
-    gave = second.gave ∙ ap (λ (front : Files). front ++ second.reads) first.gave
-        ∙ append_assoc before.folder.gave first.given second.reads;
-    known = second.known;
-    grown = grown_then first.grown second.grown;
-    front = second.front;
-    whole = second.whole;
-    ran = λ parts ran.
-        subst (λ (all : List RanLine). AllRan config second.known (parts ++ asked_parts (parts_of all))) (sym both)
-        (subst (λ (all : Parts). AllRan config second.known (parts ++ asked_parts all)) (sym (first.apart other))
-        (asked_behind config second.known parts (parts_of one) (parts_of other)
-        (second.ran (parts ++ asked_parts (parts_of one)) (first.ran parts ran))));
-    stops = λ later grown status.
-        let went = first.did later (grown_then second.grown grown) in
-        let rest : Plan = lines_plan config second.reads later status more second.traces in
-        let left : Plan = left_plan status (drop (length second.traces) more)
-        (reads_behind (forms_of (take (length second.traces) more)) second.reads) in
-        subst (λ (p : Plan). Stops p stopped before after)
-        (sym ((λ i. parts_plan (line_text config later) (parts_of (both i))
-        (left_plan status (behind_both first.traces lines more second.traces first.count i) (reads_left i)))
-        ∙ ap (λ (all : Parts). parts_plan (line_text config later) all left) (first.apart other)
-        ∙ plans_both (line_text config later) (parts_of one) (parts_of other) left
-        ∙ went.same rest))
-        (stops_behind rest after stopped went.did (second.stops later grown status));
-  }
-    where
-      reads : Files
-      reads = first.given ++ second.reads
+    pub stopped_behind : (stopped : Stop) → LinesRan config lines from mid before now
+        → LinesStopped config more stopped mid known now after
+        → LinesStopped config (lines ++ more) stopped from known before after
+    stopped_behind stopped first second = record {
+      traces = first.traces ++ second.traces;
+      ends = second.ends ∙ ap (λ (ends : List LineTrace). ends ++ second.traces) first.ends
+          ∙ append_assoc before.ends first.traces second.traces;
+      reads = reads;
+      gave = second.gave ∙ ap (λ (front : Files). front ++ second.reads) first.gave
+          ∙ append_assoc before.folder.gave first.given second.reads;
+      known = second.known;
+      grown = grown_then first.grown second.grown;
+      front = second.front;
+      whole = second.whole;
+      ran = λ parts ran.
+          subst (λ (all : List RanLine). AllRan config second.known (parts ++ asked_parts (parts_of all))) (sym both)
+          (subst (λ (all : Parts). AllRan config second.known (parts ++ asked_parts all)) (sym (first.apart other))
+          (asked_behind config second.known parts (parts_of one) (parts_of other)
+          (second.ran (parts ++ asked_parts (parts_of one)) (first.ran parts ran))));
+      stops = λ later grown status.
+          let went = first.did later (grown_then second.grown grown) in
+          let rest : Plan = lines_plan config second.reads later status more second.traces in
+          let left : Plan = left_plan status (drop (length second.traces) more)
+          (reads_behind (forms_of (take (length second.traces) more)) second.reads) in
+          subst (λ (p : Plan). Stops p stopped before after)
+          (sym ((λ i. parts_plan (line_text config later) (parts_of (both i))
+          (left_plan status (behind_both first.traces lines more second.traces first.count i) (reads_left i)))
+          ∙ ap (λ (all : Parts). parts_plan (line_text config later) all left) (first.apart other)
+          ∙ plans_both (line_text config later) (parts_of one) (parts_of other) left
+          ∙ went.same rest))
+          (stops_behind rest after stopped went.did (second.stops later grown status));
+    }
+      where
+        reads : Files
+        reads = first.given ++ second.reads
 
-      one : List RanLine
-      one = ran_lines lines first.contents first.traces
+        one : List RanLine
+        one = ran_lines lines first.contents first.traces
 
-      other : List RanLine
-      other = lines_by config second.reads more second.traces
+        other : List RanLine
+        other = lines_by config second.reads more second.traces
 
-      both : lines_by config reads (lines ++ more) (first.traces ++ second.traces) ≡ one ++ other
-      both =
-          ap (λ (contents : List (List ℕ)). ran_lines (lines ++ more) contents (first.traces ++ second.traces))
-          (ap (λ (forms : List LineForm). contents_of forms reads) (forms_both lines more)
-          ∙ first.have.held (forms_of more) second.reads)
-          ∙ ran_both lines more first.contents (contents_of (forms_of more) second.reads) first.traces second.traces
-          (held_count {lines = lines} first.have) first.count
+        both : lines_by config reads (lines ++ more) (first.traces ++ second.traces) ≡ one ++ other
+        both =
+            ap (λ (contents : List (List ℕ)). ran_lines (lines ++ more) contents (first.traces ++ second.traces))
+            (ap (λ (forms : List LineForm). contents_of forms reads) (forms_both lines more)
+            ∙ first.have.held (forms_of more) second.reads)
+            ∙ ran_both lines more first.contents (contents_of (forms_of more) second.reads) first.traces second.traces
+            (held_count {lines = lines} first.have) first.count
 
-      reads_left : reads_behind (forms_of (take (length (first.traces ++ second.traces)) (lines ++ more))) reads
-          ≡ reads_behind (forms_of (take (length second.traces) more)) second.reads
-      reads_left =
-          ap (λ (front : List ScriptLine). reads_behind (forms_of front) reads)
-          (front_both first.traces lines more second.traces first.count)
-          ∙ ap (λ (forms : List LineForm). reads_behind forms reads)
-          (forms_both lines (take (length second.traces) more))
-          ∙ behind_append (forms_of lines) (forms_of (take (length second.traces) more)) reads
-          ∙ ap (reads_behind (forms_of (take (length second.traces) more))) (first.have.behind second.reads)
+        reads_left : reads_behind (forms_of (take (length (first.traces ++ second.traces)) (lines ++ more))) reads
+            ≡ reads_behind (forms_of (take (length second.traces) more)) second.reads
+        reads_left =
+            ap (λ (front : List ScriptLine). reads_behind (forms_of front) reads)
+            (front_both first.traces lines more second.traces first.count)
+            ∙ ap (λ (forms : List LineForm). reads_behind forms reads)
+            (forms_both lines (take (length second.traces) more))
+            ∙ behind_append (forms_of lines) (forms_of (take (length second.traces) more)) reads
+            ∙ ap (reads_behind (forms_of (take (length second.traces) more))) (first.have.behind second.reads)
 
 -- ---- a part as lines
 

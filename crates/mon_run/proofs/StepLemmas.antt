@@ -70,6 +70,10 @@ did_front {xs} done step first second = did_by (sym (append_assoc xs done (step 
 
 -- ---- one step
 
+-- a read gave nothing
+pub gave_nothing : {before after : Files} → after ≡ before → after ≡ before ++ []
+gave_nothing {before} same = same ∙ sym (append-nil before)
+
 -- only a read was added
 pub read_alone : {step : Step} {before after : Progress} → flat_map end_in (step ∷ []) ≡ []
     → flat_map text_of_step (step ∷ []) ≡ [] → after.folder.files ≡ before.folder.files

@@ -186,10 +186,10 @@ pub record RunTells (words : List (List ℕ)) (early : Type 0) (reads : Files) (
 -- of a schedule, `woven` is what that printed; without it, the plan of a schedule ends for want of memory before anything
 -- is written.
 pub record Runs (words : List (List ℕ)) (status : ℕ) (ended : Option Histories) (before after : Progress) : Type 0
-    where
-  pub reads : Files
-  pub gave : after.folder.gave ≡ before.folder.gave ++ reads
-  pub woven : Option Printed
-  pub printed : IfSome woven (IsWovenBy reads)
-  pub is : RunIs (run_plan (came woven ended after.ends) reads words) status before after
-  pub holds : IfSome ended (λ seen. RunTells words (status ≡ 6) reads seen after.ends)
+  where
+    pub reads : Files
+    pub gave : after.folder.gave ≡ before.folder.gave ++ reads
+    pub woven : Option Printed
+    pub printed : IfSome woven (IsWovenBy reads)
+    pub is : RunIs (run_plan (came woven ended after.ends) reads words) status before after
+    pub holds : IfSome ended (λ seen. RunTells words (status ≡ 6) reads seen after.ends)

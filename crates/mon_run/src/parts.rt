@@ -206,6 +206,7 @@ impl<'f, 'o, 'l, F: Folder, O: Sink> Run<'f, 'o, 'l, F, O> {
     // Writes texts, one after another.
     fn texts(&mut self, texts: &[Text]) -> Result<(), Stop>
         ensures continues { Continues F.state O.state self.old self.new }
+        ensures folder { F.state self.new.folder.now ≡ F.state self.old.folder.now }
         ensures log { self.new.log.now ≡ self.old.log.now }
         ensures wrote { OnOk result (Between F.state O.state (Did (prints texts.now)) self.old self.new) }
         ensures stops { IfErr result (StopsBetween F.state O.state (TextsStop texts.now) self.old self.new) }

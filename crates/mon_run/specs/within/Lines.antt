@@ -117,10 +117,10 @@ module _ (config : Config) where
 
   -- the lines up to some that are left ran
   pub record LinesRanTo (lines left : List ScriptLine) (from known : Histories) (before after : Progress) : Type 0
-      where
-    pub part : List ScriptLine
-    pub split : lines ≡ part ++ left
-    pub ran : LinesRan part from known before after
+    where
+      pub part : List ScriptLine
+      pub split : lines ≡ part ++ left
+      pub ran : LinesRan part from known before after
 
 -- lines stopped, and there is a cause
 pub record LinesHalt (config : Config) (lines : List ScriptLine) (from ended : Histories) (stopped : Stop)
@@ -176,10 +176,10 @@ abbrev pub alone_in : LineForm → List ℕ → LineTrace → Part RanLine
 alone_in what content trace = Alone (record { what = what; content = content; trace = trace })
 
 pub record AloneRan (config : Config) (what : LineForm) (from known : Histories) (before after : Progress) : Type 0
-    where
-  pub content : List ℕ
-  pub trace : LineTrace
-  pub went : PartWent config (alone_in what content trace) (trace ∷ []) from known before after
+  where
+    pub content : List ℕ
+    pub trace : LineTrace
+    pub went : PartWent config (alone_in what content trace) (trace ∷ []) from known before after
 
 pub record AloneCut (config : Config) (what : LineForm) (from ended : Histories) (stopped : Stop)
     (before after : Progress) : Type 0 where
