@@ -1,5 +1,5 @@
 -- How a query ends, by what its caller had seen and noted at entry, and has at exit.
-use Rattle.std.specs.Prelude.{◌≡◌, ◌≤◌, ℕ, ℤ, true, List, [], ◌∷◌, ◌++◌, length, take, Contains, Result, Ok, Err}
+use Rattle.std.specs.Prelude.{◌≡◌, ◌≤◌, ℕ, ℤ, true, false, List, [], ◌∷◌, ◌++◌, length, take, Contains, Result, Ok, Err}
 use Rattle.std.specs.Prelude.{if◌then◌else◌}
 use Rattle.std.specs.List.{AllByRecursion, sum}
 use Rattle.history_book.specs.Seats.{length_note}
@@ -34,6 +34,15 @@ pub record WasFoundDown (before after : Knowledge) (leaf : Leaf) (cut : ℕ) : T
   pub noted : Contains more (length_note leaf.0 cut)
   pub from : length (leaf_history before.seen leaf) ≤ cut
   pub down : IsDownAt (leaf_history after.seen leaf) cut
+
+-- it was found up
+pub record WasFoundUp (before after : Knowledge) (leaf : Leaf) (cut : ℕ) : Type 0 where
+  pub more : List LengthNote
+  pub notes : after.purse.notes ≡ before.purse.notes ++ more
+  pub noted : Contains more (length_note leaf.0 cut)
+  pub from : length (leaf_history before.seen leaf) ≤ cut
+  pub seen_by_then : cut ≤ length (leaf_history after.seen leaf)
+  pub up : is_down (take cut (leaf_history after.seen leaf)) ≡ false
 
 abbrev pub WereFoundDown : Knowledge → Knowledge → List FoundDown → Type 0
 WereFoundDown before after founds =
