@@ -2,7 +2,7 @@
 use Rattle.std.proofs.Common.{◌≡◌, ℕ, zero, suc, ◌+◌, ◌<◌, ◌≤◌, nat_eq, nat_le, ◌&&◌, ◌||◌, Bool, true, false, List}
 use Rattle.std.proofs.Common.{[], ◌∷◌, ◌++◌, length, take, drop, slice_get, Some, refl, ap, ◌∙◌, arith}
 use Rattle.std.proofs.Common.{subst, sym}
-use Rattle.std.specs.Prelude.{ℤ}
+use Rattle.std.specs.Prelude.{ℤ, map, Contains}
 use Rattle.std.specs.List.{AllByRecursion, count_by, list_any}
 use Rattle.std.proofs.lemmas.Bool.{and_from, and_parts, false≢true}
 use Rattle.std.proofs.lemmas.List.{take_all}
@@ -24,6 +24,7 @@ use Rattle.mon_value.specs.declared.histories.RangeEntry.TheVariants as range_en
 use Rattle.mon_value.specs.declared.positions.FoundDown.{FoundDown}
 use Rattle.mon_value.specs.declared.positions.Leaf.{Leaf}
 use Rattle.mon_value.specs.declared.positions.Range.{Range}
+use Rattle.mon_value.specs.declared.positions.SlotLeaf.{SlotLeaf}
 use Rattle.mon_value.specs.declared.rows.Row.{Row}
 use Rattle.mql_types.specs.Meaning.{load}
 use Rattle.mql_types.specs.Nodes.{TypedTree}
@@ -161,6 +162,7 @@ module _ (widen : (typed : TypedTree) (moment : ℤ) (from to earlier later : Le
       type_is = left.type_is;
       zone = left.zone;
       zoned = left.zoned;
+      named = left.named;
       none_up = none_wider range founds left.none_up;
     }
 
@@ -241,6 +243,8 @@ module _ (widen : (typed : TypedTree) (moment : ℤ) (from to earlier later : Le
       recovery = has.recovery;
       asked = has.asked;
       none_up = none_wider has.recovery.range founds has.none_up;
+      those = has.those ∙ ap (λ w. map (λ (replica : SlotLeaf). replica.leaf) (serving w))
+          (front_stays has.recovery.range has.none_up.found has.none_up.between);
       free = ap (λ w. denial_of w has.recovery.leaf)
           (sym (front_stays has.recovery.range has.none_up.found has.none_up.between)) ∙ has.free;
     }
@@ -254,6 +258,14 @@ module _ (widen : (typed : TypedTree) (moment : ℤ) (from to earlier later : Le
       between = length_wider has.recovery.range has.found has.between;
       free = ap (λ w. denial_of w has.recovery.leaf) (sym (front_stays has.recovery.range has.found has.between))
           ∙ has.free;
+      source = record {
+        source = has.source.source;
+        serves = subst (λ w. Contains (serving w) has.source.source)
+            (front_stays has.recovery.range has.found has.between) has.source.serves;
+        cut = has.source.cut;
+        between = cut_wider has.source.source.leaf has.source.cut has.source.between;
+        up = ap is_down (sym (leaf_front_stays has.source.source.leaf has.source.cut has.source.between)) ∙ has.source.up;
+      };
       down = find from to first last seen more (record { leaf = has.recovery.leaf; cut = cut }) wide has.down;
     }
 
@@ -296,6 +308,8 @@ module _ (widen : (typed : TypedTree) (moment : ℤ) (from to earlier later : Le
     write_wider row (unwritten.Unavailable range founds) cause = record {
       in_range = cause.in_range;
       none_up = none_wider range founds cause.none_up;
+      those = cause.those ∙ ap (λ w. map (λ (replica : SlotLeaf). replica.leaf) (serving w))
+          (front_stays range cause.none_up.found cause.none_up.between);
       free = ap (λ w. refusal config.range_points w row)
           (sym (front_stays range cause.none_up.found cause.none_up.between)) ∙ cause.free;
     }
