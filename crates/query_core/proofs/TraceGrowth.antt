@@ -12,7 +12,7 @@ use Rattle.mon_topo.proofs.HeldLemmas.{down_on}
 use Rattle.mon_topo.proofs.RangeHistoryLemmas.{all_front, all_on}
 use Rattle.mon_topo.specs.RangeHistories.{acked_row, acknowledged_rows, first_serving}
 use Rattle.mon_value.specs.Histories.{leaf_history, range_history}
-use Rattle.mon_value.specs.LeafHistories.{IsDownAt, is_opened, replica_rows}
+use Rattle.mon_value.specs.LeafHistories.{IsDownAt, is_down, is_opened, replica_rows}
 use Rattle.mon_value.specs.declared.histories.Entry.{Entry}
 use Rattle.mon_value.specs.declared.histories.Histories.{Histories}
 use Rattle.mon_value.specs.declared.histories.RangeEntry.{RangeEntry}
@@ -117,6 +117,7 @@ module _ (typed : TypedTree) (moment : ℤ) (from to earlier later : Lengths) (s
     unread = λ e. subst (λ rows. All (λ row. is_wanted typed row ≡ false) rows) (sym (rows_still leaf)) (so.unread e);
     read = λ e. ap (λ (history : List Entry). is_plan_met plan (history_buckets buckets_of history))
         (looked_still leaf) ∙ so.read e;
+    up = λ e. ap is_down (looked_still leaf) ∙ so.up e;
   }
 
   -- ---- freshness
