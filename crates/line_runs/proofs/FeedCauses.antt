@@ -99,7 +99,7 @@ module _ (config : Config) (x y z : Knowledge) (fronts : AreFronts y.seen z.seen
     refused = ap (λ w. refusal config.range_points w row) (stood said.range said.history said.found) ∙ said.cause;
   }
 
-  found_down : (found : FoundDown) → length (leaf_history x.seen found.leaf) ≤ found.cut
+  pub found_down : (found : FoundDown) → length (leaf_history x.seen found.leaf) ≤ found.cut
       → IsDownAt (leaf_history y.seen found.leaf) found.cut
       → IsFoundBetween (marked (lengths x)) (marked (lengths y)) z.seen found
   found_down found since was =

@@ -12,7 +12,10 @@ use Rattle.mon_topo.specs.Zones.{range_zones}
 use Rattle.mon_value.specs.Histories.{leaf_history, range_history}
 use Rattle.mon_value.specs.LeafHistories.{is_down, is_switch}
 use Rattle.mon_value.specs.declared.limits.TheConstants.{MOST_SWITCHES}
+use Rattle.mon_value.specs.declared.histories.Ack.{Ack}
 use Rattle.mon_value.specs.declared.histories.Histories.{Histories}
+use Rattle.mon_value.specs.declared.histories.Miss.{Miss}
+use Rattle.mon_value.specs.declared.histories.RangeEntry.TheVariants as range_entry
 use Rattle.mon_value.specs.declared.positions.FoundDown.{FoundDown}
 use Rattle.mon_value.specs.declared.positions.Leaf.{Leaf}
 use Rattle.mon_value.specs.declared.positions.Range.{Range}
@@ -208,13 +211,37 @@ module _ (config : Config) (ended : Histories) (seen later : List RanLine) (line
   RowsHaveCauses reads accepted others (refusal ∷ refusals) =
       RowHasCause reads accepted others refusal × RowsHaveCauses reads accepted (others + 1) refusals
 
+-- ---- rows that were taken, in their places
+
+-- the leaves that an acknowledgement names as having missed the row were found down between two moments
+abbrev pub WereMissed : Histories → Lengths → Lengths → Ack → Type 0
+WereMissed ended from to ack = AllByRecursion
+    (λ (miss : Miss). IsFoundBetween from to ended (record { leaf = miss.leaf; cut = miss.cut })) ack.missed
+
+module _ (config : Config) (ended : Histories) (seen later : List RanLine) (line : RanLine) (pass : ℕ)
+    (accepted : List Row) where
+  -- the row at a place of those that a feed accepted is acknowledged, and each leaf that is named as having missed it was
+  -- found down behind the rows before it and before those behind it
+  pub record RowIsTaken (place : ℕ) (row : Row) : Type 0 where
+    pub range : Range
+    pub ack : Ack
+    pub told : Contains (range_history ended range) (range_entry.Acked pass row ack)
+    pub missed : WereMissed ended (lows config.topology ended (seen ++ fed line pass (take place accepted) ∷ []))
+        (highs config.topology ended (fed line pass (drop (place + 1) accepted) ∷ later)) ack
+
+  abbrev pub RowsAreTaken : ℕ → List Row → Type 0
+  RowsAreTaken place [] = Unit {0}
+  RowsAreTaken place (row ∷ rows) = RowIsTaken place row × RowsAreTaken (place + 1) rows
+
 -- ---- of each line
 
 module _ (config : Config) (ended : Histories) where
-  -- a refused line has its cause in its place, and so has each record of a feed that was refused
+  -- a refused line has its cause in its place, and so has each record of a feed that was refused, and each leaf that missed
+  -- a row of it
   abbrev pub IsCaused : List RanLine → List RanLine → RanLine → LineTrace → Type 0
   IsCaused seen later line (came.Fed pass accepted refusals) =
       RowsHaveCauses config ended seen later line pass (reads_of config.schemas line.content) accepted 0 refusals
+      × RowsAreTaken config ended seen later line pass accepted 0 accepted
   IsCaused seen later line (came.Asked moment trace) = Unit {0}
   IsCaused seen later line (came.Ticked dues) = Unit {0}
   IsCaused seen later line (came.Switched cut) = Unit {0}
