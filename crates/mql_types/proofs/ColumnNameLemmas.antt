@@ -5,7 +5,7 @@ use Rattle.std.specs.Cmp.Lexicographic.{nat_list_eq_equiv}
 use Rattle.std.specs.List.{list_any}
 use Rattle.mon_schema.specs.Faults.{texts_repeat}
 use Rattle.mon_value.specs.Same.{same_text}
-use Rattle.mql_types.specs.Items.{is_taken, with_name}
+use Rattle.typed_trees.specs.Items.{is_taken, with_name}
 use Rattle.mon_value.proofs.PlainLemmas.{or_false, or_assoc}
 
 -- whether one of the names is taken, or stands twice

@@ -1,7 +1,7 @@
 -- The first of the faults of two lists.
 use Rattle.std.proofs.Common.{◌≡◌, ◌∙◌, ap, sym, List, [], ◌∷◌, ◌++◌, Option, Some, refl}
-use Rattle.mql_types.specs.declared.faults.TypeFault.{TypeFault}
-use Rattle.mql_types.specs.Faults.{earlier_fault, first_with}
+use Rattle.typed_trees.specs.declared.faults.TypeFault.{TypeFault}
+use Rattle.typed_trees.specs.Faults.{earlier_fault, first_with}
 
 -- the faults of one list and then those of another are looked through one after another
 pub first_with-append : (found : Option TypeFault) (xs ys : List TypeFault)

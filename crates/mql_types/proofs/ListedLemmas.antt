@@ -5,7 +5,7 @@ use Rattle.std.specs.Prelude.{option_to_list}
 use Rattle.std.specs.List.{filter_map}
 use Rattle.mon_value.specs.Tables.{has_name, right_columns}
 use Rattle.mon_value.specs.declared.columns.Column.{Column}
-use Rattle.mql_types.specs.Branches.{as_joined}
+use Rattle.typed_trees.specs.Branches.{as_joined}
 use Rattle.mon_value.proofs.PlainLemmas.{first_given}
 
 -- what was made, with what is made of an item and of those behind it

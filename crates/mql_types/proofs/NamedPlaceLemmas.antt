@@ -13,7 +13,7 @@ use Rattle.mon_value.proofs.SameLemmas.{same_text-Decides, same_text-back}
 use Rattle.mon_value.specs.Tables.{has_name}
 use Rattle.mon_value.specs.Same.{same_text}
 use Rattle.mon_value.specs.declared.columns.Column.{Column}
-use Rattle.mql_types.specs.Groupings.{place_found}
+use Rattle.typed_trees.specs.Groupings.{place_found}
 use Rattle.mql_types.specs.NamedPlaces.{AddsPlace, PlaceMap, same_name}
 
 -- ---- the first place at which a test passes

@@ -5,7 +5,7 @@ use Rattle.mql_ast.specs.PredicateParts.{nodes}
 use Rattle.mql_ast.specs.Trees.{predicate_tree}
 use Rattle.mql_ast.specs.declared.predicates.Predicate.{Predicate}
 use denote.Ref.{Bor}
-use Rattle.mql_types.specs.Fetches.{predicate_faults}
+use Rattle.typed_trees.specs.Fetches.{predicate_faults}
 use Rattle.mql_types.specs.PredicateParts.{remaining_faults, remaining_nodes}
 use Rattle.mql_types.proofs.FaultLemmas.{first_with-append}
 

@@ -1,11 +1,12 @@
 -- Names that are taken one after another.
-use Rattle.std.proofs.Common.{◌≡◌, ◌∙◌, ℕ, Bool, true, false, cond, ◌||◌, nat_eq, List, [], ◌∷◌, ◌++◌, map, refl, is_some, Option, Some}
+use Rattle.std.proofs.Common.{◌≡◌, ◌∙◌, ℕ, Bool, true, false, cond, ◌||◌, nat_eq, List, [], ◌∷◌, ◌++◌, map, refl}
+use Rattle.std.proofs.Common.{is_some, Option, Some}
 use Rattle.std.proofs.Common.{ap, sym, append_assoc}
 use Rattle.mql_ast.specs.declared.names.Name.{Name}
-use Rattle.mql_types.specs.declared.faults.TypeFault.{TypeFault}
-use Rattle.mql_types.specs.declared.faults.TypeKind.TheVariants.{DuplicateColumn}
-use Rattle.mql_types.specs.Faults.{fault_where}
-use Rattle.mql_types.specs.Items.{is_taken, name_texts, taken_faults, with_name, with_names}
+use Rattle.typed_trees.specs.declared.faults.TypeFault.{TypeFault}
+use Rattle.typed_trees.specs.declared.faults.TypeKind.TheVariants.{DuplicateColumn}
+use Rattle.typed_trees.specs.Faults.{fault_where}
+use Rattle.typed_trees.specs.Items.{is_taken, name_texts, taken_faults, with_name, with_names}
 use Rattle.std.specs.Cmp.Lexicographic.{pointwise}
 use Rattle.std.specs.Map.{lookup}
 use Rattle.indexmap.specs.IndexMap.{insert_entry}

@@ -1,8 +1,8 @@
 -- What operations say of the times, and which of them are misplaced.
 use Rattle.std.proofs.Common.{◌≡◌, List, [], ◌∷◌, ◌++◌, refl}
 use Rattle.mql_ast.specs.Trees.{OpTree}
-use Rattle.mql_types.specs.declared.times.Times.{Times}
-use Rattle.mql_types.specs.Times.{said_by, said_of}
+use Rattle.typed_trees.specs.declared.times.Times.{Times}
+use Rattle.typed_trees.specs.Times.{said_by, said_of}
 use Rattle.mql_types.proofs.FaultLemmas.{first_with-append}
 
 -- what the operations of two lists say, the second behind the first

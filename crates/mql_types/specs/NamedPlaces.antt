@@ -5,7 +5,7 @@ use Rattle.std.specs.Option.{option_or}
 use Rattle.indexmap.specs.IndexMap.{IndexMap, get}
 use Rattle.mon_value.specs.Same.{same_text}
 use Rattle.mon_value.specs.declared.columns.Column.{Column}
-use Rattle.mql_types.specs.Groupings.{place_found}
+use Rattle.typed_trees.specs.Groupings.{place_found}
 
 abbrev pub same_name : Bor (List ℕ) → Bor (List ℕ) → Bool
 same_name a b = same_text a.now b.now

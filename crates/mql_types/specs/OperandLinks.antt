@@ -4,11 +4,11 @@ use Rattle.mon_value.specs.declared.columns.Column.{Column}
 use Rattle.mql_ast.specs.SumParts.{nodes}
 use Rattle.mql_ast.specs.Trees.{SumTree, sum_tree}
 use Rattle.mql_ast.specs.declared.expressions.Expr.{Expr}
-use Rattle.mql_types.specs.declared.faults.TypeFault.{TypeFault}
-use Rattle.mql_types.specs.declared.sums.Operand.{Operand}
-use Rattle.mql_types.specs.Faults.{first_with}
+use Rattle.typed_trees.specs.declared.faults.TypeFault.{TypeFault}
+use Rattle.typed_trees.specs.declared.widths.Operand.{Operand}
+use Rattle.typed_trees.specs.Faults.{first_with}
 use denote.Ref.{Bor}
-use Rattle.mql_types.specs.Items.{operand_faults, operand_of, operands_together, optional_width_faults}
+use Rattle.typed_trees.specs.Items.{operand_faults, operand_of, operands_together, optional_width_faults}
 
 -- an operand, and the first fault that was found so far
 pub record Seen : Type 0 where

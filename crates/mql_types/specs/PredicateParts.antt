@@ -5,8 +5,8 @@ use Rattle.mql_ast.specs.PredicateParts.{nodes}
 use Rattle.mql_ast.specs.Trees.{predicate_tree}
 use Rattle.mql_ast.specs.declared.predicates.Predicate.{Predicate}
 use denote.Ref.{Bor}
-use Rattle.mql_types.specs.declared.faults.TypeFault.{TypeFault}
-use Rattle.mql_types.specs.Fetches.{predicate_faults}
+use Rattle.typed_trees.specs.declared.faults.TypeFault.{TypeFault}
+use Rattle.typed_trees.specs.Fetches.{predicate_faults}
 
 -- the faults of the parts to come, the last of them first
 abbrev pub remaining_faults : List Column → List (Bor Predicate) → List TypeFault

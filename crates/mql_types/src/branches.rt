@@ -3,16 +3,15 @@ ghost use Rattle.std.specs.Prelude.{◌≡◌, ◌++◌, ◌∷◌, [], IfOk, On
 ghost use Rattle.std.specs.List.{flat_map, list_any};
 ghost use Rattle.mon_value.specs.Tables as join;
 ghost use Rattle.mql_ast.specs.Rows as named;
-ghost use Rattle.mql_types.specs.Branches as spec;
-ghost use Rattle.mql_types.specs.Faults.{first_with};
+ghost use Rattle.typed_trees.specs.Branches as spec;
+ghost use Rattle.typed_trees.specs.Faults.{first_with};
 
-use crate::faults::{Faults, TypeKind, type_word};
 use crate::levels::{common_anchor, keeps_anchor};
 use crate::parts::TypingSetting;
 use crate::places::NamedColumns;
-use crate::widths::Width;
 use mon_value::{Column, Columns, Shared, TryCopy, ValueType};
 use std::alloc::{AllocError, Global};
+use typed_trees::{Faults, TypeKind, Width, type_word};
 
 /// The columns of a join: the left's, and then those of the right's that have a name of their own. Beside them the left
 /// columns whose names the right has too, in which the rows of a pair agree.

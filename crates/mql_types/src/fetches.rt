@@ -3,16 +3,16 @@ ghost use Rattle.std.specs.Prelude.{◌≡◌, ◌++◌, IfOk, OnOk, map};
 ghost use Rattle.std.specs.Option.{option_copied};
 ghost use Rattle.mon_schema.specs.Faults.{texts_repeat};
 ghost use Rattle.mon_value.specs.Tables.{column_names};
-ghost use Rattle.mql_types.specs.Fetches as spec;
+ghost use Rattle.typed_trees.specs.Fetches as spec;
 
 use crate::items::plain_column;
 use crate::taken::Taken;
-use crate::widths::OF_NUMBER;
 use mon_value::{
     Anchor, Column, Columns, Field, FieldType, Kind, MetricSchema, Shared, TargetSchema, Text,
     TryCopy, ValueType,
 };
 use std::alloc::{AllocError, Global};
+use typed_trees::OF_NUMBER;
 
 /// The columns of a fetch: the target's fields and the metric's, and then the value. There are none where a name is
 /// unknown.

@@ -1,17 +1,17 @@
 // What a filter may ask.
 ghost use Rattle.std.specs.Prelude.{◌≡◌, ◌+◌, ◌<◌, ◌++◌, List, OnOk};
 ghost use Rattle.mql_ast.specs.Trees.{predicate_tree};
-ghost use Rattle.mql_types.specs.Faults.{first_with};
-ghost use Rattle.mql_types.specs.Fetches as spec;
+ghost use Rattle.typed_trees.specs.Faults.{first_with};
+ghost use Rattle.typed_trees.specs.Fetches as spec;
 ghost use Rattle.mql_types.specs.PredicateParts.{remaining_faults, remaining_nodes};
 ghost use Rattle.mql_ast.specs.PredicateParts.{nodes};
 ghost use Rattle.mon_value.specs.declared.columns.Column.{Column};
 
-use crate::faults::{Faults, TypeWord};
 use crate::places::NamedColumns;
 use mon_value::{Column, FieldValue, Shared, ValueType};
 use mql_ast::{Comparison, Name, Predicate};
 use std::alloc::{AllocError, Global};
+use typed_trees::{Faults, TypeWord};
 
 /// Tells each condition that its column doesn't meet.
 pub(crate) fn tell_predicate(

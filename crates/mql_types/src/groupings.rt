@@ -1,29 +1,27 @@
 // What `group_by` gives: the columns that it lists, as keys, and its aggregates.
 ghost use Rattle.std.specs.Prelude.{◌≡◌, ◌++◌, [], IfOk, None, OnOk, Some, map, option_to_list};
-ghost use Rattle.mql_types.specs.Faults.{first_with};
-ghost use Rattle.mql_types.specs.Groupings as spec;
-ghost use Rattle.mql_types.specs.Items.{is_taken, name_texts, reserved_names, taken_faults, with_name, with_names};
-ghost use Rattle.mql_types.specs.Fetches.{unknown_faults};
-ghost use Rattle.mql_types.specs.Faults.{fault_where};
-ghost use Rattle.mql_types.specs.declared.faults.TypeKind.TheVariants.{DuplicateColumn};
-ghost use Rattle.mql_types.specs.Levels.{meeting_level};
-ghost use Rattle.mql_types.specs.Nodes.{columns_of, level_of, node_tree};
+ghost use Rattle.typed_trees.specs.Faults.{first_with};
+ghost use Rattle.typed_trees.specs.Groupings as spec;
+ghost use Rattle.typed_trees.specs.Items.{is_taken, name_texts, reserved_names, taken_faults, with_name, with_names};
+ghost use Rattle.typed_trees.specs.Fetches.{unknown_faults};
+ghost use Rattle.typed_trees.specs.Faults.{fault_where};
+ghost use Rattle.typed_trees.specs.declared.faults.TypeKind.TheVariants.{DuplicateColumn};
+ghost use Rattle.typed_trees.specs.Levels.{meeting_level};
+ghost use Rattle.typed_trees.specs.Nodes.{columns_of, level_of, node_tree};
 ghost use Rattle.std.specs.List.{flat_map};
 
-use crate::faults::{Faults, TypeWord};
 use crate::fetches::column_number;
 use crate::items::plain_column;
-use crate::levels::{Level, meeting_level};
-use crate::nodes::Node;
+use crate::levels::meeting_level;
 use crate::parts::TypingSetting;
 use crate::places::{NamedColumns, push_some};
 use crate::taken::{Label, Taken};
-use crate::widths::{OF_COUNT, Width};
 use mon_value::{
     Aggregate, AggregateKind, Aggregates, Column, Columns, Positions, Shared, TryCopy, ValueType,
 };
 use mql_ast::{FoldWord, Name};
 use std::alloc::{AllocError, Global};
+use typed_trees::{Faults, Level, Node, OF_COUNT, TypeWord, Width};
 
 /// What a `group_by` is made of: the places of its listed columns, its aggregates, its columns and its level.
 #[derive(Drop)]

@@ -3,18 +3,17 @@ ghost use Rattle.std.specs.Prelude.{◌≡◌, ◌++◌, IfOk, OnOk, map};
 ghost use Rattle.std.specs.List.{filter_map, flat_map};
 ghost use Rattle.std.specs.Option.{option_copied};
 ghost use Rattle.mql_ast.specs.Trees.{item_tree, sum_tree};
-ghost use Rattle.mql_types.specs.Faults.{first_with};
+ghost use Rattle.typed_trees.specs.Faults.{first_with};
 ghost use Rattle.mon_value.specs.Tables.{column_names};
-ghost use Rattle.mql_types.specs.Items as spec;
+ghost use Rattle.typed_trees.specs.Items as spec;
 
-use crate::faults::Faults;
 use crate::places::{NamedColumns, push_some};
 use crate::sums::sum_operand;
 use crate::taken::{Label, Taken};
-use crate::widths::Width;
 use mon_value::{Column, Columns, Shared, Text, TryCopy, ValueType};
 use mql_ast::{Expr, Item, Name};
 use std::alloc::{AllocError, Global};
+use typed_trees::{Faults, Width};
 
 /// The columns that `value` gives: the keys, and a column for each item of which the type is known. Tells what is
 /// wrong in the items.

@@ -2,37 +2,12 @@
 ghost use Rattle.std.specs.Prelude.{◌≡◌, ◌&&◌, IfOk, IsTrue, Some};
 ghost use Rattle.std.specs.List.{list_any};
 ghost use Rattle.mon_value.specs.declared.columns.Anchor.TheVariants as anchor;
-ghost use Rattle.mql_types.specs.Levels as spec;
+ghost use Rattle.typed_trees.specs.Levels as spec;
 
 use crate::parts::TypingSetting;
 use mon_schema::Schemas;
 use mon_value::{Anchor, Column, Field, Shared, Text, TryCopy};
 use std::alloc::AllocError;
-
-/// How high an operation is done: each leaf does it for its own rows, each zone for those of its leaves,
-/// or the root for all.
-#[derive(Clone, Copy, PartialEq, Eq)]
-pub enum Level {
-    Leaf,
-    Zone,
-    Root,
-}
-
-impl Level {
-    /// The higher of two levels.
-    pub(crate) fn higher(self, other: Level) -> Level
-        ensures level { result ≡ spec.higher_level self other }
-    {
-        match self {
-            Level::Leaf => other,
-            Level::Zone => match other {
-                Level::Root => Level::Root,
-                _ => Level::Zone,
-            },
-            Level::Root => Level::Root,
-        }
-    }
-}
 
 /// The level at which rows that agree in some columns can be brought together, where they come from a level: a leaf,
 /// where the columns tell the whole target of one schema; a zone, where they tell its location; or else the root.

@@ -4,26 +4,25 @@ ghost use Rattle.std.specs.Option.{option_copied};
 ghost use Rattle.mon_schema.specs.Faults.{texts_repeat};
 ghost use Rattle.mon_value.specs.Tables.{column_names};
 ghost use Rattle.mql_ast.specs.Trees.{branches, pipe_tree, source_tree};
-ghost use Rattle.mql_types.specs.Faults.{fault_where, first_with};
-ghost use Rattle.mql_types.specs.Branches as branch;
-ghost use Rattle.mql_types.specs.Fetches as fetch;
-ghost use Rattle.mql_types.specs.Nodes as tree;
-ghost use Rattle.mql_types.specs.Nodes.{columns_of, node_tree};
+ghost use Rattle.typed_trees.specs.Faults.{fault_where, first_with};
+ghost use Rattle.typed_trees.specs.Branches as branch;
+ghost use Rattle.typed_trees.specs.Fetches as fetch;
+ghost use Rattle.typed_trees.specs.Nodes as tree;
+ghost use Rattle.typed_trees.specs.Nodes.{columns_of, node_tree};
 ghost use Rattle.mql_types.specs.PartViews.{part_view};
-ghost use Rattle.mql_types.specs.Typing as spec;
+ghost use Rattle.typed_trees.specs.Typing as spec;
 
 use crate::aligning::aligned_tree;
 use crate::branches::{Joined, same_columns, union_columns};
-use crate::faults::{Faults, TypeKind};
 use crate::fetches::{fetch_columns, kind_of, names_repeat};
-use crate::levels::{Level, meeting_level};
-use crate::nodes::{Node, NodeInfo};
+use crate::levels::meeting_level;
 use crate::operations::ops_part;
 use crate::widths::tell_wide_columns;
 use mon_schema::Schemas;
 use mon_value::{Columns, Kind, MetricSchema, TargetSchema, Text, TryCopy};
 use mql_ast::{How, Name, Pipe, Source};
 use std::alloc::{AllocError, Global};
+use typed_trees::{Faults, Level, Node, NodeInfo, TypeKind};
 
 /// What every part is typed by: the schemas that are held, and the seconds from one time to the next.
 #[derive(Clone, Copy)]

@@ -4,19 +4,18 @@ ghost use Rattle.std.specs.Option.{option_copied};
 ghost use Rattle.mon_value.specs.Tables as join;
 ghost use Rattle.mql_ast.specs.Rows as named;
 ghost use Rattle.mql_ast.specs.Trees as tree;
-ghost use Rattle.mql_types.specs.Faults.{first_with};
-ghost use Rattle.mql_types.specs.Fetches.{condition_faults, unknown_faults};
-ghost use Rattle.mql_types.specs.Groupings.{place_found};
-ghost use Rattle.mql_types.specs.Items.{is_number_type, sum_width};
+ghost use Rattle.typed_trees.specs.Faults.{first_with};
+ghost use Rattle.typed_trees.specs.Fetches.{condition_faults, unknown_faults};
+ghost use Rattle.typed_trees.specs.Groupings.{place_found};
+ghost use Rattle.typed_trees.specs.Items.{is_number_type, sum_width};
 ghost use Rattle.mql_types.specs.NamedPlaces.{AddsPlace};
 
-use crate::faults::{Faults, TypeKind, TypeWord};
-use crate::widths::Width;
 use insertion_map::InsertionMap;
 use mon_value::{Column, ListOf, Shared, Text, ValueType};
 use mql_ast::Name;
 use std::alloc::{AllocError, Global};
 use std::marker::Model;
+use typed_trees::{Faults, TypeKind, TypeWord, Width};
 
 /// The columns of a table, which are found by their names without going through them. Contracts see the list of them.
 #[derive(Drop)]

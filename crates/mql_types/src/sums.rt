@@ -2,24 +2,16 @@
 ghost use Rattle.std.specs.Prelude.{◌≡◌, ◌+◌, ◌<◌, IfOk, OnOk};
 ghost use Rattle.mql_ast.specs.Rows.{column_named};
 ghost use Rattle.mql_ast.specs.Trees.{sum_tree};
-ghost use Rattle.mql_types.specs.Faults.{first_with};
-ghost use Rattle.mql_types.specs.Items as spec;
+ghost use Rattle.typed_trees.specs.Faults.{first_with};
+ghost use Rattle.typed_trees.specs.Items as spec;
 ghost use Rattle.mql_types.specs.OperandLinks.{link, operand_links, linked_nodes, seen_operand, seen_sum};
 ghost use Rattle.mql_ast.specs.SumParts.{nodes};
 
-use crate::faults::{Faults, TypeKind, TypeWord, type_word};
 use crate::places::NamedColumns;
-use crate::widths::{OF_NUMBER, Width};
 use mon_value::ValueType;
 use mql_ast::{Expr, Name};
 use std::alloc::{AllocError, Global};
-
-/// A sum or one of its operands: where it begins, and the width of the numbers that it comes to, if to numbers.
-#[derive(Clone, Copy)]
-pub(crate) struct Operand {
-    pub(crate) at: u32,
-    pub(crate) width: Option<Width>,
-}
+use typed_trees::{Faults, OF_NUMBER, TypeKind, TypeWord, Width, type_word};
 
 // The most bits of a distribution's total of which every percentile is computed, and by how many it is widened.
 const MOST_PERCENTILE_BITS: u32 = 119;

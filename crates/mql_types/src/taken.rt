@@ -1,13 +1,13 @@
 // The names that no further column may have.
 ghost use Rattle.std.specs.Prelude.{◌≡◌, [], IfOk, OnOk};
-ghost use Rattle.mql_types.specs.Faults.{fault_where, first_with};
-ghost use Rattle.mql_types.specs.Items as spec;
+ghost use Rattle.typed_trees.specs.Faults.{fault_where, first_with};
+ghost use Rattle.typed_trees.specs.Items as spec;
 
-use crate::faults::{Faults, TypeKind};
 use insertion_map::InsertionMap;
 use mql_ast::Name;
 use std::alloc::{AllocError, Global};
 use std::marker::Model;
+use typed_trees::{Faults, TypeKind};
 
 /// The name of a column that is made, and where the text says it.
 #[derive(Clone, Copy)]

@@ -11,7 +11,7 @@ use Rattle.mon_value.specs.declared.positions.Leaf.{Leaf}
 use Rattle.mon_value.specs.declared.positions.Range.{Range}
 use Rattle.mon_value.specs.declared.positions.RangeSlot.{RangeSlot}
 use Rattle.mon_value.specs.declared.tables.Table.{Table}
-use Rattle.mql_types.proofs.KeptRows.{all-filter}
+use Rattle.typed_rows.proofs.KeptRows.{all-filter}
 use Rattle.query_core.specs.Rounds.{has_leaf, read_at, unread_look, Round, next_range, round_of, with_slot}
 use Rattle.query_core.specs.Rounds.{QuerySetting}
 use Rattle.query_core.specs.Courses.{course_of, found_down, is_entered, left, with_found, with_next_zone}

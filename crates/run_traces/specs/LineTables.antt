@@ -4,7 +4,7 @@ use Rattle.std.specs.Prelude.{None, if◌then◌else◌}
 use Rattle.std.specs.List.{AllByRecursion, flat_map}
 use Rattle.mon_config.specs.declared.config.Config.{Config}
 use Rattle.mon_value.specs.declared.histories.Histories.{Histories}
-use Rattle.mql_types.specs.Nodes.{TypedTree}
+use Rattle.typed_trees.specs.Nodes.{TypedTree}
 use Rattle.query_core.specs.Traces.{IsTraceBetween, cut_of, source_of, IsReadRightly}
 use Rattle.query_core.specs.declared.answers.Trace.{Trace}
 use Rattle.query_texts.specs.TextTypes.{text_type, IsPlanOver, plan_type}
@@ -16,7 +16,7 @@ use Rattle.mon_value.specs.declared.positions.Leaf.{Leaf}
 use Rattle.range_cell.specs.declared.answers.WriteFault.{WriteFault}
 use Rattle.range_cell.specs.declared.answers.WriteFault.TheVariants as unwritten
 use Rattle.leaf_store.specs.LeafStates.{key_buckets}
-use Rattle.mql_types.specs.declared.plans.Plan.{Plan}
+use Rattle.typed_trees.specs.declared.plans.Plan.{Plan}
 use Rattle.run_traces.specs.LineSwitches.{highs, lows}
 use Rattle.run_traces.specs.RanLines.{RanLine, accepted_rows}
 use Rattle.run_traces.specs.declared.traces.LineTrace.{LineTrace}

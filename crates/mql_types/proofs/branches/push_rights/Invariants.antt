@@ -1,7 +1,7 @@
 -- What was added, in front of what is left.
 use Rattle.std.proofs.Common.{◌≡◌, ◌++◌, map, drop}
 use Rattle.mon_value.specs.Tables.{right_columns}
-use Rattle.mql_types.specs.Branches.{as_joined}
+use Rattle.typed_trees.specs.Branches.{as_joined}
 use Rattle.mql_types.proofs.branches.push_rights.Given as goal
 
 abbrev pub invariant-loop-right : goal.invariant-loop-right

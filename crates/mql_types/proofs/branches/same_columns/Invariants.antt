@@ -1,6 +1,6 @@
 -- The columns so far are the same.
 use Rattle.std.proofs.Common.{◌≡◌, drop}
-use Rattle.mql_types.specs.Branches.{same_columns}
+use Rattle.typed_trees.specs.Branches.{same_columns}
 use Rattle.mql_types.proofs.branches.same_columns.Given as goal
 
 abbrev pub invariant-loop-left : goal.invariant-loop-left

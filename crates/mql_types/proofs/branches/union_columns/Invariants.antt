@@ -1,6 +1,6 @@
 -- What was made, in front of what is left.
 use Rattle.std.proofs.Common.{◌≡◌, ◌++◌, drop}
-use Rattle.mql_types.specs.Branches.{union_columns}
+use Rattle.typed_trees.specs.Branches.{union_columns}
 use Rattle.mql_types.proofs.branches.union_columns.Given as goal
 
 abbrev pub invariant-loop-left : goal.invariant-loop-left

@@ -2,7 +2,7 @@ use Rattle.std.proofs.Common.{◌≡◌, ◌∙◌, ◌+◌, ◌∷◌, List, ap
 use Rattle.std.proofs.lemmas.List.{drop_more}
 use Rattle.mon_value.specs.declared.columns.Column.{Column}
 use Rattle.mon_value.specs.Tables.{column_names}
-use Rattle.mql_types.specs.Items.{is_taken}
+use Rattle.typed_trees.specs.Items.{is_taken}
 use Rattle.mql_types.proofs.ColumnNameLemmas.{repeats_behind, repeats_behind-next}
 use Rattle.mql_types.proofs.fetches.names_repeat.Goals as goal
 

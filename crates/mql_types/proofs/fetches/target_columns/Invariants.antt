@@ -1,6 +1,6 @@
 -- What was made, in front of what is left.
 use Rattle.std.proofs.Common.{◌≡◌, ◌++◌, drop}
-use Rattle.mql_types.specs.Fetches.{target_columns}
+use Rattle.typed_trees.specs.Fetches.{target_columns}
 use Rattle.mql_types.proofs.fetches.target_columns.Given as goal
 
 abbrev pub invariant-loop-place : goal.invariant-loop-place

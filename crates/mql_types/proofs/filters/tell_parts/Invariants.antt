@@ -1,8 +1,8 @@
 -- What was found, with what the parts to come have.
 use Rattle.std.proofs.Common.{◌≡◌}
 use Rattle.mql_ast.specs.Trees.{predicate_tree}
-use Rattle.mql_types.specs.Faults.{first_with}
-use Rattle.mql_types.specs.Fetches.{predicate_faults}
+use Rattle.typed_trees.specs.Faults.{first_with}
+use Rattle.typed_trees.specs.Fetches.{predicate_faults}
 use Rattle.mql_types.specs.PredicateParts.{remaining_faults, remaining_nodes}
 use Rattle.mql_types.proofs.filters.tell_parts.Given as goal
 

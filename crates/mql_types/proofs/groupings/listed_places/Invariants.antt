@@ -1,8 +1,8 @@
 -- What was made, in front of what is left.
 use Rattle.std.proofs.Common.{◌≡◌, ◌++◌, drop}
-use Rattle.mql_types.specs.Faults.{first_with}
-use Rattle.mql_types.specs.Groupings.{listed_places}
-use Rattle.mql_types.specs.Items.{name_texts, taken_faults, with_names}
+use Rattle.typed_trees.specs.Faults.{first_with}
+use Rattle.typed_trees.specs.Groupings.{listed_places}
+use Rattle.typed_trees.specs.Items.{name_texts, taken_faults, with_names}
 use Rattle.mql_types.proofs.groupings.listed_places.Given as goal
 
 abbrev pub invariant-loop-name : goal.invariant-loop-name

@@ -1,8 +1,8 @@
 -- What was made, given and found, in front of what is left.
 use Rattle.std.proofs.Common.{◌≡◌, ◌++◌, drop}
 use Rattle.std.specs.List.{flat_map}
-use Rattle.mql_types.specs.Faults.{first_with}
-use Rattle.mql_types.specs.Groupings.{aggregate_columns, aggregate_faults, aggregates_over}
+use Rattle.typed_trees.specs.Faults.{first_with}
+use Rattle.typed_trees.specs.Groupings.{aggregate_columns, aggregate_faults, aggregates_over}
 use Rattle.mql_types.proofs.groupings.push_folds.Given as goal
 
 abbrev pub invariant-loop-aggregate : goal.invariant-loop-aggregate

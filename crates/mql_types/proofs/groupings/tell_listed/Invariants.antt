@@ -1,8 +1,8 @@
 -- What was found, with what is left.
 use Rattle.std.proofs.Common.{◌≡◌, drop}
 use Rattle.std.specs.List.{flat_map}
-use Rattle.mql_types.specs.Faults.{first_with}
-use Rattle.mql_types.specs.Fetches.{unknown_faults}
+use Rattle.typed_trees.specs.Faults.{first_with}
+use Rattle.typed_trees.specs.Fetches.{unknown_faults}
 use Rattle.mql_types.proofs.groupings.tell_listed.Given as goal
 
 abbrev pub invariant-loop-name : goal.invariant-loop-name

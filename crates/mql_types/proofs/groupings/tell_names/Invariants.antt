@@ -1,8 +1,8 @@
 -- What was found, with what is left.
 use Rattle.std.proofs.Common.{◌≡◌, map, drop}
-use Rattle.mql_types.specs.Faults.{first_with}
-use Rattle.mql_types.specs.Groupings.{aggregate_name}
-use Rattle.mql_types.specs.Items.{taken_faults}
+use Rattle.typed_trees.specs.Faults.{first_with}
+use Rattle.typed_trees.specs.Groupings.{aggregate_name}
+use Rattle.typed_trees.specs.Items.{taken_faults}
 use Rattle.mql_types.proofs.groupings.tell_names.Given as goal
 
 abbrev pub invariant-loop-aggregate : goal.invariant-loop-aggregate

@@ -5,8 +5,8 @@ use Rattle.std.specs.List.{filter_map, flat_map}
 use Rattle.mon_value.specs.declared.columns.Column.{Column}
 use Rattle.mql_ast.specs.declared.operations.Item.{Item}
 use Rattle.mql_ast.specs.Trees.{item_tree}
-use Rattle.mql_types.specs.Faults.{first_with}
-use Rattle.mql_types.specs.Items.{item_column, item_sum_faults}
+use Rattle.typed_trees.specs.Faults.{first_with}
+use Rattle.typed_trees.specs.Items.{item_column, item_sum_faults}
 use Rattle.mql_types.proofs.FaultLemmas.{first_with-append}
 use Rattle.mql_types.proofs.ListedLemmas.{option_to_list-filter_map}
 use Rattle.mql_types.proofs.items.item_columns.Goals as goal

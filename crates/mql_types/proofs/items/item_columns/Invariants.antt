@@ -2,8 +2,8 @@
 use Rattle.std.proofs.Common.{◌≡◌, ◌++◌, map, drop}
 use Rattle.std.specs.List.{filter_map, flat_map}
 use Rattle.mql_ast.specs.Trees.{item_tree}
-use Rattle.mql_types.specs.Faults.{first_with}
-use Rattle.mql_types.specs.Items.{item_column, item_sum_faults}
+use Rattle.typed_trees.specs.Faults.{first_with}
+use Rattle.typed_trees.specs.Items.{item_column, item_sum_faults}
 use Rattle.mql_types.proofs.items.item_columns.Given as goal
 
 abbrev pub invariant-loop-item : goal.invariant-loop-item

@@ -1,7 +1,7 @@
 -- What was made, in front of what is left.
 use Rattle.std.proofs.Common.{◌≡◌, ◌++◌, drop}
 use Rattle.mon_value.specs.Tables.{column_names}
-use Rattle.mql_types.specs.Items.{key_columns, with_names}
+use Rattle.typed_trees.specs.Items.{key_columns, with_names}
 use Rattle.mql_types.proofs.items.keys.Given as goal
 
 abbrev pub invariant-loop-column : goal.invariant-loop-column

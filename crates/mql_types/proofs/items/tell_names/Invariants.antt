@@ -1,8 +1,8 @@
 -- What was found, with what is left.
 use Rattle.std.proofs.Common.{◌≡◌, map, drop}
 use Rattle.mql_ast.specs.Trees.{item_tree}
-use Rattle.mql_types.specs.Faults.{first_with}
-use Rattle.mql_types.specs.Items.{item_name, taken_faults}
+use Rattle.typed_trees.specs.Faults.{first_with}
+use Rattle.typed_trees.specs.Items.{item_name, taken_faults}
 use Rattle.mql_types.proofs.items.tell_names.Given as goal
 
 abbrev pub invariant-loop-item : goal.invariant-loop-item

@@ -1,6 +1,6 @@
 -- The fields so far are had.
 use Rattle.std.proofs.Common.{◌≡◌, drop}
-use Rattle.mql_types.specs.Levels.{have_fields}
+use Rattle.typed_trees.specs.Levels.{have_fields}
 use Rattle.mql_types.proofs.levels.have_fields.Given as goal
 
 abbrev pub invariant-loop-place : goal.invariant-loop-place

@@ -1,7 +1,7 @@
 -- What was found, with what the columns that are left have.
 use Rattle.std.proofs.Common.{◌≡◌, drop}
-use Rattle.mql_types.specs.Faults.{first_with}
-use Rattle.mql_types.specs.Branches.{wide_faults}
+use Rattle.typed_trees.specs.Faults.{first_with}
+use Rattle.typed_trees.specs.Branches.{wide_faults}
 use Rattle.mql_types.proofs.widths.tell_wide_columns.Given as goal
 
 abbrev pub invariant-loop-column : goal.invariant-loop-column

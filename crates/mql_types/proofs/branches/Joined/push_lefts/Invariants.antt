@@ -2,8 +2,8 @@
 use Rattle.std.proofs.Common.{◌≡◌, ◌++◌, map, drop}
 use Rattle.std.specs.List.{flat_map}
 use Rattle.mql_ast.specs.Rows.{column_named}
-use Rattle.mql_types.specs.Branches.{common_columns, left_column, mismatch_faults}
-use Rattle.mql_types.specs.Faults.{first_with}
+use Rattle.typed_trees.specs.Branches.{common_columns, left_column, mismatch_faults}
+use Rattle.typed_trees.specs.Faults.{first_with}
 use Rattle.mql_types.proofs.branches.Joined.push_lefts.Given as goal
 
 abbrev pub invariant-loop-left : goal.invariant-loop-left

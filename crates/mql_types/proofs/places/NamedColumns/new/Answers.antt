@@ -3,7 +3,7 @@ use Rattle.std.proofs.lemmas.List.{length-take-le, take_more}
 use Rattle.std.specs.Option.{option_or}
 use Rattle.mon_value.specs.Same.{same_text}
 use Rattle.mon_value.specs.declared.columns.Column.{Column}
-use Rattle.mql_types.specs.Groupings.{place_found}
+use Rattle.typed_trees.specs.Groupings.{place_found}
 use Rattle.mql_types.proofs.NamedPlaceLemmas.{place_found-push}
 use Rattle.mql_types.proofs.places.NamedColumns.new.Goals as goal
 

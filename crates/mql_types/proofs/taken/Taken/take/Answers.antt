@@ -1,5 +1,5 @@
 use Rattle.std.proofs.Common.{◌∙◌, ap, is_some}
-use Rattle.mql_types.specs.Items.{is_taken, with_name}
+use Rattle.typed_trees.specs.Items.{is_taken, with_name}
 use Rattle.mql_types.proofs.TakenLemmas.{found_lent, lent, lent-insert}
 use Rattle.mql_types.proofs.taken.Taken.take.Goals as goal
 
