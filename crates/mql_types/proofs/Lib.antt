@@ -1,11 +1,3 @@
-mod ColumnNameLemmas
-mod FaultLemmas
-mod ItemLemmas
-mod ListedLemmas
-mod NamedPlaceLemmas
-mod OperandLemmas
-mod PredicateLemmas
 mod StepLemmas
-mod TakenLemmas
 mod TimesLemmas
 mod TypingLemmas

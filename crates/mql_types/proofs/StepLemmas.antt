@@ -2,7 +2,7 @@
 use Rattle.std.proofs.Common.{◌≡◌, ◌∙◌, ℕ, ◌+◌, ◌||◌, Bool, true, false, zero, suc, cond, nat_lt, List, [], ◌∷◌, ◌++◌}
 use Rattle.std.proofs.Common.{Option, map, drop, refl, ap, sym, arith}
 use Rattle.std.proofs.lemmas.Bool.Decides.{nat_tests}
-use Rattle.mql_types.proofs.FaultLemmas.{first_with-append}
+use Rattle.typed_columns.proofs.FaultLemmas.{first_with-append}
 use Rattle.mql_ast.specs.declared.operations.Op.{Op}
 use Rattle.mql_ast.specs.Trees.{OpTree, op_tree}
 use Rattle.typed_trees.specs.declared.faults.TypeFault.{TypeFault}

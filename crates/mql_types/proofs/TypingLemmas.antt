@@ -11,7 +11,7 @@ use Rattle.typed_trees.specs.Nodes.{NodeTree, TypedTree}
 use Rattle.typed_trees.specs.Times.{every_said, pipe_order_faults, query_times, times_faults, within_said}
 use Rattle.typed_trees.specs.Typing.{aligned_tree, branch_info, branch_node, joint_node, pipe_faults, pipe_part}
 use Rattle.typed_trees.specs.Typing.{query_faults, tree_or_fault, typed_query, typing}
-use Rattle.mql_types.proofs.FaultLemmas.{first_with-three}
+use Rattle.typed_columns.proofs.FaultLemmas.{first_with-three}
 
 -- two tables are brought together by what is told of them
 pub branch_made : (held : SchemaLists) (by : How) (at : ℕ) (left right : NodeTree)

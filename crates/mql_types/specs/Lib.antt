@@ -1,4 +1,1 @@
-pub mod NamedPlaces
-pub mod OperandLinks
 pub mod PartViews
-pub mod PredicateParts

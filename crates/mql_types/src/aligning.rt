@@ -5,10 +5,10 @@ ghost use Rattle.typed_trees.specs.Nodes.{node_tree};
 ghost use Rattle.mql_types.specs.PartViews.{part_view};
 ghost use Rattle.typed_trees.specs.Typing as spec;
 
-use crate::branches::with_width;
 use crate::parts::Part;
 use mon_value::{Aligner, Column, Columns, Kind, Shared, TryCopy};
 use std::alloc::{AllocError, Global};
+use typed_columns::with_width;
 use typed_trees::{Faults, Node, NodeInfo, OF_DELTA, OF_NUMBER, TypeKind, Width};
 
 /// A table: what isn't aligned yet is aligned here, at no place of the text.

@@ -7,17 +7,18 @@ ghost use Rattle.typed_trees.specs.Times.{every_said, within_said};
 ghost use Rattle.typed_trees.specs.Typing.{typing};
 
 use crate::aligning::aligned_tree;
-use crate::parts::{TypingSetting, pipe_part};
+use crate::parts::pipe_part;
 use crate::times::hear_pipe;
 use mon_schema::Schemas;
 use mon_value::Refusal;
 use mql_ast::Query;
 use std::alloc::Global;
+use typed_columns::TypingSetting;
 use typed_trees::{Faults, Node, Times, TypeFault, Typed};
 
 /// The typed tree of a query over the schemas, or the first of its faults: the one furthest left, and of those at one
 /// place the one of the least number.
-#[tactic(auto, using(crate::proofs::FaultLemmas::faults), unfolding(typed_trees::specs::Typing::typing))]
+#[tactic(auto, using(typed_columns::proofs::FaultLemmas::faults), unfolding(typed_trees::specs::Typing::typing))]
 pub fn check(alloc: Global, query: &Query, schemas: &Schemas) -> Result<Typed, Refusal<TypeFault>>
     ensures typed { GivesView typed_tree result (typing schemas.now (query_tree query.now)) }
 {

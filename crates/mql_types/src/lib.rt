@@ -2,20 +2,10 @@
 #![tactic(auto)]
 
 mod aligning;
-mod branches;
 mod checking;
-mod fetches;
-mod filters;
-mod groupings;
-mod items;
-mod levels;
 mod operations;
 mod parts;
-mod places;
-mod sums;
-mod taken;
 mod times;
-mod widths;
 
 pub use checking::check;
 pub use mon_value::{Anchor, Column, Columns};

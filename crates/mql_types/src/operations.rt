@@ -12,19 +12,17 @@ ghost use Rattle.mql_types.specs.PartViews.{part_view};
 ghost use Rattle.typed_trees.specs.Typing as spec;
 
 use crate::aligning::{align_node, aligned_tree, tell_align};
-use crate::fetches::column_number;
-use crate::filters::tell_predicate;
-use crate::groupings::Grouping;
-use crate::items::value_columns;
-use crate::parts::{Part, TypingSetting, table};
-use crate::places::NamedColumns;
+use crate::parts::{Part, table};
 use mon_value::{Aligner, Column, Shared, TryCopy};
 use mql_ast::{Aggregate, Items, Name, Op, OpKind, Predicate};
 use std::alloc::{AllocError, Global};
+use typed_columns::{
+    Grouping, NamedColumns, TypingSetting, column_number, tell_predicate, value_columns,
+};
 use typed_trees::{Faults, Level, Node, NodeInfo};
 
 /// A part with operations more. Tells what is wrong in them.
-#[tactic(auto, using(crate::proofs::FaultLemmas::faults))]
+#[tactic(auto, using(typed_columns::proofs::FaultLemmas::faults))]
 pub(crate) fn ops_part(
     setting: TypingSetting<'_>,
     part: Part,

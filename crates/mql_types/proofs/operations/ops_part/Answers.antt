@@ -5,7 +5,7 @@ use Rattle.mql_ast.specs.Trees.{deed_tree, op_tree}
 use Rattle.typed_trees.specs.Faults.{first_with}
 use Rattle.mql_types.specs.PartViews.{part_view}
 use Rattle.typed_trees.specs.Typing.{Part, deed_faults, deed_part, ops_faults, ops_part}
-use Rattle.mql_types.proofs.FaultLemmas.{first_with-append}
+use Rattle.typed_columns.proofs.FaultLemmas.{first_with-append}
 use Rattle.mql_types.proofs.operations.ops_part.Goals as goal
 
 pub loop-op-preserved : goal.loop-op-preserved

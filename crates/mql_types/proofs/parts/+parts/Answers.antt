@@ -11,7 +11,7 @@ use Rattle.typed_trees.specs.Faults.{first_with}
 use Rattle.mql_types.specs.PartViews.{part_view}
 use Rattle.typed_trees.specs.Typing.{Part, branch_faults, branch_node, branches_faults, branches_node, further_faults}
 use Rattle.typed_trees.specs.Typing.{further_node, ops_faults, pipe_faults, source_faults, source_part, table}
-use Rattle.mql_types.proofs.FaultLemmas.{first_with-append, first_with-three}
+use Rattle.typed_columns.proofs.FaultLemmas.{first_with-append, first_with-three}
 use Rattle.mql_types.proofs.parts.+parts.Goals as goal
 
 pub source_part-returns-in_ok-node-in-Branches-clause-part : goal.source_part-returns-in_ok-node-in-Branches-clause-part

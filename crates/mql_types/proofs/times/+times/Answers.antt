@@ -1,7 +1,7 @@
 use Rattle.std.proofs.Common.{◌≡◌, ◌∙◌, ◌+◌, ◌∷◌, List, drop, map, ap, sym, true, rules, arith}
 use Rattle.std.proofs.lemmas.List.{drop_more}
 use Rattle.mql_ast.specs.declared.pipes.Pipe.{Pipe}
-use Rattle.mql_types.proofs.FaultLemmas.{first_with-append}
+use Rattle.typed_columns.proofs.FaultLemmas.{first_with-append}
 use Rattle.mql_types.proofs.TimesLemmas.{said_of-append}
 use Rattle.mql_ast.specs.Trees.{branches, pipe_tree, source_tree}
 use Rattle.mql_ast.proofs.BranchLemmas.{branches_of_source}
