@@ -2,10 +2,10 @@
 ghost use Rattle.std.specs.Prelude.{◌≡◌, IfOk, Ok};
 ghost use Rattle.mql_ast.specs.Grammar.{Spells};
 ghost use Rattle.mql_ast.specs.Trees.{query_tree};
-ghost use Rattle.mql_types.specs.Times.{HasDurations};
-ghost use Rattle.mql_types.specs.Nodes.{typed_tree};
-ghost use Rattle.mql_types.specs.Soundness.{IsPipeSpelled, IsQueryType};
-ghost use Rattle.mql_types.specs.Typing.{typing};
+ghost use Rattle.typed_trees.specs.Times.{HasDurations};
+ghost use Rattle.typed_trees.specs.Nodes.{typed_tree};
+ghost use Rattle.typed_trees.specs.Soundness.{IsPipeSpelled, IsQueryType};
+ghost use Rattle.typed_trees.specs.Typing.{typing};
 
 use crate::settings::CaseSetting;
 use case_tables::{Trouble, bytes_of};
@@ -13,9 +13,10 @@ use mon_schema::Schemas;
 use mon_value::Refusal;
 use mql_ast::Query;
 use mql_parse::parse;
-use mql_types::{Plan, Typed, check};
+use mql_types::check;
 use plan_split::split;
 use std::alloc::Global;
+use typed_trees::{Plan, Typed};
 
 /// How many buckets a plan goes by.
 pub const BUCKETS: u32 = 1_024;

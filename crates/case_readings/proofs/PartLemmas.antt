@@ -7,7 +7,7 @@ use Rattle.mon_meaning.specs.LeafAnswers.{IsLeafAnswer, IsLeafPart}
 use Rattle.mon_meaning.specs.declared.meter.OverLimit.{OverLimit}
 use Rattle.mon_value.specs.declared.refusals.Refusal.{Refusal}
 use Rattle.mon_value.specs.declared.rows.Row.{Row}
-use Rattle.mql_types.specs.Nodes.{TypedTree}
+use Rattle.typed_trees.specs.Nodes.{TypedTree}
 
 pub leaf_parts_more : (typed : TypedTree) (moment : ℤ) (limit : ℕ) (leaves : List (List Row)) (parts : List LeafAnswer)
     (rows : List Row) (part : LeafAnswer) → AllLeafParts typed leaves moment limit parts

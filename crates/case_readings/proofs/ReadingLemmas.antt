@@ -11,10 +11,11 @@ use Rattle.mon_schema.specs.Fits.{fits}
 use Rattle.mon_schema.specs.Names.{SchemaLists}
 use Rattle.mon_topo.specs.Locations.{location_of}
 use Rattle.mon_value.specs.declared.rows.Row.{Row}
-use Rattle.mql_types.specs.Nodes.{TypedTree}
-use Rattle.mql_types.specs.Soundness.{IsQueryType, IsTyped}
+use Rattle.typed_trees.specs.Nodes.{TypedTree}
+use Rattle.typed_trees.specs.Soundness.{IsQueryType, IsTyped}
 use Rattle.case_readings.specs.Readings.{Among, AreReads, ShareNoPlace, leaves_of}
-use Rattle.case_readings.proofs.AmongLemmas.{all_among, all_back, all_both, all_front, all_on, apart_across, apart_among}
+use Rattle.case_readings.proofs.AmongLemmas.{all_among, all_back, all_both, all_front, all_on, apart_across}
+use Rattle.case_readings.proofs.AmongLemmas.{apart_among}
 use Rattle.case_readings.proofs.AmongLemmas.{apart_back, apart_front, apart_on}
 use Rattle.case_readings.proofs.PlaceLemmas.{share_no_location, share_no_target}
 

@@ -1,8 +1,8 @@
 // What leaves answer over their rows.
 ghost use Rattle.std.specs.Prelude.{IfOk};
 ghost use Rattle.mon_meaning.specs.LeafAnswers.{IsLeafPart};
-ghost use Rattle.mql_types.specs.Nodes.{typed_tree};
-ghost use Rattle.mql_types.specs.Soundness.{IsQueryType};
+ghost use Rattle.typed_trees.specs.Nodes.{typed_tree};
+ghost use Rattle.typed_trees.specs.Soundness.{IsQueryType};
 ghost use Rattle.case_readings.specs.Readings.{IsInBounds, IsReading};
 
 use crate::askings::Asked;
@@ -12,7 +12,7 @@ use mon_fold::LeafAnswer;
 use mon_meaning::OverLimit;
 use mon_series::KeptRows;
 use mon_value::{Refusal, RowList};
-use mql_types::Plan;
+use typed_trees::Plan;
 
 /// A leaf's part of a query, over the rows of the leaf.
 #[tactic(auto, using(crate::proofs::PartLemmas::leaf_part))]

@@ -13,8 +13,8 @@ use Rattle.mon_schema.specs.Fits.{fits}
 use Rattle.mon_schema.specs.Names.{SchemaLists}
 use Rattle.mon_value.specs.declared.refusals.Refusal.{Refusal}
 use Rattle.mon_value.specs.declared.rows.Row.{Row}
-use Rattle.mql_types.specs.Nodes.{TypedTree}
-use Rattle.mql_types.specs.Soundness.{IsQueryType, IsTyped}
+use Rattle.typed_trees.specs.Nodes.{TypedTree}
+use Rattle.typed_trees.specs.Soundness.{IsQueryType, IsTyped}
 use Rattle.division_cases.specs.Divisions.{AreZonesApart, AreZonesRead, IsApartFrom, IsZoneRead}
 use Rattle.case_readings.specs.Readings.{IsReading, leaves_of}
 use Rattle.case_readings.proofs.AmongLemmas.{all_both, all_on}

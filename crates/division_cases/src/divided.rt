@@ -1,6 +1,6 @@
 // Queries over rows that are divided into zones and leaves.
-ghost use Rattle.mql_types.specs.Nodes.{typed_tree};
-ghost use Rattle.mql_types.specs.Soundness.{IsQueryType};
+ghost use Rattle.typed_trees.specs.Nodes.{typed_tree};
+ghost use Rattle.typed_trees.specs.Soundness.{IsQueryType};
 ghost use Rattle.division_cases.specs.Divisions.{AreZonesRead};
 ghost use Rattle.case_readings.specs.Readings.{IsReading};
 
@@ -13,7 +13,7 @@ use case_queries::{CaseSetting, config_of, plan_of};
 use case_readings::{in_bounds, rows_of};
 use case_tables::{Done, Trouble, number_in};
 use mon_value::{RowList, Text};
-use mql_types::Plan;
+use typed_trees::Plan;
 
 // The moment at which queries are asked.
 const MOMENT: i64 = 60;

@@ -1,6 +1,6 @@
 // What queries mean over rows, and over rows that are divided into zones and leaves.
-ghost use Rattle.mql_types.specs.Nodes.{typed_tree};
-ghost use Rattle.mql_types.specs.Soundness.{IsQueryType};
+ghost use Rattle.typed_trees.specs.Nodes.{typed_tree};
+ghost use Rattle.typed_trees.specs.Soundness.{IsQueryType};
 ghost use Rattle.division_cases.specs.Divisions.{AreZonesRead};
 ghost use Rattle.case_readings.specs.Readings.{IsInBounds, IsReading};
 
@@ -12,8 +12,8 @@ use case_tables::Trouble;
 use mon_meaning::{OverLimit, central};
 use mon_table::print;
 use mon_value::{Refusal, RowList, Table, Text};
-use mql_types::Plan;
 use std::alloc::Global;
+use typed_trees::Plan;
 
 /// What is told of a query whose load is above the limit.
 pub(crate) const OVER: &str = "over\n";

@@ -2,8 +2,8 @@
 ghost use Rattle.std.specs.Prelude.{IfOk};
 ghost use Rattle.std.specs.List.{AllByRecursion};
 ghost use Rattle.mixer.specs.ZoneAnswers.{AllLeafParts, AllZoneParts, IsZonePart};
-ghost use Rattle.mql_types.specs.Nodes.{typed_tree};
-ghost use Rattle.mql_types.specs.Soundness.{IsQueryType};
+ghost use Rattle.typed_trees.specs.Nodes.{typed_tree};
+ghost use Rattle.typed_trees.specs.Soundness.{IsQueryType};
 ghost use Rattle.division_cases.specs.Divisions.{AreZonesRead, IsZoneRead};
 ghost use Rattle.case_readings.specs.Readings.{IsInBounds, IsReading};
 
@@ -14,7 +14,7 @@ use mixer::{ZoneAnswer, ZoneAnswers, mix_root, mix_zone};
 use mon_fold::LeafAnswers;
 use mon_meaning::OverLimit;
 use mon_value::{Refusal, RowList, Table};
-use mql_types::Plan;
+use typed_trees::Plan;
 
 /// The table that zones make of a query over the rows of their leaves.
 pub(crate) fn mixed(

@@ -14,8 +14,8 @@ use Rattle.mon_value.specs.declared.positions.Range.{Range}
 use Rattle.mon_value.specs.declared.positions.Slot.{Slot}
 use Rattle.mon_value.specs.declared.rows.Row.{Row}
 use Rattle.mon_value.specs.declared.tables.Table.{Table}
-use Rattle.mql_types.specs.Nodes.{TypedTree, typed_tree}
-use Rattle.mql_types.specs.declared.plans.Plan.{Plan}
+use Rattle.typed_trees.specs.Nodes.{TypedTree, typed_tree}
+use Rattle.typed_trees.specs.declared.plans.Plan.{Plan}
 use Rattle.query_core.specs.declared.answers.RoundFault.TheVariants as fault
 use Rattle.query_core.specs.declared.areas.Area.{Area}
 use Rattle.query_core.specs.declared.asks.Seen.{Seen}
@@ -35,7 +35,7 @@ use Rattle.query_core.specs.Program as spec
 use Rattle.query_core.specs.Program.{after, begin_visits, let_some_in, next_zone, resolving, visiting}
 use Rattle.query_core.specs.Visits as visit
 use Rattle.query_core.specs.Visits.{Visits, gone_on, with_look, next_leaf}
-use Rattle.mql_types.specs.Soundness.{IsQueryType}
+use Rattle.typed_trees.specs.Soundness.{IsQueryType}
 use Rattle.case_readings.specs.declared.askings.Asked.{Asked}
 use Rattle.case_readings.specs.Readings.{Among, AreReads, IsInBounds, ShareNoPlace, leaves_of}
 use Rattle.leaf_cases.specs.Sessions.{AreLeavesOf, AreZonesOf, IsGoingSo, IsPlain, IsRead, IsToldOver, StageIsOf}

@@ -7,7 +7,7 @@ use Rattle.mixer.specs.ZoneAnswers.{AllLeafParts, AllZoneParts}
 use Rattle.mixer.specs.declared.zone_answers.ZoneAnswer.{ZoneAnswer}
 use Rattle.mon_schema.specs.Names.{SchemaLists}
 use Rattle.mon_value.specs.declared.rows.Row.{Row}
-use Rattle.mql_types.specs.Nodes.{TypedTree}
+use Rattle.typed_trees.specs.Nodes.{TypedTree}
 use Rattle.query_core.specs.declared.asks.Told.{Told}
 use Rattle.query_core.specs.declared.asks.Told.TheVariants as told
 use Rattle.query_core.specs.declared.stages.Stage.{Stage}
@@ -15,7 +15,7 @@ use Rattle.query_core.specs.declared.stages.Stage.TheVariants as at
 use Rattle.query_core.specs.Machine.{Query}
 use Rattle.query_core.specs.Mixtures.{typed_of}
 use Rattle.query_core.specs.Rounds.{QuerySetting}
-use Rattle.mql_types.specs.Soundness.{IsQueryType}
+use Rattle.typed_trees.specs.Soundness.{IsQueryType}
 use Rattle.case_readings.specs.declared.askings.Asked.{Asked}
 use Rattle.case_readings.specs.Readings.{Among, AreReads, IsInBounds, IsReading, ShareNoPlace, leaves_of}
 

@@ -1,8 +1,8 @@
 // What leaves answer a query over rows that they are said to hold.
 ghost use Rattle.std.specs.Prelude.{◌≡◌, ◌++◌, ◌∷◌, [], IfOk, OnOk};
 ghost use Rattle.std.specs.List.{AllByRecursion};
-ghost use Rattle.mql_types.specs.Nodes.{typed_tree};
-ghost use Rattle.mql_types.specs.Soundness.{IsQueryType};
+ghost use Rattle.typed_trees.specs.Nodes.{typed_tree};
+ghost use Rattle.typed_trees.specs.Soundness.{IsQueryType};
 ghost use Rattle.case_readings.specs.Readings.{IsInBounds, IsReading, ShareNoPlace};
 ghost use Rattle.leaf_cases.specs.Sessions.{IsQueryGoing, IsRead, IsToldOver};
 
@@ -12,8 +12,8 @@ use case_readings::{Asked, is_source, leaf_answer, rows_of};
 use case_tables::{Done, Trouble, first_word, number_in};
 use mon_schema::Schemas;
 use mon_value::{ListOf, Refusal, RowList};
-use mql_types::Plan;
 use query_core::{QueryMachine, Told};
+use typed_trees::Plan;
 
 /// The rows of each leaf that was read, one reading after another.
 pub(crate) type Reads = ListOf<RowList>;

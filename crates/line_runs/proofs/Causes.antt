@@ -16,7 +16,7 @@ use Rattle.mon_value.specs.declared.histories.Histories.{Histories}
 use Rattle.mon_value.specs.declared.positions.FoundDown.{FoundDown}
 use Rattle.mon_value.specs.declared.positions.Leaf.{Leaf}
 use Rattle.mon_value.specs.declared.positions.Range.{Range}
-use Rattle.mql_types.specs.Meaning.{load}
+use Rattle.typed_trees.specs.Meaning.{load}
 use Rattle.query_core.specs.Answers.{IsStoppedRightly}
 use Rattle.query_core.specs.Rounds.{area_of, has_leaf, QuerySetting}
 use Rattle.query_core.specs.Courses.{AreFoundThen, HasNoReplica, IsFoundThen}

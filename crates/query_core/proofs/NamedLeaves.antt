@@ -13,7 +13,7 @@ use Rattle.query_core.specs.Machine.{Query, new_query, slots_at}
 use Rattle.query_core.specs.Program.{after}
 use Rattle.query_core.specs.Sessions as session
 use Rattle.mon_topo.specs.Views.{View}
-use Rattle.mql_types.proofs.KeptRows.{all-filter}
+use Rattle.typed_rows.proofs.KeptRows.{all-filter}
 use Rattle.query_core.specs.Rounds.{has_leaf, QuerySetting}
 use Rattle.query_core.specs.ToldDowns.{EndNames, down_told, downs_told}
 use Rattle.query_core.specs.declared.answers.Answer.{Answer}

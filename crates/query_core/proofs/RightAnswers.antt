@@ -12,7 +12,7 @@ use Rattle.mon_topo.specs.Zones.{first_leaf}
 use Rattle.mon_value.specs.declared.positions.FoundDown.{FoundDown}
 use Rattle.mon_value.specs.declared.positions.Leaf.{Leaf}
 use Rattle.mon_value.specs.declared.positions.Range.{Range}
-use Rattle.mql_types.proofs.JoinedRows.{all-map}
+use Rattle.typed_rows.proofs.JoinedRows.{all-map}
 use Rattle.query_core.specs.Answers.{IsAnsweredRightly, IsStoppedRightly}
 use Rattle.query_core.specs.Askings.{IsAskedOf}
 use Rattle.query_core.specs.declared.answers.Answer.{Answer}

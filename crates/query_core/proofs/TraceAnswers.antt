@@ -25,10 +25,10 @@ use Rattle.mon_value.specs.declared.positions.Range.{Range}
 use Rattle.mon_value.specs.declared.rows.Row.{Row}
 use Rattle.mon_value.specs.declared.schemas.MetricSchema.{MetricSchema}
 use Rattle.mon_value.specs.declared.schemas.TargetSchema.{TargetSchema}
-use Rattle.mql_types.specs.Meaning.{meets}
-use Rattle.mql_types.specs.Nodes.{NodeTree}
-use Rattle.mql_types.specs.Levels.{sent_amount}
-use Rattle.mql_types.specs.Plans.{fetches}
+use Rattle.typed_trees.specs.Meaning.{meets}
+use Rattle.typed_trees.specs.Nodes.{NodeTree}
+use Rattle.typed_trees.specs.Levels.{sent_amount}
+use Rattle.typed_trees.specs.Plans.{fetches}
 use Rattle.plan_split.proofs.FitLemmas.{fields_of_fitting}
 use Rattle.plan_split.specs.Meeting.{AllHoldWhereMet, is_plan_met}
 use Rattle.query_core.proofs.HintFacts.{none_wanted}

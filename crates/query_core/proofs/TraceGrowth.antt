@@ -20,9 +20,9 @@ use Rattle.mon_value.specs.declared.positions.FoundDown.{FoundDown}
 use Rattle.mon_value.specs.declared.positions.Leaf.{Leaf}
 use Rattle.mon_value.specs.declared.rows.Row.{Row}
 use Rattle.mon_value.specs.declared.rows.SeriesKey.{SeriesKey}
-use Rattle.mql_types.specs.Nodes.{TypedTree}
-use Rattle.mql_types.specs.Levels.{sent_amount}
-use Rattle.mql_types.specs.declared.plans.Plan.{Plan}
+use Rattle.typed_trees.specs.Nodes.{TypedTree}
+use Rattle.typed_trees.specs.Levels.{sent_amount}
+use Rattle.typed_trees.specs.declared.plans.Plan.{Plan}
 use Rattle.query_core.specs.Courses.{IsFoundBetween}
 use Rattle.plan_split.specs.Meeting.{is_plan_met}
 use Rattle.query_core.specs.Rounds.{slots_on}

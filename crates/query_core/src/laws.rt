@@ -9,8 +9,8 @@ ghost use Rattle.mon_value.specs.declared.positions.FoundDown.{FoundDown as Foun
 ghost use Rattle.mon_value.specs.declared.positions.Leaf.{Leaf as LeafOf};
 ghost use Rattle.mon_value.specs.declared.positions.Range.{Range as RangeOf};
 ghost use Rattle.mon_value.specs.declared.rows.SeriesKey.{SeriesKey as KeyOf};
-ghost use Rattle.mql_types.specs.Nodes.{TypedTree as Typed};
-ghost use Rattle.mql_types.specs.declared.plans.Plan.{Plan as PlanOf};
+ghost use Rattle.typed_trees.specs.Nodes.{TypedTree as Typed};
+ghost use Rattle.typed_trees.specs.declared.plans.Plan.{Plan as PlanOf};
 ghost use Rattle.query_core.specs.Answers.{IsAnsweredRightly, IsStoppedRightly};
 ghost use Rattle.query_core.specs.AskedPlaces.{IsThere};
 ghost use Rattle.query_core.specs.Askings.{IsAskedOf};

@@ -20,9 +20,9 @@ use Rattle.mon_value.specs.declared.positions.Leaf.{Leaf}
 use Rattle.mon_value.specs.declared.positions.Range.{Range}
 use Rattle.mon_value.specs.declared.rows.Row.{Row}
 use Rattle.mon_value.specs.declared.rows.SeriesKey.{SeriesKey}
-use Rattle.mql_types.specs.Meaning.{meaning}
-use Rattle.mql_types.specs.Nodes.{TypedTree, columns_of}
-use Rattle.mql_types.specs.declared.plans.Plan.{Plan}
+use Rattle.typed_trees.specs.Meaning.{meaning}
+use Rattle.typed_trees.specs.Nodes.{TypedTree, columns_of}
+use Rattle.typed_trees.specs.declared.plans.Plan.{Plan}
 use Rattle.query_core.specs.Courses.{IsFoundBetween}
 use Rattle.query_core.specs.Traces.{AreWider, IsBetween, IsFreshSince, IsReadRightly, IsTraceBetween, Lengths}
 use Rattle.query_core.specs.Traces.{source_of}

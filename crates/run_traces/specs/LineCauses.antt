@@ -22,8 +22,8 @@ use Rattle.mon_value.specs.declared.positions.Range.{Range}
 use Rattle.mon_value.specs.declared.positions.SlotLeaf.{SlotLeaf}
 use Rattle.mon_value.specs.declared.positions.Zone.{Zone}
 use Rattle.mon_value.specs.declared.rows.Row.{Row}
-use Rattle.mql_types.specs.Meaning.{load}
-use Rattle.mql_types.specs.Nodes.{TypedTree}
+use Rattle.typed_trees.specs.Meaning.{load}
+use Rattle.typed_trees.specs.Nodes.{TypedTree}
 use Rattle.query_core.specs.Courses.{IsFoundBetween}
 use Rattle.query_core.specs.Rounds.{area_of, has_leaf}
 use Rattle.query_core.specs.Traces.{IsBetween, IsTraceBetween, Lengths, cut_of, found_leaves, source_of}

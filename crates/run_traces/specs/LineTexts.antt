@@ -11,15 +11,15 @@ use Rattle.mon_topo.specs.declared.zones.ZoneSpec.{ZoneSpec}
 use Rattle.mon_value.specs.Tables.{column_names}
 use Rattle.mon_value.specs.declared.histories.Histories.{Histories}
 use Rattle.mql_parse.specs.Faults.{parse_fault_text}
-use Rattle.mql_types.specs.Plans.{op_levels}
-use Rattle.mql_types.specs.Faults.{limit_text, type_fault_text}
-use Rattle.mql_types.specs.Meaning.{meaning}
-use Rattle.mql_types.specs.Nodes.{TypedTree, columns_of}
-use Rattle.mql_types.specs.declared.explanations.OpLevel.{OpLevel}
-use Rattle.mql_types.specs.declared.explanations.OpWord.{OpWord}
-use Rattle.mql_types.specs.declared.explanations.OpWord.TheVariants as word
-use Rattle.mql_types.specs.declared.levels.Level.{Level}
-use Rattle.mql_types.specs.declared.levels.Level.TheVariants as level
+use Rattle.typed_trees.specs.Plans.{op_levels}
+use Rattle.typed_trees.specs.Faults.{limit_text, type_fault_text}
+use Rattle.typed_trees.specs.Meaning.{meaning}
+use Rattle.typed_trees.specs.Nodes.{TypedTree, columns_of}
+use Rattle.typed_trees.specs.declared.explanations.OpLevel.{OpLevel}
+use Rattle.typed_trees.specs.declared.explanations.OpWord.{OpWord}
+use Rattle.typed_trees.specs.declared.explanations.OpWord.TheVariants as word
+use Rattle.typed_trees.specs.declared.levels.Level.{Level}
+use Rattle.typed_trees.specs.declared.levels.Level.TheVariants as level
 use Rattle.query_core.specs.Traces.{source_of}
 use Rattle.query_core.specs.declared.answers.Trace.{Trace}
 use Rattle.query_texts.specs.TextTypes.{text_type}

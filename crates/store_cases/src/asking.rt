@@ -4,8 +4,8 @@ ghost use Rattle.std.specs.List.{AllByRecursion};
 ghost use Rattle.case_readings.specs.Readings.{IsInBounds, IsReading};
 ghost use Rattle.mon_schema.specs.Fits.{fits};
 ghost use Rattle.mon_store.specs.Gathers.{HasSeenTrace};
-ghost use Rattle.mql_types.specs.Nodes.{typed_tree};
-ghost use Rattle.mql_types.specs.Soundness.{IsQueryType};
+ghost use Rattle.typed_trees.specs.Nodes.{typed_tree};
+ghost use Rattle.typed_trees.specs.Soundness.{IsQueryType};
 
 use crate::places::Place;
 use case_readings::{Asked, in_bounds, is_source};
@@ -16,10 +16,10 @@ use mon_schema::Schemas;
 use mon_store::{Answer, Pass, QueryFault};
 use mon_table::print;
 use mon_value::{FoundDown, Refusal, Row, RowList, Table, Text};
-use mql_types::Plan;
 use query_texts::plan_of;
 use std::alloc::Global;
 use std::sync::Wait;
+use typed_trees::Plan;
 
 /// A query for the points of all targets.
 pub(crate) const ALL: &str = "fetch T::/m";

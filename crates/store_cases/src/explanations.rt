@@ -4,8 +4,8 @@ use mon_store::{Answer, Trace};
 use mon_table::print;
 use mon_topo::Topology;
 use mon_value::{Leaf, OutOfMemory};
-use mql_types::{Level, OpLevels, OpWord};
 use std::alloc::Global;
+use typed_trees::{Level, OpLevels, OpWord};
 
 /// The text of an answer.
 pub(crate) fn explained(

@@ -1,8 +1,8 @@
 // The levels of a query's sources and operations.
 use crate::typing::level_word;
 use case_tables::{Done, put, put_between};
-use mql_types::{OpWord, Typed, op_levels};
 use std::alloc::Global;
+use typed_trees::{OpWord, Typed, op_levels};
 
 /// Writes the sources and operations of a query in the order of its text, with their levels and commas between them.
 pub(crate) fn write_levels(text: &mut String, alloc: Global, typed: &Typed) -> Done {

@@ -4,9 +4,9 @@ use case_queries::{BUCKETS, CaseSetting, plan_of};
 use case_tables::{DescribedSeries, Done, Trouble, first_word, put, put_list};
 use mon_hints::{Formula, Words, hints_of, mask};
 use mql_ast::{Predicate, Query};
-use mql_types::Plan;
 use plan_split::formula_of;
 use std::alloc::Global;
+use typed_trees::Plan;
 
 /// A case of `formula_of` is `FIELD=VALUE,.. FIELD=VALUE,.. ? PREDICATE`, with the fields of the target and those of
 /// the metric. Its answer is whether the predicate holds of the series, and whether the predicate's formula lets the

@@ -4,8 +4,9 @@ use case_queries::{CaseSetting, query_in};
 use case_tables::{Done, Trouble, put};
 use mon_value::{Anchor, Column, Refusal, ValueType};
 use mql_ast::Query;
-use mql_types::{Level, Node, NodeInfo, TypeFault, Typed, check};
+use mql_types::check;
 use std::alloc::Global;
+use typed_trees::{Level, Node, NodeInfo, TypeFault, Typed};
 
 /// A case is a query text; its answer is its typed tree for `check`, what explains it for `op_levels`, or its fault.
 /// The schemas are those of the configuration that the cases stand under.

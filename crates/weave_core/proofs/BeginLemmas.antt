@@ -25,9 +25,9 @@ use Rattle.mon_value.specs.declared.positions.Range.{Range}
 use Rattle.mon_value.specs.declared.positions.Slot.{Slot}
 use Rattle.mon_value.specs.declared.positions.SlotLeaf.{SlotLeaf}
 use Rattle.mon_value.specs.declared.rows.Row.{Row}
-use Rattle.mql_types.specs.declared.levels.Level.TheVariants as level
-use Rattle.mql_types.specs.declared.nodes.Node.TheVariants as node
-use Rattle.mql_types.specs.declared.plans.Plan.{Plan}
+use Rattle.typed_trees.specs.declared.levels.Level.TheVariants as level
+use Rattle.typed_trees.specs.declared.nodes.Node.TheVariants as node
+use Rattle.typed_trees.specs.declared.plans.Plan.{Plan}
 use Rattle.query_core.specs.Machine.{new_query}
 use Rattle.query_core.specs.Rounds.{QuerySetting}
 use Rattle.write_core.specs.Deeds.{IsUnused, acks_by, puts_by}

@@ -1,7 +1,7 @@
 use Rattle.std.proofs.Common.{◌≡◌, Ok, subst, sym}
 use Rattle.mql_ast.specs.Trees.{query_tree}
-use Rattle.mql_types.specs.Nodes.{TypedTree}
-use Rattle.mql_types.specs.Typing.{typing}
+use Rattle.typed_trees.specs.Nodes.{TypedTree}
+use Rattle.typed_trees.specs.Typing.{typing}
 use Rattle.case_queries.proofs.queries.plan_over.Goals as goal
 
 -- the query was typed over the schemas, and its plan has its tree

@@ -2,10 +2,10 @@ use Rattle.std.proofs.Common.{ℕ, List, Result, Ok, Err, IfOk}
 use Rattle.mql_ast.specs.Grammar.{Spells}
 use Rattle.mql_ast.specs.Trees.{query_tree}
 use Rattle.mql_ast.specs.declared.pipes.Query.{Query}
-use Rattle.mql_types.proofs.DurationLemmas.{durations_spelled}
-use Rattle.mql_types.proofs.SpelledQueries.{query_spelled}
-use Rattle.mql_types.specs.Times.{HasDurations}
-use Rattle.mql_types.specs.Soundness.{IsPipeSpelled}
+use Rattle.typed_rows.proofs.DurationLemmas.{durations_spelled}
+use Rattle.typed_rows.proofs.SpelledQueries.{query_spelled}
+use Rattle.typed_trees.specs.Times.{HasDurations}
+use Rattle.typed_trees.specs.Soundness.{IsPipeSpelled}
 use Rattle.case_queries.proofs.queries.query_in.Goals as goal
 
 module _ {E : Type 0} (text : List ℕ) where

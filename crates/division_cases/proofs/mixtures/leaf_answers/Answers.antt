@@ -2,7 +2,7 @@ use Rattle.std.proofs.Common.{◌+◌, ◌∷◌, ◌++◌, [], List, subst, sym
 use Rattle.mixer.specs.ZoneAnswers.{AllLeafParts}
 use Rattle.mon_fold.specs.declared.answers.LeafAnswer.{LeafAnswer}
 use Rattle.mon_value.specs.declared.rows.Row.{Row}
-use Rattle.mql_types.specs.Nodes.{typed_tree}
+use Rattle.typed_trees.specs.Nodes.{typed_tree}
 use Rattle.case_readings.specs.Readings.{IsReading}
 use Rattle.case_readings.proofs.AmongLemmas.{next_of, one_more}
 use Rattle.case_readings.proofs.PartLemmas.{leaf_parts_more}

@@ -1,4 +1,4 @@
-use Rattle.mql_types.specs.Nodes.{typed_tree}
+use Rattle.typed_trees.specs.Nodes.{typed_tree}
 use Rattle.division_cases.proofs.DivisionLemmas.{has_leaf_parts, leaf_parts, zone_part}
 use Rattle.division_cases.proofs.mixtures.zone_answer.Goals as goal
 

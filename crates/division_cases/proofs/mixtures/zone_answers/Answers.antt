@@ -2,7 +2,7 @@ use Rattle.std.proofs.Common.{◌+◌, ◌∷◌, ◌++◌, [], List, subst, sym
 use Rattle.mixer.specs.ZoneAnswers.{AllZoneParts, IsZonePart}
 use Rattle.mixer.specs.declared.zone_answers.ZoneAnswer.{ZoneAnswer}
 use Rattle.mon_value.specs.declared.rows.Row.{Row}
-use Rattle.mql_types.specs.Nodes.{typed_tree}
+use Rattle.typed_trees.specs.Nodes.{typed_tree}
 use Rattle.division_cases.specs.Divisions.{IsZoneRead}
 use Rattle.case_readings.proofs.AmongLemmas.{next_of, one_more}
 use Rattle.case_readings.proofs.PartLemmas.{zone_parts_more}

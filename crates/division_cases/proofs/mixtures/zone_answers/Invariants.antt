@@ -2,7 +2,7 @@
 use Rattle.std.proofs.Common.{drop, take}
 use Rattle.std.specs.List.{AllByRecursion}
 use Rattle.mixer.specs.ZoneAnswers.{AllZoneParts}
-use Rattle.mql_types.specs.Nodes.{typed_tree}
+use Rattle.typed_trees.specs.Nodes.{typed_tree}
 use Rattle.division_cases.specs.Divisions.{IsZoneRead}
 use Rattle.division_cases.proofs.mixtures.zone_answers.Given as goal
 
