@@ -31,7 +31,8 @@ use Rattle.core_theory.specs.Core.{CanCome, Happens, Reader}
 use Rattle.weave_core.specs.Declarations.{Declares, QueryBegins, WriteBegins, new_reader, with_reader}
 use Rattle.weave_core.specs.EndTexts.{no_plan_line, no_zone_line}
 use Rattle.core_theory.specs.Holders.{AreHolders, HoldsLeaf, HoldsRange}
-use Rattle.weave_core.specs.LawfulLines.{IsLawfulCall, IsRecoverable}
+use Rattle.mon_script.specs.Controls.{IsRecoverable}
+use Rattle.weave_core.specs.LawfulLines.{IsLawfulCall}
 use Rattle.core_theory.specs.Licensed.{IsReader}
 use Rattle.weave_core.specs.NewActors.{BeginsToWrite, IsTaskOf, IsDeclaredActor}
 use Rattle.weave_core.specs.QueryPlans.{BeginsToAsk}

@@ -7,6 +7,7 @@ pub mod DeclareLemmas
 pub mod HearingLemmas
 pub mod LeafAnswers
 pub mod LeafTurnLemmas
+pub mod LineFormLemmas
 pub mod LineRunLemmas
 pub mod LockLemmas
 pub mod LockTurnLemmas

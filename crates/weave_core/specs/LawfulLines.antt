@@ -2,11 +2,9 @@
 use Rattle.std.specs.Prelude.{ℕ, ℤ, pos, ◌≡◌, ◌<◌, ◌≤◌, ◌≤ℤ◌, true, List, length}
 use Rattle.mon_schema.specs.Fits.{fits}
 use Rattle.mon_schema.specs.Names.{SchemaLists}
-use Rattle.mon_topo.specs.RangeHistories.{IsInZoneOf}
-use Rattle.mon_topo.specs.Zones.{leaves_in, ranges_in}
+use Rattle.mon_script.specs.Controls.{IsRecoverable}
+use Rattle.mon_topo.specs.Zones.{leaves_in}
 use Rattle.mon_topo.specs.declared.zones.ZoneSpec.{ZoneSpec}
-use Rattle.mon_value.specs.declared.positions.Leaf.{Leaf}
-use Rattle.mon_value.specs.declared.positions.Range.{Range}
 use Rattle.weave_core.specs.declared.calls.Call.{Call}
 use Rattle.weave_core.specs.declared.calls.Call.TheVariants as call
 use Rattle.weave_core.specs.declared.limits.TheConstants.{LAST_ACTOR}
@@ -20,12 +18,6 @@ pub record IsActorNumber (k : ℕ) : Type 0 where
 
 abbrev pub IsMoment : ℤ → Type 0
 IsMoment moment = pos 0 ≤ℤ moment
-
--- a range and a leaf are there, in one zone
-pub record IsRecoverable (zones : List ZoneSpec) (range : Range) (leaf : Leaf) : Type 0 where
-  pub range_there : range.0 < length (ranges_in zones)
-  pub leaf_there : leaf.0 < length (leaves_in zones)
-  pub zoned : IsInZoneOf zones range leaf
 
 -- a row is of the schemas, a moment is no less than 0, and a leaf is there
 abbrev pub IsLawfulCall : SchemaLists → List ZoneSpec → Call → Type 0

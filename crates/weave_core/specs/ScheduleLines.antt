@@ -1,20 +1,23 @@
 -- What a line of a schedule says.
 use Rattle.std.specs.Prelude.{ℕ, ℤ, pos, negsuc, nat_le, nat_eq, ◌&&◌, List, [], ◌∷◌, codes}
-use Rattle.std.specs.Prelude.{Option, Some, None, option_map, option_and_then, if◌then◌else◌}
+use Rattle.std.specs.Prelude.{Option, Some, None, option_map, option_and_then, Result, Ok, Err, if◌then◌else◌}
 use Rattle.std.specs.Str.{is_utf8}
 use Rattle.mon_points.specs.Records.{reads_of}
 use Rattle.mon_points.specs.declared.records.RowRead.{RowRead}
 use Rattle.mon_points.specs.declared.records.RowRead.TheVariants as read
 use Rattle.mon_schema.specs.Names.{SchemaLists}
+use Rattle.mon_script.specs.Controls.{control_of, control_word}
 use Rattle.mon_script.specs.Lines.{cut_at, moment_of, space}
-use Rattle.mon_topo.specs.Zones.{share_zone, leaf_named, range_named}
+use Rattle.mon_script.specs.declared.controls.ControlForm.{ControlForm}
+use Rattle.mon_script.specs.declared.controls.ControlForm.TheVariants as control
+use Rattle.mon_script.specs.declared.controls.ControlWord.{ControlWord}
+use Rattle.mon_script.specs.declared.faults.ScriptKind.{ScriptKind}
 use Rattle.mon_topo.specs.declared.zones.ZoneSpec.{ZoneSpec}
-use Rattle.mon_value.specs.declared.positions.Leaf.{Leaf}
-use Rattle.mon_value.specs.declared.positions.Range.{Range}
 use Rattle.mon_value.specs.Values.{number_of}
 use Rattle.mon_value.specs.Same.{same_text}
 use Rattle.mon_value.specs.declared.rows.Row.{Row}
 use Rattle.weave_core.specs.EventNames.{event_named}
+use Rattle.weave_core.specs.declared.calls.Call.{Call}
 use Rattle.weave_core.specs.declared.calls.Call.TheVariants as call
 use Rattle.weave_core.specs.declared.limits.TheConstants.{LAST_ACTOR}
 use Rattle.weave_core.specs.declared.lines.LineForm.{LineForm}
@@ -66,36 +69,20 @@ abbrev pub schedule_query_form : List ℕ → Option LineForm
 schedule_query_form rest =
     option_and_then (λ words. option_and_then (asked_by words.0) (moment_and_rest words.1)) (actor_and_rest rest)
 
--- an actor, and a leaf by its name
-abbrev pub leaf_by : List ZoneSpec → ℕ × List ℕ → Option (ℕ × Leaf)
-leaf_by zones words = option_map (λ leaf. (words.0, leaf)) (leaf_named zones words.1)
+-- what is done to a leaf
+abbrev pub call_of : ControlForm → Call
+call_of (control.Down leaf) = call.Down leaf
+call_of (control.Up leaf) = call.Up leaf
+call_of (control.Recover range leaf) = call.Recover range leaf
 
-abbrev pub actor_and_leaf : List ZoneSpec → List ℕ → Option (ℕ × Leaf)
-actor_and_leaf zones rest = option_and_then (leaf_by zones) (actor_and_rest rest)
+abbrev pub controlled_by : ℕ → Result ControlForm ScriptKind → Option LineForm
+controlled_by actor (Ok what) = Some (form.Declare actor (call_of what))
+controlled_by actor (Err why) = None
 
--- a leaf that is to go down, or to come up
-abbrev pub down_form : List ZoneSpec → List ℕ → Option LineForm
-down_form zones rest = option_map (λ words. form.Declare words.0 (call.Down words.1)) (actor_and_leaf zones rest)
-
-abbrev pub up_form : List ZoneSpec → List ℕ → Option LineForm
-up_form zones rest = option_map (λ words. form.Declare words.0 (call.Up words.1)) (actor_and_leaf zones rest)
-
--- a range and a leaf, by their names
-abbrev pub range_and_leaf : List ZoneSpec → List ℕ → Option (Range × Leaf)
-range_and_leaf zones rest =
-    option_and_then (λ names. option_and_then (λ range. option_map (λ leaf. (range, leaf)) (leaf_named zones names.1))
-    (range_named zones names.0)) (cut_at space rest)
-
--- that is to be recovered there, where both are of one zone
-abbrev pub recovered_by : List ZoneSpec → ℕ → Range × Leaf → Option LineForm
-recovered_by zones actor words =
-    if share_zone zones words.0 words.1 then Some (form.Declare actor (call.Recover words.0 words.1)) else None
-
--- an actor, a range and a leaf of its zone
-abbrev pub recover_form : List ZoneSpec → List ℕ → Option LineForm
-recover_form zones rest =
-    option_and_then (λ words. option_and_then (recovered_by zones words.0) (range_and_leaf zones words.1))
-    (actor_and_rest rest)
+-- an actor, and what a script's line of the same word has behind this
+abbrev pub schedule_control_form : List ZoneSpec → ControlWord → List ℕ → Option LineForm
+schedule_control_form zones what rest =
+    option_and_then (λ words. controlled_by words.0 (control_of zones what words.1)) (actor_and_rest rest)
 
 abbrev pub met_by : ℕ → ℕ → Option LineForm
 met_by actor other = if nat_eq actor other then None else Some (form.Meet actor other)
@@ -118,13 +105,13 @@ turn_form word rest =
     else if same_text word (codes "finish") then option_map form.Finish (actor_of rest)
     else None
 
--- which leaf is switched, which range is recovered, or whose turn it is
+-- what is done to a leaf, or whose turn it is
+abbrev pub switch_form_by : List ZoneSpec → List ℕ → List ℕ → Option ControlWord → Option LineForm
+switch_form_by zones word rest (Some what) = schedule_control_form zones what rest
+switch_form_by zones word rest None = turn_form word rest
+
 abbrev pub switch_form : List ZoneSpec → List ℕ → List ℕ → Option LineForm
-switch_form zones word rest =
-    if same_text word (codes "down") then down_form zones rest
-    else if same_text word (codes "up") then up_form zones rest
-    else if same_text word (codes "recover") then recover_form zones rest
-    else turn_form word rest
+switch_form zones word rest = switch_form_by zones word rest (control_word word)
 
 -- ---- lines
 

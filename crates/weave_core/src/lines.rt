@@ -1,10 +1,9 @@
 // What a line of a schedule says.
-ghost use Rattle.std.specs.Prelude.{◌≡◌, ◌<◌, true, List, length, option_map, IfOk, IfSome};
+ghost use Rattle.std.specs.Prelude.{◌≡◌, true, List, option_map, IfOk, IfSome};
 ghost use Rattle.mon_schema.specs.Fits.{fits};
 ghost use Rattle.mon_schema.specs.Names.{SchemaLists};
 ghost use Rattle.std.specs.List.{AllByRecursion};
 ghost use Rattle.mon_points.specs.Fitting.{ReadFits};
-ghost use Rattle.mon_topo.specs.Zones.{leaves_in, ranges_in};
 ghost use Rattle.mon_topo.specs.declared.zones.ZoneSpec.{ZoneSpec};
 ghost use Rattle.weave_core.specs.LawfulLines.{IsActorNumber, IsLawfulForm, IsMoment};
 ghost use Rattle.weave_core.specs.ScheduleLines as spec;
@@ -14,9 +13,9 @@ use crate::events::{Event, event_named};
 use crate::limits::LAST_ACTOR;
 use mon_points::{RowRead, RowReads, read_rows};
 use mon_schema::Schemas;
-use mon_script::{cut_at, moment_of};
-use mon_topo::{Topology, share_zone};
-use mon_value::{Leaf, OutOfMemory, Range, Row, Text, read_number};
+use mon_script::{ControlForm, ControlWord, control_of, control_word, cut_at, moment_of};
+use mon_topo::Topology;
+use mon_value::{OutOfMemory, Row, Text, read_number};
 use std::alloc::Global;
 
 /// What a line says.
@@ -106,72 +105,38 @@ fn query_form(alloc: Global, rest: &[u8]) -> Result<Option<LineForm>, OutOfMemor
     }
 }
 
-// What says which leaf is switched, or which range is recovered, or whose turn it is.
+// What says what is done to a leaf, or whose turn it is.
 fn switch_form(topology: &Topology, word: &[u8], rest: &[u8]) -> Option<LineForm>
     ensures form { result ≡ spec.switch_form topology.now word.now rest.now }
     ensures lawful { (held : SchemaLists) → IfSome result (IsLawfulForm held topology.now) }
 {
-    if word == b"down".as_slice() {
-        down_form(topology, rest)
-    } else if word == b"up".as_slice() {
-        up_form(topology, rest)
-    } else if word == b"recover".as_slice() {
-        recover_form(topology, rest)
-    } else {
-        turn_form(word, rest)
+    match control_word(word) {
+        Some(what) => control_form(topology, what, rest),
+        None => turn_form(word, rest),
     }
 }
 
-// A leaf that is to go down.
-fn down_form(topology: &Topology, rest: &[u8]) -> Option<LineForm>
-    ensures form { result ≡ spec.down_form topology.now rest.now }
-    ensures lawful { (held : SchemaLists) → IfSome result (IsLawfulForm held topology.now) }
-{
-    let (actor, leaf) = actor_and_leaf(topology, rest)?;
-    Some(LineForm::Declare(actor, Call::Down(leaf)))
-}
-
-// A leaf that is to come up.
-fn up_form(topology: &Topology, rest: &[u8]) -> Option<LineForm>
-    ensures form { result ≡ spec.up_form topology.now rest.now }
-    ensures lawful { (held : SchemaLists) → IfSome result (IsLawfulForm held topology.now) }
-{
-    let (actor, leaf) = actor_and_leaf(topology, rest)?;
-    Some(LineForm::Declare(actor, Call::Up(leaf)))
-}
-
-// A range that is to be recovered onto a leaf of its zone.
-fn recover_form(topology: &Topology, rest: &[u8]) -> Option<LineForm>
-    ensures form { result ≡ spec.recover_form topology.now rest.now }
+// An actor, and what it does to a leaf.
+fn control_form(topology: &Topology, what: ControlWord, rest: &[u8]) -> Option<LineForm>
+    ensures form { result ≡ spec.schedule_control_form topology.now what rest.now }
     ensures lawful { (held : SchemaLists) → IfSome result (IsLawfulForm held topology.now) }
 {
     let (actor, rest) = actor_and_rest(rest)?;
-    let (range, leaf) = range_and_leaf(topology, rest)?;
-    if share_zone(topology, range, leaf) {
-        Some(LineForm::Declare(actor, Call::Recover(range, leaf)))
-    } else {
-        None
+    match control_of(topology, what, rest) {
+        Ok(what) => Some(LineForm::Declare(actor, call_of(what))),
+        Err(_why) => None,
     }
 }
 
-// The range of a name, and the leaf of another one.
-fn range_and_leaf(topology: &Topology, rest: &[u8]) -> Option<(Range, Leaf)>
-    ensures words { result ≡ spec.range_and_leaf topology.now rest.now }
-    ensures range { IfSome result (λ words. words.0.0 < length (ranges_in topology.now)) }
-    ensures leaf { IfSome result (λ words. words.1.0 < length (leaves_in topology.now)) }
+// What is done to a leaf.
+fn call_of(what: ControlForm) -> Call
+    ensures call { result ≡ spec.call_of what }
 {
-    let (range, leaf) = cut_at(rest, b' ')?;
-    Some((topology.range_named(range)?, topology.leaf_named(leaf)?))
-}
-
-// An actor, and the leaf of a name.
-fn actor_and_leaf(topology: &Topology, rest: &[u8]) -> Option<(u32, Leaf)>
-    ensures words { result ≡ spec.actor_and_leaf topology.now rest.now }
-    ensures actor { IfSome result (λ words. IsActorNumber words.0) }
-    ensures leaf { IfSome result (λ words. words.1.0 < length (leaves_in topology.now)) }
-{
-    let (actor, name) = actor_and_rest(rest)?;
-    Some((actor, topology.leaf_named(name)?))
+    match what {
+        ControlForm::Down(leaf) => Call::Down(leaf),
+        ControlForm::Up(leaf) => Call::Up(leaf),
+        ControlForm::Recover(range, leaf) => Call::Recover(range, leaf),
+    }
 }
 
 // What says whose turn it is, or who meets whom.
