@@ -3,10 +3,10 @@ ghost use Rattle.std.specs.Prelude.{◌≡◌, IfOk, string_bytes};
 ghost use Rattle.mon_script.specs.Controls.{control_refusal_text, source_down_text};
 ghost use Rattle.query_core.specs.FaultTexts.{round_fault_text};
 ghost use Rattle.weave_core.specs.EndTexts as spec;
-ghost use Rattle.weave_core.specs.Switches.{switch_told};
+ghost use Rattle.core_store.specs.Switches.{switch_told};
 ghost use Rattle.write_core.specs.RangeAnswers.{refused_text};
 
-use crate::switches::{Switched, Switching};
+use core_store::{Switched, Switching};
 use mon_script::{ControlRefusal, recovered_text, source_down_text, switched_text};
 use mon_table::print;
 use mon_topo::{Topology, down_text};
