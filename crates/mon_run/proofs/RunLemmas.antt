@@ -25,7 +25,7 @@ use Rattle.mon_run.specs.within.Stops.{Completes, Counts, Done, Ends, Halts, Has
 use Rattle.mon_run.specs.within.Stops.{WriteStops, WroteFront, config_stop, files_plan, named_plan, noted, words_plan}
 use Rattle.run_traces.specs.declared.traces.LineTrace.{LineTrace}
 use Rattle.weave_core.specs.Schedules.{IsPrinted, Printed}
-use Rattle.weave_core.specs.declared.calls.ScheduleFault.{ScheduleFault}
+use Rattle.schedule_lines.specs.declared.calls.ScheduleFault.{ScheduleFault}
 use Rattle.mon_run.proofs.EndLemmas.{causes_earlier}
 use Rattle.mon_run.proofs.SinkLemmas.{nothing_written}
 use Rattle.mon_run.proofs.StepLemmas.{did_none, did_then, done_behind, not_long, stops_behind}

@@ -24,7 +24,7 @@ use Rattle.mon_config.specs.declared.faults.ConfigFault.{ConfigFault}
 use Rattle.mon_script.specs.Made.{made_pieces}
 use Rattle.mon_script.specs.Scripts.{script_in}
 use Rattle.weave_core.specs.Schedules.{IsPrinted, Printed}
-use Rattle.weave_core.specs.declared.calls.ScheduleFault.{ScheduleFault}
+use Rattle.schedule_lines.specs.declared.calls.ScheduleFault.{ScheduleFault}
 use Rattle.mon_run.specs.Outside.{Files, content_of}
 use Rattle.mon_run.specs.Steps.{End, Plan, Step, Write, ending, plan, plan_behind, read_plan, script_text, end_status}
 use Rattle.mon_run.specs.Steps.{config_text, schedule_text, usage_text}

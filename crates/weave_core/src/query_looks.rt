@@ -9,8 +9,7 @@ ghost use Rattle.weave_core.specs.QueryLooks as spec;
 ghost use Rattle.weave_core.specs.QueryLooks.{FindsIf, LooksIf};
 ghost use Rattle.mon_topo.specs.Sights.{AreAlike};
 
-use crate::leaves::LeafSeat;
-use crate::ranges::RangeSeat;
+use core_store::{LeafSeat, RangeSeat};
 use leaf_eval::{Visit, visit};
 use mon_topo::Sight;
 use mon_value::{Leaf, Leaves, OutOfMemory, Range, SlotLeaf};
