@@ -234,6 +234,18 @@ def trials(case):
     return Run({}, ("trial", case.given)), b"0\n" + made.summary(int(case.given)).encode()
 
 
+def limits(case):
+    """`QUERY LIMIT`; what that query over the input that is made from 0 comes to under a limit of its load."""
+    query, limit = (int(word) for word in case.given.split())
+    files = {name: text.encode() for name, text in made.sections(0)}
+    feeds = [f"feed {name}\n".encode() for name in files if name.endswith(".csv")]
+    files[CONFIG] = json.dumps({"limit": limit, **json.loads(files["config.json"])}).encode()
+    files[SCRIPT] = b"".join(feeds) + f"query 1000 {made.QUERIES[query - 1]}\n".encode()
+    printed = b"".join(b"%s: %d accepted, 0 refused\n" % (feed.strip(), made.ROWS) for feed in feeds)
+    status = b"7\n" if case.wanted.startswith(b"refused: ") else b"0\n"
+    return Run(files, ("run", CONFIG, SCRIPT)), status + printed + case.wanted.rstrip(b"\n") + b"\n"
+
+
 def of_filter(case, predicate, record, config=None):
     """The run that counts the one point that is fed where a filter takes it."""
     script = b"feed p.csv\nquery 10 fetch T::/m | filter %s | group_by [], count()\n" % predicate
@@ -256,5 +268,5 @@ def quoted(text):
     return b'"%s"' % text.replace(b'"', b'""')
 
 
-LIST = (runs, schedules, configurations, scripts, queries, points, meanings, patterns, predicates, inputs, trials)
+LIST = (runs, schedules, configurations, scripts, queries, points, meanings, patterns, predicates, inputs, trials, limits)
 KINDS = {kind.__name__: kind for kind in LIST}
