@@ -8,6 +8,7 @@ use crate::settings::TypingSetting;
 use mon_schema::Schemas;
 use mon_value::{Anchor, Column, Field, Shared, Text, TryCopy};
 use std::alloc::AllocError;
+use typed_trees::Level;
 
 /// The level at which rows that agree in some columns can be brought together, where they come from a level: a leaf,
 /// where the columns tell the whole target of one schema; a zone, where they tell its location; or else the root.

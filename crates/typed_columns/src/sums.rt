@@ -11,7 +11,7 @@ use crate::places::NamedColumns;
 use mon_value::ValueType;
 use mql_ast::{Expr, Name};
 use std::alloc::{AllocError, Global};
-use typed_trees::{Faults, OF_NUMBER, TypeKind, TypeWord, Width, type_word};
+use typed_trees::{Faults, OF_NUMBER, Operand, TypeKind, TypeWord, Width, type_word};
 
 // The most bits of a distribution's total of which every percentile is computed, and by how many it is widened.
 const MOST_PERCENTILE_BITS: u32 = 119;
