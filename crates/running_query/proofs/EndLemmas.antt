@@ -1,5 +1,5 @@
 -- How a query begins, and how it ends.
-use Rattle.std.proofs.Common.{◌≡◌, ◌∙◌, ◌≤ℤ◌, inl, inr, ℕ, ℤ, true, pos, List, [], ◌∷◌, ◌++◌, refl, sym, ap}
+use Rattle.std.proofs.Common.{◌≡◌, ◌∙◌, ◌<◌, ◌≤ℤ◌, inl, inr, ℕ, ℤ, true, pos, List, [], ◌∷◌, ◌++◌, refl, sym, ap}
 use Rattle.std.proofs.Common.{subst, arith, Ok, Err, None, append_assoc, length}
 use Rattle.std.specs.Prelude.{Result}
 use Rattle.std.specs.List.{AllByRecursion as All, Contains, sum}
@@ -24,6 +24,7 @@ use Rattle.query_core.specs.Askings.{IsAskedOf}
 use Rattle.query_core.specs.Answers.{IsAnsweredRightly, IsStoppedRightly}
 use Rattle.query_core.specs.Courses.{HasNoReplica}
 use Rattle.query_core.specs.Machine.{EndsSo, Query, new_query}
+use Rattle.query_core.specs.Orders.{ComeInOrder, ComeWholeInOrder, events_told, words_loaded}
 use Rattle.query_core.specs.Program.{ask_of}
 use Rattle.query_core.specs.SentTold.{sent_told}
 use Rattle.query_core.specs.Sessions as session
@@ -34,6 +35,7 @@ use Rattle.query_core.specs.declared.answers.Answer.{Answer}
 use Rattle.query_core.specs.declared.answers.RoundFault.{RoundFault}
 use Rattle.query_core.specs.declared.answers.RoundFault.TheVariants as fault
 use Rattle.query_core.specs.declared.answers.Trace.{Trace}
+use Rattle.query_core.specs.declared.asks.Ask.{Ask}
 use Rattle.query_core.specs.declared.asks.Ask.TheVariants as ask
 use Rattle.query_core.specs.declared.stages.Stage.{Stage}
 use Rattle.query_core.specs.declared.stages.Stage.TheVariants as at
@@ -41,11 +43,13 @@ use Rattle.raise_table.specs.Tables.{RaiseIdentity}
 use Rattle.running_query.proofs.FoundLemmas.{IsNotedDown, avoided_told, downs_are_noted, each_noted, seen_since}
 use Rattle.running_query.proofs.GoingLemmas.{same_goes}
 use Rattle.running_query.proofs.LastLemmas.{all_avoided, last_without}
+use Rattle.running_query.proofs.OrderLemmas.{bits_loaded, noted_as}
 use Rattle.running_query.specs.Asking.{IsAskedHere, IsUnderWay}
 use Rattle.running_query.specs.Ends.{EndsRightly, IsLeftWithout, NamesAllFound}
 use Rattle.running_query.specs.Ends.{WasFoundDown, WereFoundDown}
+use Rattle.running_query.specs.InOrder.{ComeSo, LooksInOrder}
 use Rattle.running_query.specs.Looks.{view_of}
-use Rattle.running_query.specs.Notes.{IsHanded, lengths_told, range_number}
+use Rattle.running_query.specs.Notes.{IsHanded, lengths_told, range_number, words_told}
 
 module _ (store : Setting) (raise : RaiseIdentity) (setting : QuerySetting) (moment : ℤ) (entry : Knowledge)
     (here : IsAskedHere store raise setting moment entry) where
@@ -90,6 +94,14 @@ module _ (store : Setting) (setting : QuerySetting) (moment : ℤ) where
     pub counted : (view : View) (events : Session) (answer : Answer) → IsAskedOf store setting → pos 0 ≤ℤ moment
         → IsSound store view → Ends view events (Ok answer) → answer.trace.down ≡ []
         → sum answer.trace.sent ≡ sent_told store setting moment events
+    pub ordered : (view : View) (events : Session) → 0 < length setting.plan.buckets
+        → session.IsLicensed store setting moment view (new_query setting) events
+        → ComeInOrder setting (words_loaded store setting moment events)
+        (events_told store setting moment (new_query setting) events)
+    pub whole : (view : View) (events : Session) (answer : Answer) → 0 < length setting.plan.buckets
+        → Ends view events (Ok answer)
+        → ComeWholeInOrder setting (words_loaded store setting moment events)
+        (events_told store setting moment (new_query setting) events)
 
 abbrev FirstNone : Range → List Leaf → Histories → Type 0
 FirstNone range avoided seen = first_serving avoided (range_history seen range) ≡ None
@@ -158,6 +170,28 @@ module _ (store : Setting) (raise : RaiseIdentity) (setting : QuerySetting) (mom
         (names_all store setting moment first is.events end is.here.asked is.here.sound is.licensed (ended_at end e));
   }
 
+  -- ---- their order
+
+  abbrev asked : List Ask
+  asked = events_told store setting moment (new_query setting) is.events
+
+  in_order : (end : Result Answer RoundFault) → query.stage ≡ at.Ended end → LooksInOrder store setting entry now end
+  in_order end e = record {
+    asks = asked;
+    words = words_told store setting moment (new_query setting) is.events;
+    words_are = is.words;
+    lengths = noted;
+    lengths_are = is.lengths;
+    noted = noted_as store setting moment is.events first (new_query setting) is.licensed;
+    in_order = λ some. subst (λ (words : List ℕ). ComeSo setting end words asked)
+        (sym (bits_loaded store setting moment is.events first (new_query setting) is.licensed)) (come_so end e some);
+  }
+    where
+      come_so : (end : Result Answer RoundFault) → query.stage ≡ at.Ended end → 0 < length setting.plan.buckets
+          → ComeSo setting end (words_loaded store setting moment is.events) asked
+      come_so (Ok answer) e some = laws.whole first is.events answer some (is.licensed, ended_at (Ok answer) e)
+      come_so (Err why) e some = laws.ordered first is.events some is.licensed
+
   -- ---- the last that was found of a range
 
   module _ (range : Range) (named : List FoundDown)
@@ -200,6 +234,7 @@ module _ (store : Setting) (raise : RaiseIdentity) (setting : QuerySetting) (mom
     down = among_found answer.trace.down
         (laws.named_told first is.events (Ok answer) (is.licensed, ended_at (Ok answer) e));
     found = all_named (Ok answer) e;
+    order = in_order (Ok answer) e;
     handed = λ none. subst (λ (n : ℕ). IsHanded entry.handed n now.handed)
         (sym (laws.counted first is.events answer is.here.asked is.here.from is.here.sound
         (is.licensed, ended_at (Ok answer) e) none)) is.handed;
@@ -212,6 +247,7 @@ module _ (store : Setting) (raise : RaiseIdentity) (setting : QuerySetting) (mom
         (laws.named_told first is.events (Err (fault.StepLimit limit trace))
         (is.licensed, ended_at (Err (fault.StepLimit limit trace)) e));
     found = all_named (Err (fault.StepLimit limit trace)) e;
+    order = in_order (Err (fault.StepLimit limit trace)) e;
   }
   end_right (Err (fault.NoReplica range named)) e = record {
     rightly = now_by (λ seen. HasNoReplica store.zones entry.seen seen range named)
@@ -221,6 +257,7 @@ module _ (store : Setting) (raise : RaiseIdentity) (setting : QuerySetting) (mom
         (laws.named_told first is.events (Err (fault.NoReplica range named))
         (is.licensed, ended_at (Err (fault.NoReplica range named)) e));
     found = all_named (Err (fault.NoReplica range named)) e;
+    order = in_order (Err (fault.NoReplica range named)) e;
     last = left_without range named e;
   }
 

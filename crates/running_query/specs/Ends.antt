@@ -22,6 +22,7 @@ use Rattle.query_core.specs.declared.answers.Answer.{Answer}
 use Rattle.query_core.specs.declared.answers.RoundFault.{RoundFault}
 use Rattle.query_core.specs.declared.answers.RoundFault.TheVariants as fault
 use Rattle.query_core.specs.declared.answers.Trace.{Trace}
+use Rattle.running_query.specs.InOrder.{LooksInOrder}
 use Rattle.running_query.specs.Notes.{IsHanded, range_number}
 
 -- ---- what was found in a call
@@ -84,6 +85,7 @@ module _ (store : Setting) (setting : QuerySetting) (moment : ℤ) (entry exit :
     pub rightly : IsAnsweredRightly store setting moment entry.seen exit.seen answer
     pub down : WereFoundDown entry exit answer.trace.down
     pub found : NamesAllFound store entry exit (Ok answer)
+    pub order : LooksInOrder store setting entry exit (Ok answer)
     pub handed : answer.trace.down ≡ [] → IsHanded entry.handed (sum answer.trace.sent) exit.handed
 
   -- a query stops for its load only where the load over the rows of its trace is above the limit
@@ -91,6 +93,7 @@ module _ (store : Setting) (setting : QuerySetting) (moment : ℤ) (entry exit :
     pub rightly : IsStoppedRightly store setting moment entry.seen exit.seen limit trace
     pub down : WereFoundDown entry exit trace.down
     pub found : NamesAllFound store entry exit (Err (fault.StepLimit limit trace))
+    pub order : LooksInOrder store setting entry exit (Err (fault.StepLimit limit trace))
 
   -- it finds no replica of a range only where each that serves is on a leaf that is named: one of the range's zone that was
   -- found down in the call
@@ -98,6 +101,7 @@ module _ (store : Setting) (setting : QuerySetting) (moment : ℤ) (entry exit :
     pub rightly : HasNoReplica store.zones entry.seen exit.seen range named
     pub down : WereFoundDown entry exit named
     pub found : NamesAllFound store entry exit (Err (fault.NoReplica range named))
+    pub order : LooksInOrder store setting entry exit (Err (fault.NoReplica range named))
     pub last : IsLeftWithout store entry exit range named
 
   abbrev pub EndsRightly : Result Answer RoundFault → Type 0
