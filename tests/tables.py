@@ -2,7 +2,7 @@
 
 import json
 import re
-from dataclasses import dataclass
+from dataclasses import dataclass, replace
 
 import made
 from runs import Run
@@ -159,10 +159,16 @@ def scripts(case):
 
 
 def queries(case):
-    """A query over no points; why it is refused, or the names of its columns."""
-    is_refused = re.match(rb"(Parse|Typing) ", case.wanted)
-    printed = b"refused: %s\n" % case.wanted if is_refused else b"time,%s\n0 rows\n" % case.wanted
-    return of_script(case, b"query 10 " + expanded(case.given) + b"\n", printed)
+    """A query over no points; why it is refused, or the names of its columns, and its levels where they are given."""
+    text, (columns, _, levels) = expanded(case.given), case.wanted.partition(b" > ")
+    if re.match(rb"(Parse|Typing) ", case.wanted):
+        return of_script(case, b"query 10 %s\n" % text, b"refused: %s\n" % case.wanted)
+    table = b"time,%s\n0 rows\n" % columns
+    if not levels:
+        return of_script(case, b"query 10 %s\n" % text, table)
+    leaves = (leaf for zone in json.loads(case.files[CONFIG])["zones"] for leaf in zone["leaves"])
+    unread = b"".join(b"leaf %s unread 0\n" % leaf.encode() for leaf in leaves)
+    return of_script(case, b"explain 10 %s\n" % text, table + levels.replace(b", ", b"\n") + b"\n" + unread)
 
 
 def points(case):
@@ -208,14 +214,28 @@ def patterns(case):
 def predicates(case):
     """`NAME=VALUE NAME=VALUE .. ? PREDICATE`; whether the predicate holds of a row with these cells."""
     row, predicate = case.given.split(" ? ", 1)
+    return of_filter(case, expanded(predicate), *of_cells(case, row))
+
+
+def formulas(case):
+    """The same of the one series of a leaf, whose keys these are; and whether a query for it reads the leaf."""
+    row, predicate = case.given.split(" ? ", 1)
+    holds, _, read = case.wanted.partition(b", ")
+    sent = b"leaf e1 %s %d\n" % (read, holds == b"true")
+    run, wanted = of_filter(replace(case, wanted=holds), expanded(predicate), *of_cells(case, row + " measured=#0"))
+    files = {**run.files, SCRIPT: run.files[SCRIPT].replace(b"query", b"explain")}
+    return replace(run, files=files), wanted + b"fetch leaf\nfilter leaf\ngroup_by root\n" + sent
+
+
+def of_cells(case, row):
+    """The record of a point with the cells of a row, the last of which is its value, and a configuration for it."""
     cells = [expanded(cell).decode().split("=", 1) for cell in row.split(" ")]
     types = [{"type": {"#": "int", "!": "bool"}.get(value[:1], "text")} for _, value in cells]
     fields = [{"name": name, **of} for (name, _), of in zip(cells, types)]
     metric = {"name": "/m", "kind": "gauge", "column": cells[-1][0], "fields": fields[:-1], **types[-1]}
     config = json.dumps({**json.loads(case.files[CONFIG]), "metrics": [metric]}).encode()
     texts = [quoted(value.lstrip("#!").encode()) for _, value in cells]
-    record = b"T,/m,10,10,%s\n" % b",".join([texts[-1], b"e", *texts[:-1]])
-    return of_filter(case, expanded(predicate), record, config)
+    return b"T,/m,10,10,%s\n" % b",".join([texts[-1], b"e", *texts[:-1]]), config
 
 
 def inputs(case):
@@ -232,6 +252,18 @@ def trials(case):
     if b" ".join(b"%d" % count for count in rows) != case.wanted.strip():
         raise Misspelled("the queries have other rows")
     return Run({}, ("trial", case.given)), b"0\n" + made.summary(int(case.given)).encode()
+
+
+def limits(case):
+    """`QUERY LIMIT`; what that query over the input that is made from 0 comes to under a limit of its load."""
+    query, limit = (int(word) for word in case.given.split())
+    files = {name: text.encode() for name, text in made.sections(0)}
+    feeds = [f"feed {name}\n".encode() for name in files if name.endswith(".csv")]
+    files[CONFIG] = json.dumps({"limit": limit, **json.loads(files["config.json"])}).encode()
+    files[SCRIPT] = b"".join(feeds) + f"query 1000 {made.QUERIES[query - 1]}\n".encode()
+    printed = b"".join(b"%s: %d accepted, 0 refused\n" % (feed.strip(), made.ROWS) for feed in feeds)
+    status = b"7\n" if case.wanted.startswith(b"refused: ") else b"0\n"
+    return Run(files, ("run", CONFIG, SCRIPT)), status + printed + case.wanted.rstrip(b"\n") + b"\n"
 
 
 def of_filter(case, predicate, record, config=None):
@@ -256,5 +288,6 @@ def quoted(text):
     return b'"%s"' % text.replace(b'"', b'""')
 
 
-LIST = (runs, schedules, configurations, scripts, queries, points, meanings, patterns, predicates, inputs, trials)
-KINDS = {kind.__name__: kind for kind in LIST}
+CASES_OF_RUNS = (runs, schedules, configurations, scripts, points, meanings, inputs, trials, limits)
+CASES_OF_QUERIES = (queries, patterns, predicates, formulas)
+KINDS = {kind.__name__: kind for kind in CASES_OF_RUNS + CASES_OF_QUERIES}

@@ -10,11 +10,11 @@ use Rattle.query_core.specs.Rounds.{QuerySetting}
 use Rattle.query_core.specs.declared.asks.Ask.{Ask}
 use Rattle.query_core.specs.declared.asks.Ask.TheVariants as ask
 use Rattle.core_theory.proofs.CoreLemmas.{stays_woven}
-use Rattle.core_theory.proofs.HolderLemmas.{holding_entering, holding_reserving}
+use Rattle.core_store.proofs.HolderLemmas.{holding_entering, holding_reserving}
 use Rattle.core_theory.specs.Core.{CanCome, CanGoOn, Core, CoreEvent, Happens, Hears, Tells, asked_now, came}
 use Rattle.core_theory.specs.Core.{core_gone_on, world_then}
 use Rattle.core_theory.specs.FoundDown.{FindsWhatItSays, IsFoundDown}
-use Rattle.core_theory.specs.Holders.{IsHolding}
+use Rattle.core_store.specs.Holders.{IsHolding}
 use Rattle.core_theory.specs.Licensed.{IsWoven}
 use Rattle.write_core.proofs.CopyAsking.{down_moves}
 use Rattle.write_core.proofs.KeepsLemmas.{changed_by}

@@ -1,9 +1,6 @@
 // What holds of queries beside writes and recoveries.
 ghost use Rattle.std.specs.Prelude.{◌≡◌, ◌≤ℤ◌, ℕ, List, Ok, Err, pos};
 ghost use Rattle.mon_topo.specs.Settings.{Setting};
-ghost use Rattle.mon_topo.specs.Sights.{sight_of};
-ghost use Rattle.mon_topo.specs.Views.{View, joined_view, of_leaf, of_range};
-ghost use Rattle.mon_value.specs.declared.positions.Leaf.{Leaf as LeafNumber};
 ghost use Rattle.mon_value.specs.declared.positions.FoundDown.{FoundDown as Found};
 ghost use Rattle.mon_value.specs.declared.positions.Range.{Range as RangeOf};
 ghost use Rattle.query_core.specs.Answers.{IsAnsweredRightly, IsStoppedRightly};
@@ -17,9 +14,7 @@ ghost use Rattle.query_core.specs.declared.stages.Stage.TheVariants.{Ended};
 ghost use Rattle.core_theory.specs.Core.{CanGoOn, Core, CoreEvent, Reader, core_gone_on, query_now};
 ghost use Rattle.core_theory.specs.FoundDown.{FindsAllDown, FindsWhatItSays, RecoversAsItSays};
 ghost use Rattle.core_theory.specs.Licensed.{IsNewCore, IsReader, IsWoven};
-ghost use Rattle.core_theory.specs.Meetings.{sight_at_leaf, sight_at_range};
-ghost use Rattle.write_core.specs.Invariant.{IsKept};
-ghost use Rattle.write_core.specs.World.{IsPart, World};
+ghost use Rattle.write_core.specs.World.{World};
 
 use query_core::sessions_answer_rightly;
 use write_core::what_is_said_was_noted;
@@ -83,16 +78,3 @@ pub fn recoveries_come_out_rightly()
 {
     what_is_said_was_noted();
 }
-
-/// Who has seen a part of the truth, and keeps how far, sees by a meeting at a leaf or at a range just as far as what
-/// it has seen then, together with what was seen there.
-pub fn meetings_see_as_far_as_views()
-    ensures leaf { (store : Setting) (world : World) (view : View) (leaf : LeafNumber) → IsKept store world
-        → IsPart store world view
-        → sight_at_leaf leaf (of_leaf world.truth leaf) (sight_of view.seen) (sight_of (world.leaves leaf.0).seen)
-        ≡ sight_of (joined_view view (world.leaves leaf.0)).seen }
-    ensures range { (store : Setting) (world : World) (view : View) (range : RangeOf) → IsKept store world
-        → IsPart store world view
-        → sight_at_range range (of_range world.truth range) (sight_of view.seen) (sight_of (world.ranges range.0).seen)
-        ≡ sight_of (joined_view view (world.ranges range.0)).seen }
-{}

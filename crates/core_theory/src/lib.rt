@@ -4,6 +4,6 @@
 mod laws;
 
 pub use laws::{
-    meetings_see_as_far_as_views, queries_answer_rightly, queries_are_licensed,
-    recoveries_come_out_rightly, writes_name_what_they_found,
+    queries_answer_rightly, queries_are_licensed, recoveries_come_out_rightly,
+    writes_name_what_they_found,
 };

@@ -1,5 +1,6 @@
 -- What a caller is told of a leaf is what its reader found there.
-use Rattle.std.proofs.Common.{◌≡◌, ◌∙◌, ◌+◌, ℕ, ℤ, Bool, true, false, List, [], length, refl, sym, ap, subst, Some, None, Ok, Err}
+use Rattle.std.proofs.Common.{◌≡◌, ◌∙◌, ◌+◌, ℕ, ℤ, Bool, true, false, List, [], length, refl, sym, ap, subst, Some}
+use Rattle.std.proofs.Common.{None, Ok, Err}
 use Rattle.std.specs.Prelude.{Option, Result, IfOk, OnErr, is_some}
 use Rattle.know.specs.Knowledge.{Knowledge, stopped_count}
 use Rattle.know.specs.declared.answers.Found.{Found}
@@ -18,7 +19,7 @@ use Rattle.mon_value.specs.declared.histories.Entry.{Entry}
 use Rattle.mon_value.specs.declared.positions.Leaf.{Leaf}
 use Rattle.mon_value.specs.declared.positions.RangeSlot.{RangeSlot}
 use Rattle.mon_value.specs.declared.rows.SeriesKey.{SeriesKey}
-use Rattle.mql_types.specs.declared.plans.Plan.{Plan}
+use Rattle.typed_trees.specs.declared.plans.Plan.{Plan}
 use Rattle.owners.specs.Calls.{HasFoundDown, HasLooked}
 
 module _ (plan : Plan) (moment : ℤ) (limit : ℕ) (slots : List RangeSlot) (buckets_of : SeriesKey → List ℕ) (leaf : Leaf)

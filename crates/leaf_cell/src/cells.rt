@@ -112,7 +112,7 @@ impl<N: Names> LeafCell<N> {
     }
 
     /// Looks at the leaf: where it is up, it is read, and what the reader has for the caller is handed out.
-    pub fn read<R: Wait, P: LeafReader>(
+    pub(crate) fn read<R: Wait, P: LeafReader>(
         &self,
         rt: &R,
         tables: &Tables<N>,

@@ -16,4 +16,3 @@ pub use controls::{Control, ControlFault};
 pub use laws::new_leaves_are_at_rest;
 pub use new_leaves::NewLeaf;
 pub use plan_reader::{VisitFault, Visited};
-pub use readers::LeafReader;

@@ -10,7 +10,7 @@ ghost use Rattle.mon_hints.specs.Formulas.{all_named, formula_tree, formulas, Ar
 ghost use Rattle.mon_meaning.specs.ReadableSlots.{CanBeRead};
 ghost use Rattle.mon_value.specs.Histories.{leaf_history, leaf_numbered};
 ghost use Rattle.mon_value.specs.declared.limits.TheConstants.{ROW_BITS};
-ghost use Rattle.mql_types.specs.Nodes.{typed_tree};
+ghost use Rattle.typed_trees.specs.Nodes.{typed_tree};
 ghost use Rattle.owners.specs.Calls.{HasLooked};
 
 use crate::cells::LeafCell;
@@ -20,10 +20,10 @@ use leaf_eval::{Visit, visit};
 use leaf_store::LeafState;
 use mon_fold::LeafAnswer;
 use mon_value::{OutOfMemory, RangeSlots};
-use mql_types::Plan;
 use std::alloc::Global;
 use std::mem;
 use std::sync::Wait;
+use typed_trees::Plan;
 
 /// What a query finds at a leaf.
 #[derive(Drop)]

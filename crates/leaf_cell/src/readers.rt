@@ -8,7 +8,7 @@ use mon_value::OutOfMemory;
 
 /// Reads the state of a leaf that is up, and says how many rows it has for the caller. Contracts see what it asks of
 /// the buckets of each series and of the leaf's history, and what it tells of them then.
-pub trait LeafReader {
+pub(crate) trait LeafReader {
     ghost use Rattle.std.specs.Prelude.{ℕ, List};
     ghost use Rattle.mon_value.specs.declared.histories.Entry.{Entry};
     ghost use Rattle.mon_value.specs.declared.rows.SeriesKey.{SeriesKey};

@@ -6,9 +6,9 @@ use Rattle.std.proofs.lemmas.List.Sums.{sum_by-append, sum_by-cons}
 use Rattle.mon_value.specs.declared.grids.Grid.{Grid}
 use Rattle.mon_value.specs.declared.rows.Row.{Row}
 use Rattle.mon_value.specs.declared.tables.TimedRow.{TimedRow}
-use Rattle.mql_types.specs.Meaning.{load_of, grid_of, rows_meant}
-use Rattle.mql_types.specs.Levels.{is_leaf, PieceMeant, TopPart, piece_meant, pieces_sent, sent_of, top_parts}
-use Rattle.mql_types.specs.Nodes.{TypedTree, columns_of}
+use Rattle.typed_trees.specs.Meaning.{load_of, grid_of, rows_meant}
+use Rattle.typed_trees.specs.Levels.{is_leaf, PieceMeant, TopPart, piece_meant, pieces_sent, sent_of, top_parts}
+use Rattle.typed_trees.specs.Nodes.{TypedTree, columns_of}
 use Rattle.mon_meaning.specs.Counts.{TellsOver}
 use Rattle.mon_meaning.specs.declared.meter.OverLimit.{OverLimit}
 use Rattle.mon_value.specs.declared.refusals.Refusal.{Refusal}

@@ -4,7 +4,7 @@ use Rattle.std.proofs.Common.{subst, inl, inr}
 use Rattle.std.proofs.lemmas.Bool.{eqb-true, or_cases, or_left, or_right}
 use Rattle.mon_hints.specs.Formulas.{FormulaTrees, all_named, any_holds, formula_tree, formulas, AreAmong, is_among}
 use Rattle.mon_hints.specs.Hints.{buckets_of_child, has_bit}
-use Rattle.mql_types.specs.declared.plans.Plan.{Plan}
+use Rattle.typed_trees.specs.declared.plans.Plan.{Plan}
 use Rattle.plan_split.proofs.NamedBuckets.{any_on}
 use Rattle.plan_split.specs.Meeting.{is_plan_met, lets_child_in}
 

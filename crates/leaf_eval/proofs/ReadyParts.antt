@@ -9,18 +9,18 @@ use Rattle.mon_value.specs.declared.rows.Row.{Row}
 use Rattle.mon_value.specs.declared.rows.SeriesKey.{SeriesKey}
 use Rattle.mon_schema.specs.Fits.{fits}
 use Rattle.mon_schema.specs.Names.{SchemaLists}
-use Rattle.mql_types.specs.Meaning.{load_of, grid_of, rows_meant}
-use Rattle.mql_types.proofs.FetchColumnLemmas.{fetches_have_columns}
-use Rattle.mql_types.proofs.QueryLaws.{typed_evaluable}
-use Rattle.mql_types.proofs.TypedGridLemmas.{typed_grid}
+use Rattle.typed_trees.specs.Meaning.{load_of, grid_of, rows_meant}
+use Rattle.typed_trees.proofs.FetchColumnLemmas.{fetches_have_columns}
+use Rattle.typed_rows.proofs.QueryLaws.{typed_evaluable}
+use Rattle.typed_rows.proofs.TypedGridLemmas.{typed_grid}
 use Rattle.mon_value.proofs.PlainLemmas.{all_front, all_back, all_append}
-use Rattle.mql_types.specs.Nodes as node
-use Rattle.mql_types.specs.Nodes.{NodeTree, TypedTree, columns_of, level_of}
-use Rattle.mql_types.specs.Levels as up
-use Rattle.mql_types.specs.Levels.{TopPart, top_parts}
-use Rattle.mql_types.specs.Plans.{HasFetchColumns, fetches}
-use Rattle.mql_types.specs.Soundness.{IsEvaluable, IsWithinRows}
-use Rattle.mql_types.specs.declared.levels.Level.{Level}
+use Rattle.typed_trees.specs.Nodes as node
+use Rattle.typed_trees.specs.Nodes.{NodeTree, TypedTree, columns_of, level_of}
+use Rattle.typed_trees.specs.Levels as up
+use Rattle.typed_trees.specs.Levels.{TopPart, top_parts}
+use Rattle.typed_trees.specs.Plans.{HasFetchColumns, fetches}
+use Rattle.typed_trees.specs.Soundness.{IsEvaluable, IsWithinRows}
+use Rattle.typed_trees.specs.declared.levels.Level.{Level}
 use Rattle.mon_meaning.specs.Central.{IsAsked, IsPartAsked}
 use Rattle.mon_meaning.specs.GoingUp.{CanGoUp}
 use Rattle.mon_meaning.proofs.PartsToComeLemmas.{part_or-all}

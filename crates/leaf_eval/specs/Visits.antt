@@ -10,8 +10,8 @@ use Rattle.mon_value.specs.declared.histories.Entry.{Entry}
 use Rattle.mon_value.specs.declared.positions.RangeSlot.{RangeSlot}
 use Rattle.mon_value.specs.declared.rows.Row.{Row}
 use Rattle.mon_value.specs.declared.rows.SeriesKey.{SeriesKey}
-use Rattle.mql_types.specs.Nodes.{TypedTree, typed_tree}
-use Rattle.mql_types.specs.declared.plans.Plan.{Plan}
+use Rattle.typed_trees.specs.Nodes.{TypedTree, typed_tree}
+use Rattle.typed_trees.specs.declared.plans.Plan.{Plan}
 use Rattle.plan_split.specs.Meeting.{is_plan_met}
 
 -- a leaf is looked at at the whole of its history, and is down then or up

@@ -3,7 +3,7 @@ ghost use Rattle.std.specs.Prelude.{◌≡◌, ◌≤◌, ◌^◌, ◌≤ℤ◌,
 ghost use Rattle.mon_value.specs.LeafHistories.{points_by_series};
 ghost use Rattle.mon_value.specs.declared.limits.TheConstants.{ROW_BITS};
 ghost use Rattle.mon_value.specs.declared.rows.Row.{Row};
-ghost use Rattle.mql_types.specs.Nodes.{typed_tree};
+ghost use Rattle.typed_trees.specs.Nodes.{typed_tree};
 ghost use Rattle.mon_meaning.specs.Central.{IsAsked, all_held};
 ghost use Rattle.mon_meaning.specs.LeafAnswers.{IsLeafAnswer};
 
@@ -12,8 +12,8 @@ use mon_fold::{LeafAnswer, Pieces};
 use mon_meaning::{Meter, OverLimit, grid_of, part_by_series, piece_of, top_parts};
 use mon_series::KeptRows;
 use mon_value::Refusal;
-use mql_types::{Level, Plan};
 use std::alloc::Global;
+use typed_trees::{Level, Plan};
 
 /// A leaf's part of a plan that is asked at a moment, over the rows of the leaf, which are kept by series in several
 /// places: a piece for each part that leaves do, their load, and how many rows and groups are sent. It is refused

@@ -1,8 +1,8 @@
 // A leaf's answer over replicas that it holds.
 ghost use Rattle.std.specs.Prelude.{◌≡◌, ◌≤◌, ◌^◌, ◌≤ℤ◌, IfOk, IsTrue, map, pos};
 ghost use Rattle.mon_value.specs.declared.limits.TheConstants.{ROW_BITS};
-ghost use Rattle.mql_types.specs.Nodes.{typed_tree};
-ghost use Rattle.mql_types.specs.Soundness.{IsTyped};
+ghost use Rattle.typed_trees.specs.Nodes.{typed_tree};
+ghost use Rattle.typed_trees.specs.Soundness.{IsTyped};
 ghost use Rattle.mon_meaning.specs.LeafAnswers.{IsLeafAnswer};
 ghost use Rattle.leaf_eval.specs.Replicas.{AreReplicasApart, replica_rows_of};
 ghost use Rattle.mon_meaning.specs.ReadableSlots.{AreOpened, slot_rows};
@@ -13,8 +13,8 @@ use mon_fold::LeafAnswer;
 use mon_meaning::OverLimit;
 use mon_series::KeptRows;
 use mon_value::{OutOfMemory, RangeSlot, RangeSlots, Refusal};
-use mql_types::Plan;
 use std::alloc::Global;
+use typed_trees::Plan;
 
 /// A leaf's part of a plan that is asked at a moment, over the rows of some of the replicas that the leaf holds, none
 /// of which is copied. A series has its rows in one of them: the points of a series in two replicas would be aligned

@@ -8,9 +8,9 @@ ghost use Rattle.plan_split.specs.Meeting as spec;
 use leaf_store::LeafState;
 use mon_hints::Words;
 use mon_value::OutOfMemory;
-use mql_types::Plan;
 use plan_split::is_let_in;
 use std::alloc::Global;
+use typed_trees::Plan;
 
 /// Whether some formula of a plan, which loads all buckets that its formulas name, holds of the leaf's buckets.
 pub(crate) fn is_met(alloc: Global, plan: &Plan, state: &LeafState) -> Result<bool, OutOfMemory>

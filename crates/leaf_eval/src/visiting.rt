@@ -5,15 +5,15 @@ ghost use Rattle.leaf_store.specs.LeafStates.{key_buckets};
 ghost use Rattle.mon_hints.specs.Formulas.{all_named, formula_tree, formulas, AreAmong};
 ghost use Rattle.mon_meaning.specs.ReadableSlots.{CanBeRead, slot_rows};
 ghost use Rattle.mon_value.specs.declared.limits.TheConstants.{ROW_BITS};
-ghost use Rattle.mql_types.specs.Nodes.{typed_tree};
+ghost use Rattle.typed_trees.specs.Nodes.{typed_tree};
 
 use crate::leaf::eval_leaf;
 use crate::own_buckets::is_met;
 use crate::visits::Visit;
 use leaf_store::LeafState;
 use mon_value::{OutOfMemory, RangeSlots, Refusal};
-use mql_types::Plan;
 use std::alloc::{AllocError, Global};
+use typed_trees::Plan;
 
 /// Looks at a leaf for a plan that is asked at a moment: whether the leaf is down, whether a formula of the plan holds
 /// of the leaf's buckets, and only then what the leaf answers over the rows of these slots. The leaf is settled before

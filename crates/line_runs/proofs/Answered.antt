@@ -13,9 +13,9 @@ use Rattle.mon_value.specs.declared.histories.Histories.{Histories}
 use Rattle.mon_value.specs.declared.positions.FoundDown.{FoundDown}
 use Rattle.mon_value.specs.declared.positions.Leaf.{Leaf}
 use Rattle.mon_value.specs.declared.rows.SeriesKey.{SeriesKey}
-use Rattle.mql_types.specs.Meaning.{load}
-use Rattle.mql_types.specs.Nodes.{TypedTree}
-use Rattle.mql_types.specs.declared.plans.Plan.{Plan}
+use Rattle.typed_trees.specs.Meaning.{load}
+use Rattle.typed_trees.specs.Nodes.{TypedTree}
+use Rattle.typed_trees.specs.declared.plans.Plan.{Plan}
 use Rattle.query_core.specs.Courses.{IsFoundBetween}
 use Rattle.query_core.specs.Mixtures.{typed_of}
 use Rattle.query_core.specs.Traces.{AreWider, IsFreshSince, IsReadRightly, IsTraceBetween, Lengths}

@@ -16,7 +16,7 @@ use Rattle.mon_value.specs.declared.histories.Histories.{Histories}
 use Rattle.mon_value.specs.declared.positions.FoundDown.{FoundDown}
 use Rattle.mon_value.specs.declared.positions.Leaf.{Leaf}
 use Rattle.mon_value.specs.declared.positions.Range.{Range}
-use Rattle.mql_types.specs.Meaning.{load}
+use Rattle.typed_trees.specs.Meaning.{load}
 use Rattle.query_core.specs.Answers.{IsStoppedRightly}
 use Rattle.query_core.specs.Rounds.{area_of, has_leaf, QuerySetting}
 use Rattle.query_core.specs.Courses.{AreFoundThen, HasNoReplica, IsFoundThen}
@@ -54,6 +54,16 @@ module _ (before after : Histories) where
 
 -- ---- what was found
 
+-- what a filter keeps passes its test
+kept_pass : {X : Type 0} (test : X → Bool) (xs : List X) → AllByRecursion (λ x. test x ≡ true) (filter test xs)
+kept_pass test [] = tt
+kept_pass test (x ∷ xs) = by (test x) refl (kept_pass test xs)
+  where
+    by : (b : Bool) → test x ≡ b → AllByRecursion (λ y. test y ≡ true) (filter test xs)
+        → AllByRecursion (λ y. test y ≡ true) (cond b (x ∷ filter test xs) (filter test xs))
+    by true is rest = (is, rest)
+    by false is rest = rest
+
 -- a query's fault is one of a question
 pub of_question : (refused : QueryFault) (told : LineFault) → told_fault refused ≡ Some told → IsQuestionFault told
 of_question (fault.Parse parse) told is = subst IsQuestionFault (same_Some (why.Parse parse) told is) tt
@@ -85,6 +95,9 @@ module _ (config : Config) (what : LineForm) (before after : Knowledge) where
           type_is = of_text.typed;
           zone = zone_numbered none.zone;
           zoned = none.zoned;
+          named = subst (AllByRecursion (λ (found : FoundDown). has_leaf (area_of config.topology none.zone) found.leaf
+              ≡ true)) (sym none.named_are)
+              (kept_pass (λ (found : FoundDown). has_leaf (area_of config.topology none.zone) found.leaf) none.founds);
           none_up = record {
             were_found = are;
             found = none.found;

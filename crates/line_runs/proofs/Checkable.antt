@@ -18,7 +18,7 @@ use Rattle.mon_value.specs.LeafHistories.{IsWellFormed, IsSource}
 use Rattle.mon_value.specs.declared.histories.Entry.{Entry}
 use Rattle.mon_value.specs.declared.histories.Histories.{Histories}
 use Rattle.mon_value.specs.declared.rows.Row.{Row}
-use Rattle.mql_types.proofs.KeptRows.{all-take}
+use Rattle.typed_rows.proofs.KeptRows.{all-take}
 use Rattle.mon_value.proofs.PlainLemmas.{all_flat}
 use Rattle.query_core.specs.Traces.{IsOfRanges, cut_of, looked_at, resolved_rows, source_of}
 use Rattle.query_core.specs.declared.answers.Answer.{Answer}

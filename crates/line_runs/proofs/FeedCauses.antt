@@ -99,7 +99,7 @@ module _ (config : Config) (x y z : Knowledge) (fronts : AreFronts y.seen z.seen
     refused = ap (λ w. refusal config.range_points w row) (stood said.range said.history said.found) ∙ said.cause;
   }
 
-  found_down : (found : FoundDown) → length (leaf_history x.seen found.leaf) ≤ found.cut
+  pub found_down : (found : FoundDown) → length (leaf_history x.seen found.leaf) ≤ found.cut
       → IsDownAt (leaf_history y.seen found.leaf) found.cut
       → IsFoundBetween (marked (lengths x)) (marked (lengths y)) z.seen found
   found_down found since was =
@@ -120,6 +120,14 @@ module _ (config : Config) (x y z : Knowledge) (fronts : AreFronts y.seen z.seen
 
   some_inside : (a b : Range) → Some a ≡ Some b → a ≡ b
   some_inside a b e = cc
+
+  stood_so : (row : Row) (range : Range) (founds : List FoundDown)
+      (said : IsRefusedAs config row x y (AreAllDown config row x y range founds))
+      → take (length said.history) (range_history z.seen range) ≡ said.history
+  stood_so row range founds said =
+      stood range said.history
+      (subst (λ (r : Range). WasFoundSo config r said.history x y)
+      (some_inside said.range range (sym said.in_range ∙ said.cause.in_range)) said.found)
 
   none_up : (row : Row) (range : Range) (founds : List FoundDown)
       → IsRefusedAs config row x y (AreAllDown config row x y range founds)
@@ -150,8 +158,9 @@ module _ (config : Config) (x y z : Knowledge) (fronts : AreFronts y.seen z.seen
   cause_stands row (unwritten.Unavailable range founds) told cause = record {
     in_range = cause.cause.in_range;
     none_up = none_up row range founds cause;
-    free = ap (λ w. refusal config.range_points w row) (stood range cause.history
-        (subst (λ (r : Range). WasFoundSo config r cause.history x y)
-        (some_inside cause.range range (sym cause.in_range ∙ cause.cause.in_range)) cause.found)) ∙ cause.cause.free;
+    those = cause.cause.leaves
+        ∙ ap (λ (h : List RangeEntry). map (λ (replica : SlotLeaf). replica.leaf) (serving h))
+        (sym (stood_so row range founds cause));
+    free = ap (λ w. refusal config.range_points w row) (stood_so row range founds cause) ∙ cause.cause.free;
   }
   cause_stands row unwritten.OutOfMemory told cause = told

@@ -1,34 +1,39 @@
 -- What a feed found: each refusal stands behind the rows that were accepted before it, and before the others.
 use Rattle.std.proofs.Common.{◌≡◌, ℕ, ◌+◌, ◌-◌, ◌<◌, ◌≤◌, Bool, true, false, cond, List, []}
-use Rattle.std.proofs.Common.{◌∷◌, ◌++◌, length, map, filter, slice_get, Some, refl, sym, ap, ◌∙◌, subst}
+use Rattle.std.proofs.Common.{◌∷◌, ◌++◌, length, map, filter, slice_get, take, drop, Some, refl, sym, ap, ◌∙◌, subst}
 use Rattle.std.proofs.Common.{arith, append_assoc, append-nil, inl, inr}
+use Rattle.std.specs.Prelude.{Contains}
 use Rattle.std.specs.List.{AllByRecursion, flat_map}
 use Rattle.std.proofs.lemmas.Bool.{cases_lt}
 use Rattle.std.proofs.lemmas.Bool.Decides.{nat_tests}
 use Rattle.std.proofs.lemmas.List.{drop_at, length-append, take_at}
+use Rattle.std.proofs.lemmas.List.Elements.{Contains-push}
 use mathlib.Core.Logic.{◌⊎◌}
-use Rattle.history_book.proofs.ListLemmas.{prefix_length}
+use Rattle.history_book.proofs.ListLemmas.{prefix_contains, prefix_length}
 use Rattle.history_book.specs.Histories.{AreFronts, entries}
 use Rattle.history_book.specs.declared.views.BookEntry.{BookEntry}
 use Rattle.history_book.specs.declared.views.History.{History}
 use Rattle.history_book.specs.declared.views.History.TheVariants as of
 use Rattle.know.specs.Knowledge.{Knowledge}
-use Rattle.line_runs.specs.Feeding.{AreFed}
+use Rattle.line_runs.specs.Feeding.{AreFed, WasTaken}
 use Rattle.mon_config.specs.declared.config.Config.{Config}
 use Rattle.mon_points.specs.declared.records.RowRead.{RowRead}
 use Rattle.mon_points.specs.declared.records.RowRead.TheVariants as read
 use Rattle.mon_store.proofs.OwnLemmas.{entries_front}
-use Rattle.mon_value.specs.Histories.{leaf_numbered, same_leaf}
+use Rattle.mon_value.specs.Histories.{leaf_numbered, range_history, same_leaf}
 use Rattle.mon_value.specs.declared.histories.Histories.{Histories}
+use Rattle.mon_value.specs.declared.histories.Miss.{Miss}
+use Rattle.mon_value.specs.declared.histories.RangeEntry.{RangeEntry}
+use Rattle.mon_value.specs.declared.histories.RangeEntry.TheVariants as range_entry
 use Rattle.mon_value.specs.declared.positions.FoundDown.{FoundDown}
 use Rattle.mon_value.specs.declared.positions.Leaf.{Leaf}
 use Rattle.mon_value.specs.declared.rows.Row.{Row}
 use Rattle.owners.specs.Puts.{pass_of}
 use Rattle.query_core.specs.Courses.{IsFoundBetween}
-use Rattle.query_core.specs.Traces.{IsBetween}
+use Rattle.query_core.specs.Traces.{IsBetween, Lengths}
 use Rattle.range_cell.specs.declared.answers.WriteFault.TheVariants as unwritten
-use Rattle.run_traces.specs.LineCauses.{HasRowCause, rows_before}
-use Rattle.run_traces.specs.LineClaims.{RowFound, RowsFound, marked}
+use Rattle.run_traces.specs.LineCauses.{HasRowCause, WereMissed, rows_before}
+use Rattle.run_traces.specs.LineClaims.{AllTakenFound, FoundAmid, RowFound, RowsFound, TakenFound, marked}
 use Rattle.run_traces.specs.LineFeeds.{AreTold, refused_at}
 use Rattle.run_traces.specs.LineTables.{found_cuts, row_cuts}
 use Rattle.run_traces.specs.LineSwitches.{is_fed}
@@ -37,7 +42,7 @@ use Rattle.run_traces.specs.declared.traces.RowRefused.{RowRefused}
 use Rattle.run_traces.specs.declared.traces.RowRefused.TheVariants as refused
 use Rattle.run_traces.proofs.ListFacts.{both_all}
 use Rattle.run_traces.proofs.RowFacts.{fed_pass}
-use Rattle.line_runs.proofs.FeedCauses.{cause_stands, lengths}
+use Rattle.line_runs.proofs.FeedCauses.{cause_stands, contained, found_down, lengths}
 use Rattle.line_runs.proofs.FeedParts.{AreSources, Part, at_new, fed_apart, part_both, part_none, part_of, part_refused}
 use Rattle.line_runs.proofs.FeedParts.{part_taken, same_pass}
 use Rattle.line_runs.proofs.FeedRows.{at_end, front_stands}
@@ -70,57 +75,120 @@ pub seen_below : (x y : Knowledge) → AreFronts x.seen y.seen → (h : History)
 seen_below x y fronts h = prefix_length (entries x.seen h) (entries y.seen h) (entries_front x.seen y.seen fronts h)
 
 module _ (config : Config) (first last : Knowledge) (sources : AreSources config last) where
-  -- a refusal behind some rows and before others
-  module _ (b m : Knowledge) (rows more : List Row) (done : Part config first b rows) (here : Part config b m [])
+  -- a record behind some rows and before others: it was refused, or its own row is between them
+  module _ (b m : Knowledge) (rows own more : List Row) (done : Part config first b rows) (here : Part config b m own)
       (left : Part config m last more) where
-    behind : Part config b last more
-    behind = part_both config b m last [] more here left
+    behind : Part config b last (own ++ more)
+    behind = part_both config b m last own more here left
 
-    so_far : Part config first m rows
-    so_far = subst (λ (some : List Row). Part config first m some) (append-nil rows)
-        (part_both config first b m rows [] done here)
+    so_far : Part config first m (rows ++ own)
+    so_far = part_both config first b m rows own done here
 
     -- an entry of the rows before it stands where these were written
     stands_before : (h : History) (k : ℕ) (e : BookEntry) → slice_get (entries last.seen h) k ≡ Some e
         → is_fed (pass_of first) rows e ≡ true → k < lengths b h
     stands_before h k e there mine = less_by k (lengths b h) (λ low.
         let same = same_pass first b done.still in
-        fed_apart config first b last rows more done behind sources (pass_of first) e mine
-        (subst (λ n. is_fed n more e ≡ true) same
-        (at_new config b last more behind h k e there low
+        fed_apart config first b last rows (own ++ more) done behind sources (pass_of first) e mine
+        (subst (λ n. is_fed n (own ++ more) e ≡ true) same
+        (at_new config b last (own ++ more) behind h k e there low
         (fed_pass (pass_of first) rows e mine ∙ sym same))))
 
     -- and one of the others stands behind
     stands_behind : (h : History) (k : ℕ) (e : BookEntry) → slice_get (entries last.seen h) k ≡ Some e
         → lengths first h ≤ k → is_fed (pass_of first) more e ≡ true → lengths m h ≤ k
     stands_behind h k e there low mine = least_by k (lengths m h) (λ less.
-        fed_apart config first b last rows more done behind sources (pass_of first) e
-        (at_new config first m rows so_far h k e
+        fed_apart config first m last (rows ++ own) more so_far left sources (pass_of first) e
+        (at_new config first m (rows ++ own) so_far h k e
         (front_stands (entries m.seen h) (entries last.seen h) (entries_front m.seen last.seen left.still.fronts h) k e
         there less) low (fed_pass (pass_of first) more e mine)) mine)
 
-    pub row_found : (reads : List RowRead) (n others : ℕ) (one : RowRead) (fault : RowRefused)
-        → n ≡ length rows + others + 1 → slice_get reads (n - 1) ≡ Some one
-        → HasRowCause config last.seen (marked (lengths b)) (marked (lengths m)) one fault
-        → RowFound config last.seen (lengths first) (lengths last) reads (pass_of first) (rows ++ more) others
-        (refused_at n fault)
-    row_found reads n others one fault counted there cause =
-        let k : rows_before others (refused_at n fault) ≡ length rows = omega arith in record {
-          read = one;
-          read_is = there;
-          since = lengths b;
-          until = lengths m;
-          low = seen_below first b done.still.fronts;
-          forth = seen_below b m here.still.fronts;
-          high = seen_below m last left.still.fronts;
-          before = λ h place stands. stands_before h place stands.0 stands.1
-              (subst (λ (some : List Row). is_fed (pass_of first) some stands.0 ≡ true)
-              (take_at rows more (rows_before others (refused_at n fault)) (sym k)) stands.4);
-          behind = λ h place stands. stands_behind h place stands.0 stands.1 stands.2
-              (subst (λ (some : List Row). is_fed (pass_of first) some stands.0 ≡ true)
-              (drop_at rows more (rows_before others (refused_at n fault)) (sym k)) stands.4);
-          cause = cause;
-        }
+    -- what was so between is found amid the feed's rows
+    amid : (front rest : List Row) → rows ≡ front → more ≡ rest → (Is : Lengths → Lengths → Type 0)
+        → Is (marked (lengths b)) (marked (lengths m))
+        → FoundAmid config last.seen (lengths first) (lengths last) (pass_of first) front rest Is
+    amid front rest rows_are more_are Is is = record {
+      since = lengths b;
+      until = lengths m;
+      low = seen_below first b done.still.fronts;
+      forth = seen_below b m here.still.fronts;
+      high = seen_below m last left.still.fronts;
+      before = λ h place stands. stands_before h place stands.0 stands.1
+          (subst (λ (some : List Row). is_fed (pass_of first) some stands.0 ≡ true) (sym rows_are) stands.4);
+      behind = λ h place stands. stands_behind h place stands.0 stands.1 stands.2
+          (subst (λ (some : List Row). is_fed (pass_of first) some stands.0 ≡ true) (sym more_are) stands.4);
+      is = is;
+    }
+
+  row_found : (b m : Knowledge) (rows more : List Row) → Part config first b rows → Part config b m []
+      → Part config m last more → (reads : List RowRead) (n others : ℕ) (one : RowRead) (fault : RowRefused)
+      → n ≡ length rows + others + 1 → slice_get reads (n - 1) ≡ Some one
+      → HasRowCause config last.seen (marked (lengths b)) (marked (lengths m)) one fault
+      → RowFound config last.seen (lengths first) (lengths last) reads (pass_of first) (rows ++ more) others
+      (refused_at n fault)
+  row_found b m rows more done here left reads n others one fault counted there cause =
+      let k : rows_before others (refused_at n fault) ≡ length rows = omega arith in record {
+        read = one;
+        read_is = there;
+        amid = amid b m rows [] more done here left (take (rows_before others (refused_at n fault)) (rows ++ more))
+            (drop (rows_before others (refused_at n fault)) (rows ++ more))
+            (sym (take_at rows more (rows_before others (refused_at n fault)) (sym k)))
+            (sym (drop_at rows more (rows_before others (refused_at n fault)) (sym k)))
+            (λ since until. HasRowCause config last.seen since until one fault) cause;
+      }
+
+  -- a row that was taken
+  taken_found : (b m : Knowledge) (rows more : List Row) (row : Row) → Part config first b rows
+      → WasTaken config row b m → Part config m last more
+      → TakenFound config last.seen (lengths first) (lengths last) (pass_of first) (rows ++ row ∷ more) (length rows) row
+  taken_found b m rows more row done taken left =
+      let w = taken.written in
+      let place = length rows in
+      let all = rows ++ row ∷ more in
+      let e = range_entry.Acked (pass_of first) row taken.ack in
+      let there : range_history m.seen w.range ≡ w.history ++ e ∷ [] =
+      w.acknowledged ∙ ap (λ n. w.history ++ range_entry.Acked n row taken.ack ∷ []) (same_pass first b done.still) in
+      let past : drop (place + 1) all ≡ more =
+      ap (drop (place + 1)) (sym (append_assoc rows (row ∷ []) more))
+      ∙ drop_at (rows ++ row ∷ []) more (place + 1) (length-append rows (row ∷ [])) in
+      record {
+        range = w.range;
+        ack = taken.ack;
+        told = prefix_contains (range_history m.seen w.range) (range_history last.seen w.range) e
+            (left.still.fronts.1 w.range)
+            (subst (λ (h : List RangeEntry). Contains h e) (sym there) (Contains-push w.history e));
+        amid = amid b m rows (row ∷ []) more done (part_taken config row b m taken) left (take place all)
+            (drop (place + 1) all) (sym (take_at rows (row ∷ more) place refl)) (sym past)
+            (λ since until. WereMissed last.seen since until taken.ack)
+            (contained (λ (miss : Miss). IsFoundBetween (marked (lengths b)) (marked (lengths m)) last.seen
+            (record { leaf = miss.leaf; cut = miss.cut })) taken.ack.missed
+            (λ miss there. let was = w.missed miss there in found_down config b m last left.still.fronts
+            (record { leaf = miss.leaf; cut = miss.cut }) was.from was.down));
+      }
+
+  pub all_taken_found : (n : ℕ) (reads : List RowRead) (b : Knowledge) (rows more : List Row)
+      (refusals : List RowRefusal) → Part config first b rows → AreFed config n reads more refusals b last
+      → AllTakenFound config last.seen (lengths first) (lengths last) (pass_of first) (rows ++ more) (length rows) more
+  all_taken_found n [] b rows more refusals done fed =
+      subst (λ (some : List Row). AllTakenFound config last.seen (lengths first) (lengths last) (pass_of first)
+      (rows ++ some) (length rows) some) (sym fed.0) tt
+  all_taken_found n (read.Fault fault ∷ reads) b rows more refusals done fed =
+      all_taken_found (n + 1) reads b rows more fed.0 done fed.2
+  all_taken_found n (read.Row row ∷ reads) b rows more refusals done fed = elim fed.1 [
+    | inl t ↦ subst (λ (some : List Row). AllTakenFound config last.seen (lengths first) (lengths last) (pass_of first)
+        (rows ++ some) (length rows) some) (sym t.1) (
+      taken_found b fed.0 rows t.0 row done t.2 (part_of config (n + 1) reads t.0 refusals fed.0 last t.3),
+      subst (λ k. AllTakenFound config last.seen (lengths first) (lengths last) (pass_of first) (rows ++ row ∷ t.0) k t.0)
+          (length-append rows (row ∷ []))
+          (subst (λ (all : List Row). AllTakenFound config last.seen (lengths first) (lengths last) (pass_of first) all
+          (length (rows ++ row ∷ [])) t.0) (append_assoc rows (row ∷ []) t.0)
+          (all_taken_found (n + 1) reads fed.0 (rows ++ row ∷ []) t.0 refusals
+          (part_both config first b fed.0 rows (row ∷ []) done (part_taken config row b fed.0 t.2)) t.3)),
+    )
+    | inr t ↦ all_taken_found (n + 1) reads fed.0 rows more t.1
+        (subst (λ (some : List Row). Part config first fed.0 some) (append-nil rows)
+        (part_both config first b fed.0 rows [] done (part_refused config b fed.0 t.3.unwritten))) t.4
+  ]
 
   abbrev Found : List RowRead → List Row → ℕ → List RowRefusal → Type 0
   Found reads rows others refusals =
@@ -225,5 +293,6 @@ module _ (config : Config) (seen : Histories) (from to : History → ℕ) (leaf 
   cuts_between reads pass rows others (refusal ∷ refusals) found =
       both_all Lies (row_cuts leaf refusal.fault)
       (flat_map (λ (other : RowRefusal). row_cuts leaf other.fault) refusals)
-      (cuts_by found.0.since found.0.until found.0.low found.0.high found.0.read refusal.fault found.0.cause)
+      (cuts_by found.0.amid.since found.0.amid.until found.0.amid.low found.0.amid.high found.0.read refusal.fault
+      found.0.amid.is)
       (cuts_between reads pass rows (others + 1) refusals found.1)

@@ -2,11 +2,12 @@
 use Rattle.std.proofs.Common.{◌≡◌, ℕ, ◌+◌, ◌<◌, ◌≤◌, Bool, true, false, cond, List, []}
 use Rattle.std.proofs.Common.{◌∷◌, ◌++◌, length, map, filter, drop, slice_get, Some, refl, sym, ap, ◌∙◌, subst}
 use Rattle.std.proofs.Common.{arith, append_assoc, append-nil, inl, inr}
+use Rattle.std.specs.Prelude.{Contains}
 use Rattle.std.specs.List.{AllByRecursion, flat_map, list_any}
 use Rattle.std.proofs.lemmas.Bool.{false≢true}
 use Rattle.std.proofs.lemmas.List.{drop-append-le, drop_all, drop_at, length-append, map-append}
 use Rattle.std.proofs.lemmas.List.Concat.{flat_map-append}
-use Rattle.std.proofs.lemmas.List.Elements.{filter-append}
+use Rattle.std.proofs.lemmas.List.Elements.{Contains-append_left, Contains-append_right, filter-append}
 use mathlib.Core.List.{IsPrefix}
 use Rattle.history_book.proofs.ListLemmas.{prefix_length}
 use Rattle.history_book.specs.Histories.{book_entry_pass, entries, is_under, same_history}
@@ -30,15 +31,17 @@ use Rattle.mon_value.specs.declared.histories.Entry.TheVariants as entry
 use Rattle.mon_value.specs.declared.histories.RangeEntry.{RangeEntry}
 use Rattle.mon_value.specs.declared.histories.RangeEntry.TheVariants as range_entry
 use Rattle.mon_value.specs.declared.positions.Range.{Range}
+use Rattle.mon_value.specs.declared.positions.Slot.{Slot}
 use Rattle.mon_value.specs.declared.positions.SlotLeaf.{SlotLeaf}
 use Rattle.mon_value.specs.declared.rows.Row.{Row}
 use Rattle.owners.specs.Puts.{number_or, pass_of}
 use Rattle.run_theory.proofs.Stands.{kept_stands, same_to}
 use Rattle.run_traces.specs.LineClaims.{FeedMade, book_row}
-use Rattle.run_traces.specs.LineFeeds.{lies_in}
+use Rattle.run_traces.specs.LineFeeds.{HasItsAck, lies_in}
 use Rattle.run_traces.specs.LineSwitches.{is_fed, is_row}
 use Rattle.run_traces.specs.declared.traces.RowRefusal.{RowRefusal}
 use Rattle.run_traces.proofs.ListFacts.{all_as, all_at, any_at, both_all, made_kept}
+use Rattle.run_traces.proofs.Paired.{among_all}
 use Rattle.run_traces.proofs.RowFacts.{fed_row, lies_as, row_joined, row_key}
 use Rattle.line_runs.proofs.FeedRows.{IsNone, any_first, any_last, behind_stands, book_rows, fed_itself}
 use Rattle.line_runs.proofs.FeedRows.{kept_all, rows_dropped, source_behind}
@@ -120,10 +123,62 @@ module _ (config : Config) (pass : ℕ) (range : Range) (row : Row) (ack : Ack) 
   acked_if true = refl
   acked_if false = refl
 
+  -- each put is of the one acknowledgement
+  abbrev made_all : List SlotLeaf → History → List BookEntry
+  made_all took = written pass range row ack took
+
+  abbrev Paired : List SlotLeaf → BookEntry → Type 0
+  Paired took = HasItsAck (made_all took)
+
+  told_there : (took : List SlotLeaf) → Contains (made_all took (of.Range range)) acked
+  told_there took =
+      Contains-append_right (flat_map (put_in pass range row (of.Range range)) took)
+      (only_in (of.Range range) acked (of.Range range)) acked
+      (only_there (same_history (of.Range range) (of.Range range)) (same_to range.0 range.0 refl))
+    where
+      only_there : (b : Bool) → b ≡ true → Contains (cond b (acked ∷ []) []) acked
+      only_there true is = (0, omega arith, refl)
+      only_there false is = absurd (false≢true is)
+
+  pair_one : (took : List SlotLeaf) (replica : SlotLeaf) (b : Bool) → Contains ack.took replica.slot
+      → AllByRecursion (Paired took) (cond b (one.Leaf (entry.Put pass range replica.slot row) ∷ []) [])
+  pair_one took replica true slot = (record { ack = ack; told = told_there took; took = slot }, tt)
+  pair_one took replica false slot = tt
+
+  pair_puts : (took some : List SlotLeaf) (whose : History)
+      → AllByRecursion (λ (replica : SlotLeaf). Contains ack.took replica.slot) some
+      → AllByRecursion (Paired took) (flat_map (put_in pass range row whose) some)
+  pair_puts took [] whose all = tt
+  pair_puts took (replica ∷ some) whose all =
+      both_all (Paired took) (put_in pass range row whose replica) (flat_map (put_in pass range row whose) some)
+      (pair_one took replica (same_history (of.Leaf replica.leaf) whose) all.0) (pair_puts took some whose all.1)
+
+  pair_acks : (took : List SlotLeaf) (b : Bool) → AllByRecursion (Paired took) (cond b (acked ∷ []) [])
+  pair_acks took true = (tt, tt)
+  pair_acks took false = tt
+
+  -- each replica's slot is among theirs
+  slots_of : (some : List SlotLeaf) (slots : List Slot) → map (λ (replica : SlotLeaf). replica.slot) some ≡ slots
+      → AllByRecursion (λ (replica : SlotLeaf). Contains slots replica.slot) some
+  slots_of some slots same =
+      subst (λ (xs : List Slot). AllByRecursion (λ (replica : SlotLeaf). Contains xs replica.slot) some) same
+      (each_in some)
+    where
+      each_in : (some : List SlotLeaf) → AllByRecursion (λ (replica : SlotLeaf).
+          Contains (map (λ (r : SlotLeaf). r.slot) some) replica.slot) some
+      each_in [] = tt
+      each_in (replica ∷ some) = (
+        (0, omega arith, refl),
+        all_as (λ (r : SlotLeaf). Contains (map (λ (r : SlotLeaf). r.slot) some) r.slot)
+            (λ (r : SlotLeaf). Contains (replica.slot ∷ map (λ (r : SlotLeaf). r.slot) some) r.slot)
+            (λ r there. Contains-append_right (replica.slot ∷ []) (map (λ (r : SlotLeaf). r.slot) some) r.slot there)
+            some (each_in some),
+      )
+
   -- of the row there are puts, and one acknowledgement in its range
-  pub made_one : (took : List SlotLeaf) → range_of_key config row.key ≡ Some range
-      → FeedMade config pass (row ∷ []) (written pass range row ack took)
-  made_one took in_range = record {
+  pub made_one : (took : List SlotLeaf) → map (λ (replica : SlotLeaf). replica.slot) took ≡ ack.took
+      → range_of_key config row.key ≡ Some range → FeedMade config pass (row ∷ []) (written pass range row ack took)
+  made_one took took_are in_range = record {
     own = λ whose. both_all Mine (flat_map (put_in pass range row whose) took) (only_in (of.Range range) acked whose)
         (puts_mine took whose)
         (only_mine acked (same_history (of.Range range) whose) (fed_itself pass row));
@@ -134,6 +189,9 @@ module _ (config : Config) (pass : ℕ) (range : Range) (row : Row) (ack : Ack) 
         (only_in (of.Range range) acked (of.Range other))
         ∙ (λ i. puts_silent took (of.Range other) i ++ acked_if (same_range range other) i)
         ∙ ap (λ b. cond b (row ∷ []) []) (same_back range.0 other.0 ∙ sym (lies_by config other row range in_range));
+    paired = λ whose. both_all (Paired took) (flat_map (put_in pass range row whose) took)
+        (only_in (of.Range range) acked whose) (pair_puts took took whose (slots_of took ack.took took_are))
+        (pair_acks took (same_history (of.Range range) whose));
   }
 
 -- ---- what some records did
@@ -154,7 +212,7 @@ module _ (config : Config) where
     pub ranged : AllByRecursion (IsRanged config after) rows
 
   nothing_made : (pass : ℕ) → FeedMade config pass [] (λ h. [])
-  nothing_made pass = record { own = λ h. tt; puts = λ leaf. refl; acks = λ range. refl }
+  nothing_made pass = record { own = λ h. tt; puts = λ leaf. refl; acks = λ range. refl; paired = λ h. tt }
 
   pub part_none : (x : Knowledge) → Part x x []
   part_none x = record {
@@ -184,7 +242,7 @@ module _ (config : Config) where
         made = written (pass_of x) w.range row taken.ack w.took;
         own = w.own;
         new = w.new;
-        fed = made_one config (pass_of x) w.range row taken.ack w.took w.in_range;
+        fed = made_one config (pass_of x) w.range row taken.ack w.took w.took_are w.in_range;
         ranged = (
           (
             w.range,
@@ -214,6 +272,12 @@ module _ (config : Config) where
         ∙ (λ i. a.puts leaf i ++ b.puts leaf i);
     acks = λ range. flat_map-append book_row (made (of.Range range)) (made' (of.Range range))
         ∙ (λ i. a.acks range i ++ b.acks range i) ∙ sym (filter-append (lies_in config range) rows more);
+    paired = λ h. both_all (HasItsAck (λ h. made h ++ made' h)) (made h) (made' h)
+        (all_as (HasItsAck made) (HasItsAck (λ h. made h ++ made' h))
+        (among_all made (λ h. made h ++ made' h) (λ h e. Contains-append_left (made h) (made' h) e)) (made h) (a.paired h))
+        (all_as (HasItsAck made') (HasItsAck (λ h. made h ++ made' h))
+        (among_all made' (λ h. made h ++ made' h) (λ h e. Contains-append_right (made h) (made' h) e)) (made' h)
+        (b.paired h));
   }
 
   ranged_on : (y z : Knowledge) → IsStill y z → (row : Row) → IsRanged config y row → IsRanged config z row

@@ -30,7 +30,7 @@ use Rattle.run_traces.proofs.ListFacts.{all_as}
 use Rattle.mon_script.specs.declared.forms.LineForm.TheVariants as form
 use Rattle.write_core.proofs.OpeningLemmas.{acked_source}
 use Rattle.line_runs.proofs.FeedCauses.{lengths, range_length}
-use Rattle.line_runs.proofs.FeedFound.{all_told, cuts_between, rows_found, seen_below}
+use Rattle.line_runs.proofs.FeedFound.{all_taken_found, all_told, cuts_between, rows_found, seen_below}
 use Rattle.line_runs.proofs.FeedParts.{AreSources, IsRanged, Part, part_none, part_of, rows_new}
 use Rattle.line_runs.proofs.FeedRows.{IsNone}
 
@@ -101,6 +101,8 @@ module _ (config : Config) where
           (rows_new config first last rows done (sources last behind) range);
       refused = rows_found config first last (sources last behind) (reads_of config.schemas content) []
           (reads_of config.schemas content) 1 0 first [] rows refusals refl refl refl (part_none config first) fed;
+      taken = all_taken_found config first last (sources last behind) 1 (reads_of config.schemas content) first [] rows
+          refusals (part_none config first) fed;
     }
 
     finds : Finds config last.seen (lengths first) (lengths last) (pass_of first)

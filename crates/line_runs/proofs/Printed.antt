@@ -15,8 +15,8 @@ use Rattle.mon_value.specs.Tables.{column_names}
 use Rattle.mon_value.specs.declared.rows.Row.{Row}
 use Rattle.mon_value.specs.declared.tables.Table.{Table}
 use Rattle.mon_value.specs.declared.tables.TimedRow.{TimedRow}
-use Rattle.mql_types.specs.Meaning.{meaning}
-use Rattle.mql_types.specs.Nodes.{TypedTree, columns_of}
+use Rattle.typed_trees.specs.Meaning.{meaning}
+use Rattle.typed_trees.specs.Nodes.{TypedTree, columns_of}
 use Rattle.query_core.specs.Traces.{source_of}
 use Rattle.query_core.specs.declared.answers.Answer.{Answer}
 use Rattle.query_core.specs.declared.answers.Trace.{Trace}

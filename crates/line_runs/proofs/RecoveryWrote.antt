@@ -1,6 +1,6 @@
 -- What a line owes that opened a range's replica on a leaf, and one that opened none.
 use Rattle.std.proofs.Common.{◌≡◌, ◌∙◌, ◌+◌, ◌<◌, ◌&&◌, ◌++◌, ◌∷◌, ℕ, zero, suc, nat_eq, Bool, true, false, cond}
-use Rattle.std.proofs.Common.{List, [], drop, filter, length, slice_get, Some, None, Ok, Err, refl, sym, ap}
+use Rattle.std.proofs.Common.{List, [], drop, filter, length, map, slice_get, Some, None, Ok, Err, refl, sym, ap}
 use Rattle.std.proofs.Common.{subst, arith}
 use Rattle.std.specs.Prelude.{Contains, IfErr, IfOk, OnErr, Result, sum_by}
 use Rattle.std.specs.List.{AllByRecursion}
@@ -33,6 +33,7 @@ use Rattle.mon_value.specs.declared.positions.FoundDown.{FoundDown}
 use Rattle.mon_value.specs.declared.positions.Leaf.{Leaf}
 use Rattle.mon_value.specs.declared.positions.Range.{Range}
 use Rattle.mon_value.specs.declared.positions.Slot.{Slot}
+use Rattle.mon_value.specs.declared.positions.SlotLeaf.{SlotLeaf}
 use Rattle.mon_value.specs.declared.rows.Row.{Row}
 use Rattle.owners.specs.Puts.{pass_of}
 use Rattle.query_core.specs.Courses.{IsFoundBetween}
@@ -306,6 +307,8 @@ module _ (config : Config) (what : LineForm) (recovery : Recovery) (asked : reco
             (subst (λ (leaves : List Leaf). AllByRecursion (λ replica. is_avoided leaves replica ≡ true)
             (serving so.history)) (sym so.cause.1.leaves) (all_avoided (serving so.history)));
       };
+      those = so.cause.1.leaves
+          ∙ ap (λ (h : List RangeEntry). map (λ (replica : SlotLeaf). replica.leaf) (serving h)) (sym so.found.to);
       free = ap (λ w. denial_of w leaf) so.found.to ∙ so.cause.0;
     }
 
@@ -346,6 +349,14 @@ module _ (config : Config) (what : LineForm) (recovery : Recovery) (asked : reco
             found = length so.history;
             between = range_lies so.history so.found;
             free = ap (λ w. denial_of w leaf) so.found.to ∙ so.cause.0;
+            source = record {
+              source = so.cause.2.source;
+              serves = subst (λ (h : List RangeEntry). Contains (serving h) so.cause.2.source) (sym so.found.to)
+                  so.cause.2.among;
+              cut = so.cause.2.cut;
+              between = record { from = so.cause.2.up.from; to = so.cause.2.up.seen_by_then };
+              up = so.cause.2.up.up;
+            };
             down = found_then leaf cut so.cause.1;
           };
           cuts = λ other there.

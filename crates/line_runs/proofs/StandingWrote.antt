@@ -1,5 +1,6 @@
 -- What lines owe by which a query is to stand, and ticks whose moment isn't taken.
-use Rattle.std.proofs.Common.{◌≡◌, ◌∙◌, ℕ, ℤ, Bool, true, false, cond, List, [], Option, Some, None, Result, Ok, Err, refl}
+use Rattle.std.proofs.Common.{◌≡◌, ◌∙◌, ℕ, ℤ, Bool, true, false, cond, List, [], Option, Some, None, Result, Ok, Err}
+use Rattle.std.proofs.Common.{refl}
 use Rattle.std.proofs.Common.{sym, ap, subst}
 use Rattle.know.specs.Knowledge.{Knowledge}
 use Rattle.line_runs.specs.LineWrites.{LineWrote, ran_line}
@@ -10,7 +11,7 @@ use Rattle.line_runs.proofs.OtherLines.{done_wrote, still_refused}
 use Rattle.mon_config.specs.declared.config.Config.{Config}
 use Rattle.mon_schema.specs.Names.{SchemaLists}
 use Rattle.mon_script.specs.declared.forms.LineForm.TheVariants as form
-use Rattle.mql_types.specs.Nodes.{TypedTree}
+use Rattle.typed_trees.specs.Nodes.{TypedTree}
 use Rattle.query_texts.specs.TextTypes.{text_type}
 use Rattle.query_texts.specs.declared.faults.TextFault.{TextFault}
 use Rattle.query_texts.specs.declared.faults.TextFault.TheVariants as text_fault

@@ -8,9 +8,9 @@ use Rattle.mon_meaning.specs.declared.meter.OverLimit.{OverLimit}
 use Rattle.mon_schema.specs.Fits.{fits}
 use Rattle.mon_schema.specs.Names.{SchemaLists}
 use Rattle.mon_value.specs.declared.rows.Row.{Row}
-use Rattle.mql_types.specs.Meaning.{load}
-use Rattle.mql_types.specs.Nodes.{TypedTree}
-use Rattle.mql_types.specs.Soundness.{IsQueryType, IsTyped}
+use Rattle.typed_trees.specs.Meaning.{load}
+use Rattle.typed_trees.specs.Nodes.{TypedTree}
+use Rattle.typed_trees.specs.Soundness.{IsQueryType, IsTyped}
 use Rattle.query_texts.specs.TextTypes.{text_type}
 use Rattle.query_texts.specs.declared.faults.TextFault.{TextFault}
 

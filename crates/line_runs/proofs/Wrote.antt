@@ -24,8 +24,8 @@ use Rattle.mon_value.specs.Tables.{column_names}
 use Rattle.mon_value.specs.declared.histories.Histories.{Histories}
 use Rattle.mon_value.specs.declared.positions.Leaf.{Leaf}
 use Rattle.mon_value.specs.declared.rows.Row.{Row}
-use Rattle.mql_types.specs.Meaning.{meaning}
-use Rattle.mql_types.specs.Nodes.{TypedTree, columns_of}
+use Rattle.typed_trees.specs.Meaning.{meaning}
+use Rattle.typed_trees.specs.Nodes.{TypedTree, columns_of}
 use Rattle.query_core.specs.Courses.{IsFoundBetween}
 use Rattle.query_core.specs.Traces.{IsBetween, Lengths}
 use Rattle.query_core.specs.Traces.{lengths_of, source_of}

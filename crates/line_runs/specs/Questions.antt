@@ -16,9 +16,9 @@ use Rattle.mon_topo.specs.declared.zones.ZoneSpec.{ZoneSpec}
 use Rattle.mon_value.specs.Tables.{column_names}
 use Rattle.mon_value.specs.LeafHistories.{IsSource}
 use Rattle.mon_value.specs.declared.rows.Row.{Row}
-use Rattle.mql_types.specs.Plans.{op_levels}
-use Rattle.mql_types.specs.Meaning.{load, meaning}
-use Rattle.mql_types.specs.Nodes.{TypedTree, columns_of}
+use Rattle.typed_trees.specs.Plans.{op_levels}
+use Rattle.typed_trees.specs.Meaning.{load, meaning}
+use Rattle.typed_trees.specs.Nodes.{TypedTree, columns_of}
 use Rattle.query_core.specs.Traces.{IsTraceBetween, Lengths, lengths_of, source_of}
 use Rattle.query_core.specs.declared.answers.Answer.{Answer}
 use Rattle.query_core.specs.declared.answers.Trace.{Trace}

@@ -6,9 +6,9 @@ ghost use Rattle.mon_store.specs.Gathers.{HasSeenTrace};
 ghost use Rattle.mon_store.specs.Passes.{OwnsTheSame};
 ghost use Rattle.mon_value.specs.LeafHistories.{IsSource};
 ghost use Rattle.mon_value.specs.declared.limits.TheConstants.{ROW_BITS};
-ghost use Rattle.mql_types.specs.Meaning.{load};
-ghost use Rattle.mql_types.specs.Nodes.{typed_tree};
-ghost use Rattle.mql_types.specs.Soundness.{IsTyped};
+ghost use Rattle.typed_trees.specs.Meaning.{load};
+ghost use Rattle.typed_trees.specs.Nodes.{typed_tree};
+ghost use Rattle.typed_trees.specs.Soundness.{IsTyped};
 ghost use Rattle.query_core.specs.Traces.{source_of};
 ghost use Rattle.query_texts.specs.TextTypes.{text_type};
 
@@ -18,11 +18,11 @@ use mon_meaning::central;
 use mon_store::{Pass, Store};
 use mon_table::{equal_bags_print_alike, print};
 use mon_value::{OutOfMemory, Refusal, RowList, Text};
-use mql_types::Typed;
 use query_core::Trace;
 use query_texts::plan_of;
 use std::alloc::{AllocError, Global};
 use std::sync::Wait;
+use typed_trees::Typed;
 
 /// Gathers the rows of a trace, and prints what the text means over them.
 pub(crate) fn checked_text<N: Names, R: Wait>(

@@ -1,5 +1,5 @@
 // Taking leaves down and up, and opening ranges' replicas on leaves.
-ghost use Rattle.std.specs.Prelude.{◌≡◌, ◌<◌, ℕ, List, length, IfOk, Some, string_bytes};
+ghost use Rattle.std.specs.Prelude.{◌≡◌, ◌<◌, ℕ, List, length, IfOk};
 ghost use Rattle.history_book.specs.Histories.{AreFronts};
 ghost use Rattle.line_runs.specs.Controls.{IsNotOpenedFor, IsRecoveryRan};
 ghost use Rattle.line_runs.specs.Controls as spec;
@@ -7,17 +7,15 @@ ghost use Rattle.line_runs.specs.LineWrites.{LineWrote, ran_line};
 ghost use Rattle.mon_topo.specs.RangeHistories.{IsInZoneOf};
 ghost use Rattle.mon_topo.specs.Zones.{leaves_in};
 ghost use Rattle.run_traces.specs.LineSwitches.{Recovery, Switch};
-ghost use Rattle.run_traces.specs.LineTexts as line;
-ghost use Rattle.run_traces.specs.LineTexts.{recovery_text, switch_text};
 
 use crate::lines::LineRan;
 use crate::refusals::refused_for;
 use know::Names;
 use leaf_cell::ControlFault;
-use mon_script::LineForm;
+use mon_script::{LineForm, recovered_text, switched_text};
 use mon_store::{Pass, Store};
-use mon_topo::{Topology, leaf_text, range_text};
-use mon_value::{Leaf, OutOfMemory, Range, Slot, Text};
+use mon_topo::Topology;
+use mon_value::{Leaf, OutOfMemory, Range, Slot};
 use range_cell::RecoverFault;
 use run_traces::{LineFault, LineTrace};
 use std::alloc::{AllocError, Global};
@@ -83,28 +81,6 @@ fn switch_ran(
     }
 }
 
-// What is printed of a leaf that went down, or came up.
-fn switched_text(
-    alloc: Global,
-    topology: &Topology,
-    leaf: Leaf,
-    down: bool,
-) -> Result<Text, OutOfMemory>
-    ensures text { IfOk result (λ text. text
-        ≡ switch_text topology.now (Some (record { leaf = leaf; down = down }))) }
-{
-    let name = leaf_text(topology, leaf);
-    let way = way_text(down);
-    Text::from_string(format!(in alloc; "{way} {name}: done\n")?)
-}
-
-// Which way a leaf goes.
-fn way_text(down: bool) -> &'static str
-    ensures way { result.now ≡ line.way_text down }
-{
-    if down { "down" } else { "up" }
-}
-
 // Why a leaf isn't switched.
 fn control_fault(fault: ControlFault) -> LineFault
     ensures told { result ≡ spec.control_told fault }
@@ -155,23 +131,6 @@ fn recovery_ran(
         }),
         Err(fault) => not_opened(alloc, topology, fault),
     }
-}
-
-// What is printed of a replica that was opened.
-fn recovered_text(
-    alloc: Global,
-    topology: &Topology,
-    range: Range,
-    leaf: Leaf,
-    slot: Slot,
-) -> Result<Text, OutOfMemory>
-    ensures text { IfOk result (λ text. text
-        ≡ recovery_text topology.now (Some (record { range = range; leaf = leaf })) slot) }
-{
-    let range = range_text(alloc, topology, range)?;
-    let name = leaf_text(topology, leaf);
-    let number = slot.0;
-    Text::from_string(format!(in alloc; "recover {range} {name}: slot {number}\n")?)
 }
 
 // A line that opened no replica. Where memory ran out the line has not run.

@@ -8,9 +8,9 @@ ghost use Rattle.run_traces.specs.LineTexts as spec;
 use mon_table::print;
 use mon_topo::Topology;
 use mon_value::{Leaf, OutOfMemory, Text};
-use mql_types::{Level, OpLevel, OpLevels, OpWord};
 use query_core::{Answer, Trace};
 use std::alloc::Global;
+use typed_trees::{Level, OpLevel, OpLevels, OpWord};
 
 /// The table, a line for each operation, in the order of the query's text, and one for each leaf, in their order.
 pub(crate) fn explained_text(

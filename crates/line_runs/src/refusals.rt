@@ -1,13 +1,15 @@
 // Why lines are refused.
-ghost use Rattle.std.specs.Prelude.{◌≡◌, [], IfOk, string_bytes};
+ghost use Rattle.std.specs.Prelude.{◌≡◌, IfOk, string_bytes};
 ghost use Rattle.line_runs.specs.Questions as spec;
 ghost use Rattle.line_runs.specs.Questions.{IsRefusedFor};
+ghost use Rattle.mon_script.specs.Controls.{control_refusal_text};
 ghost use Rattle.run_traces.specs.LineTexts.{line_fault_text, refused_line};
 
 use crate::lines::LineRan;
+use mon_script::{ControlRefusal, source_down_text};
 use mon_store::QueryFault;
-use mon_topo::{Topology, down_text, founds_text};
-use mon_value::{OutOfMemory, Slot, Text};
+use mon_topo::{Topology, down_text};
+use mon_value::{OutOfMemory, Text};
 use run_traces::{LineFault, LineTrace};
 use std::alloc::{AllocError, Global};
 
@@ -78,27 +80,23 @@ fn fault_text(alloc: Global, topology: &Topology, fault: &LineFault) -> Result<S
             format!(in alloc; "NoReplica {down}")
         }
         LineFault::StepLimit(limit, _trace) => format!(in alloc; "StepLimit {limit}"),
-        LineFault::AlreadyDown(cut) => format!(in alloc; "AlreadyDown {cut}"),
-        LineFault::AlreadyUp(cut) => format!(in alloc; "AlreadyUp {cut}"),
-        LineFault::SwitchesSpent(count) => format!(in alloc; "SwitchesSpent {count}"),
-        LineFault::Serving(slot) => serving_text(alloc, *slot),
-        LineFault::ThreeServing => String::from_str(alloc, "ThreeServing"),
-        LineFault::SlotsSpent(count) => format!(in alloc; "SlotsSpent {count}"),
-        LineFault::SourceDown(founds) => {
-            let down = founds_text(alloc, topology, founds.as_slice())?;
-            format!(in alloc; "SourceDown:{down}")
-        }
-        LineFault::TargetDown(cut) => format!(in alloc; "TargetDown {cut}"),
+        LineFault::AlreadyDown(cut) => control_text(alloc, ControlRefusal::AlreadyDown(*cut)),
+        LineFault::AlreadyUp(cut) => control_text(alloc, ControlRefusal::AlreadyUp(*cut)),
+        LineFault::SwitchesSpent(most) => control_text(alloc, ControlRefusal::SwitchesSpent(*most)),
+        LineFault::Serving(slot) => control_text(alloc, ControlRefusal::Serving(*slot)),
+        LineFault::ThreeServing => control_text(alloc, ControlRefusal::ThreeServing),
+        LineFault::SlotsSpent(count) => control_text(alloc, ControlRefusal::SlotsSpent(*count)),
+        LineFault::SourceDown(founds) => source_down_text(alloc, topology, founds.as_slice()),
+        LineFault::TargetDown(cut) => control_text(alloc, ControlRefusal::TargetDown(*cut)),
         LineFault::NameTaken => String::from_str(alloc, "NameTaken"),
         LineFault::TooManyDue(most) => format!(in alloc; "TooManyDue {most}"),
         LineFault::Backwards(last) => format!(in alloc; "Backwards {last}"),
     }
 }
 
-// The slot that serves already.
-fn serving_text(alloc: Global, slot: Slot) -> Result<String, OutOfMemory>
-    ensures text { IfOk result (λ text. string_bytes text ≡ line_fault_text [] (LineFault.Serving slot)) }
+// Why a leaf is not switched, or a range is not recovered.
+fn control_text(alloc: Global, why: ControlRefusal) -> Result<String, OutOfMemory>
+    ensures text { IfOk result (λ text. string_bytes text ≡ control_refusal_text why) }
 {
-    let number = slot.0;
-    format!(in alloc; "Serving {number}")
+    format!(in alloc; "{why}")
 }

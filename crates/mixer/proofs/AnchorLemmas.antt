@@ -11,7 +11,7 @@ use Rattle.mon_value.specs.declared.schemas.TargetSchema.{TargetSchema}
 use Rattle.mon_value.specs.declared.values.Value.{Value}
 use Rattle.mon_value.proofs.SameLemmas.{same_text-Decides}
 use Rattle.mon_schema.specs.Names.{target_named}
-use Rattle.mql_types.specs.Levels.{same_anchor}
+use Rattle.typed_trees.specs.Levels.{same_anchor}
 use Rattle.mixer.proofs.HeldCells.{Holds, SaysIf}
 use Rattle.mon_value.proofs.PlainLemmas.{nothing_is, and_both, same_item}
 

@@ -19,14 +19,14 @@ use Rattle.mon_value.specs.declared.values.FieldValue.{FieldValue}
 use Rattle.mon_value.specs.declared.values.Value.{Value}
 use Rattle.mon_schema.specs.Fits.{fields_fit}
 use Rattle.mon_schema.specs.Names.{SchemaLists, target_named}
-use Rattle.mql_types.specs.LevelLoads.{counted_if, load_at}
-use Rattle.mql_types.specs.Levels.{is_location_anchor, same_anchor}
-use Rattle.mql_types.specs.Meaning.{is_reached, meets, points_reached, aligned_rows, points_meant, rows_meant}
-use Rattle.mql_types.specs.Nodes as node
-use Rattle.mql_types.specs.Nodes.{NodeTree, level_of}
-use Rattle.mql_types.specs.declared.levels.Level.{Level}
-use Rattle.mql_types.proofs.FetchedTrees.{AllFit}
-use Rattle.mql_types.proofs.TypedTrees.{AreRows}
+use Rattle.typed_trees.specs.LevelLoads.{counted_if, load_at}
+use Rattle.typed_trees.specs.Levels.{is_location_anchor, same_anchor}
+use Rattle.typed_trees.specs.Meaning.{is_reached, meets, points_reached, aligned_rows, points_meant, rows_meant}
+use Rattle.typed_trees.specs.Nodes as node
+use Rattle.typed_trees.specs.Nodes.{NodeTree, level_of}
+use Rattle.typed_trees.specs.declared.levels.Level.{Level}
+use Rattle.typed_rows.proofs.FetchedTrees.{AllFit}
+use Rattle.typed_rows.proofs.TypedTrees.{AreRows}
 use Rattle.mixer.proofs.ApartTrees as apart_trees
 use Rattle.mixer.proofs.LocalTrees.{IsLocal, MakesWhole}
 use Rattle.mixer.proofs.StemmingTrees.{HasHome}

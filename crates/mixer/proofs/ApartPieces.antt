@@ -15,14 +15,15 @@ use Rattle.mon_value.specs.declared.values.FieldValue.{FieldValue}
 use Rattle.mon_value.specs.declared.values.Value.{Value}
 use Rattle.mon_schema.specs.Fits.{fields_fit}
 use Rattle.mon_schema.specs.Names.{SchemaLists, target_named}
-use Rattle.mql_types.specs.Levels.{is_location_anchor, same_anchor, PartUse, PieceMeant, TopPart, part_or, piece_meant}
-use Rattle.mql_types.specs.Levels.{pieces_meant, top_parts}
-use Rattle.mql_types.specs.Meaning.{aligned_rows, points_meant, rows_meant}
-use Rattle.mql_types.specs.Nodes as node
-use Rattle.mql_types.specs.Nodes.{NodeTree, level_of}
-use Rattle.mql_types.specs.declared.levels.Level.{Level}
-use Rattle.mql_types.proofs.FetchedTrees.{AllFit}
-use Rattle.mql_types.proofs.TypedTrees.{AreRows}
+use Rattle.typed_trees.specs.Levels.{is_location_anchor, same_anchor, PartUse, PieceMeant, TopPart, part_or}
+use Rattle.typed_trees.specs.Levels.{piece_meant}
+use Rattle.typed_trees.specs.Levels.{pieces_meant, top_parts}
+use Rattle.typed_trees.specs.Meaning.{aligned_rows, points_meant, rows_meant}
+use Rattle.typed_trees.specs.Nodes as node
+use Rattle.typed_trees.specs.Nodes.{NodeTree, level_of}
+use Rattle.typed_trees.specs.declared.levels.Level.{Level}
+use Rattle.typed_rows.proofs.FetchedTrees.{AllFit}
+use Rattle.typed_rows.proofs.TypedTrees.{AreRows}
 use Rattle.mixer.specs.Mixing.{SamePieces, joined_pieces, no_pieces}
 use Rattle.mixer.proofs.ApartTrees as apart_trees
 use Rattle.mixer.proofs.LocalTrees.{IsLocal, MakesWhole}

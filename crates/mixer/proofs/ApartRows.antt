@@ -26,10 +26,10 @@ use Rattle.mon_value.specs.declared.tables.TimedRow.{TimedRow}
 use Rattle.mon_value.specs.declared.values.Value.{Value}
 use Rattle.mon_value.proofs.SameLemmas.{same_row-Decides}
 use Rattle.mon_schema.specs.Names.{SchemaLists}
-use Rattle.mql_types.specs.Branches.{common_columns}
-use Rattle.mql_types.specs.Groupings.{key_columns_at}
-use Rattle.mql_types.specs.Levels.{is_location_anchor, same_anchor}
-use Rattle.mql_types.specs.Meaning.{aligned_rows}
+use Rattle.typed_trees.specs.Branches.{common_columns}
+use Rattle.typed_trees.specs.Groupings.{key_columns_at}
+use Rattle.typed_trees.specs.Levels.{is_location_anchor, same_anchor}
+use Rattle.typed_trees.specs.Meaning.{aligned_rows}
 use Rattle.mon_meaning.proofs.ApartKeys.{items_by_key-apart}
 use Rattle.mon_meaning.proofs.ApartSeries.{series-apart}
 use Rattle.mixer.proofs.HeldCells.{Stems, Tell}

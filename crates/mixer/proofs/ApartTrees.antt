@@ -22,13 +22,13 @@ use Rattle.mon_value.proofs.PermutationLemmas.{filter-permutation, front_exchang
 use Rattle.mon_schema.specs.Fits.{fields_fit}
 use Rattle.mon_schema.specs.Names.{SchemaLists, target_named}
 use Rattle.mql_ast.specs.Rows.{predicate_truth}
-use Rattle.mql_types.specs.Levels.{is_location_anchor, same_anchor}
-use Rattle.mql_types.specs.Meaning.{aligned_rows, is_fetched, is_point_kept, points_meant, rows_meant, value_row}
-use Rattle.mql_types.specs.Nodes as node
-use Rattle.mql_types.specs.Nodes.{NodeTree, columns_of, level_of}
-use Rattle.mql_types.specs.declared.levels.Level.{Level}
-use Rattle.mql_types.proofs.FetchedTrees.{AllFit}
-use Rattle.mql_types.proofs.TypedTrees.{AreRows}
+use Rattle.typed_trees.specs.Levels.{is_location_anchor, same_anchor}
+use Rattle.typed_trees.specs.Meaning.{aligned_rows, is_fetched, is_point_kept, points_meant, rows_meant, value_row}
+use Rattle.typed_trees.specs.Nodes as node
+use Rattle.typed_trees.specs.Nodes.{NodeTree, columns_of, level_of}
+use Rattle.typed_trees.specs.declared.levels.Level.{Level}
+use Rattle.typed_rows.proofs.FetchedTrees.{AllFit}
+use Rattle.typed_rows.proofs.TypedTrees.{AreRows}
 use Rattle.mon_meaning.proofs.FilterLemmas.{filter_map-permutation}
 use Rattle.mon_meaning.proofs.OperationOrders.{group_rows-permutation, pairs-permutation}
 use Rattle.mixer.proofs.ApartRows.{aligned-apart}

@@ -9,7 +9,7 @@ use Rattle.mon_value.specs.Tables.{Named}
 use Rattle.mon_value.specs.declared.columns.Anchor.{Anchor}
 use Rattle.mon_value.specs.declared.columns.Column.{Column}
 use Rattle.mon_value.specs.declared.values.Value.{Value}
-use Rattle.mql_types.specs.Groupings.{as_key, key_at, key_columns_at}
+use Rattle.typed_trees.specs.Groupings.{as_key, key_at, key_columns_at}
 
 abbrev pub HasNoAnchor : Column → Type 0
 HasNoAnchor column = column.anchor ≡ None

@@ -8,14 +8,14 @@ use Rattle.mon_value.specs.declared.rows.Row.{Row}
 use Rattle.mon_value.specs.declared.tables.TimedRow.{TimedRow}
 use Rattle.mon_value.specs.declared.values.Value.{Value}
 use Rattle.mon_schema.specs.Names.{SchemaLists}
-use Rattle.mql_types.specs.LevelLoads.{counted_if, load_at}
-use Rattle.mql_types.specs.Meaning.{rows_meant}
-use Rattle.mql_types.specs.Nodes as node
-use Rattle.mql_types.specs.Nodes.{NodeTree, level_of}
-use Rattle.mql_types.specs.Levels.{AsRows, TopPart, part_or, top_parts}
-use Rattle.mql_types.specs.declared.levels.Level.{Level}
-use Rattle.mql_types.specs.declared.levels.Level.TheVariants as level
-use Rattle.mql_types.proofs.TypedTrees.{AreRows}
+use Rattle.typed_trees.specs.LevelLoads.{counted_if, load_at}
+use Rattle.typed_trees.specs.Meaning.{rows_meant}
+use Rattle.typed_trees.specs.Nodes as node
+use Rattle.typed_trees.specs.Nodes.{NodeTree, level_of}
+use Rattle.typed_trees.specs.Levels.{AsRows, TopPart, part_or, top_parts}
+use Rattle.typed_trees.specs.declared.levels.Level.{Level}
+use Rattle.typed_trees.specs.declared.levels.Level.TheVariants as level
+use Rattle.typed_rows.proofs.TypedTrees.{AreRows}
 use Rattle.mixer.specs.Mixing.{joins_mixed, part_count, rows_mixed}
 use Rattle.mixer.proofs.PointLevels.{points_level}
 use Rattle.mixer.proofs.LevelledTrees.{AreLevelled}

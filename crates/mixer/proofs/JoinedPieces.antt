@@ -14,10 +14,10 @@ use Rattle.mon_value.specs.declared.grids.Grid.{Grid}
 use Rattle.mon_value.specs.declared.rows.Row.{Row}
 use Rattle.mon_value.specs.declared.tables.Table.{Table}
 use Rattle.mon_value.specs.declared.tables.TimedRow.{TimedRow}
-use Rattle.mql_types.specs.Meaning.{rows_meant}
-use Rattle.mql_types.specs.Nodes.{columns_of}
-use Rattle.mql_types.specs.Levels as up
-use Rattle.mql_types.specs.Levels.{PartUse, TopPart}
+use Rattle.typed_trees.specs.Meaning.{rows_meant}
+use Rattle.typed_trees.specs.Nodes.{columns_of}
+use Rattle.typed_trees.specs.Levels as up
+use Rattle.typed_trees.specs.Levels.{PartUse, TopPart}
 use Rattle.mon_fold.proofs.MergeableGroups as mergeable
 use Rattle.mon_fold.proofs.MergeableGroups.{first_can}
 use Rattle.mon_fold.proofs.PartialGroupLemmas.{groups_merge}

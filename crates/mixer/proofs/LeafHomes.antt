@@ -16,7 +16,8 @@ use Rattle.mon_value.specs.declared.values.FieldValue.TheVariants as field
 use Rattle.mon_value.specs.declared.values.Value.{Value}
 use Rattle.mon_schema.specs.Fits.{field_fits, fields_fit}
 use Rattle.mon_schema.specs.Names.{SchemaLists, target_named}
-use Rattle.mql_types.specs.Levels.{have_fields, is_anchored, is_location_anchor, names_target, same_anchor, tell_target}
+use Rattle.typed_trees.specs.Levels.{have_fields, is_anchored, is_location_anchor, names_target, same_anchor}
+use Rattle.typed_trees.specs.Levels.{tell_target}
 use Rattle.mixer.proofs.AnchorLemmas.{found_in, name_is, same_anchor-is}
 use Rattle.mixer.proofs.HeldCells.{Holds, SaysIf, Tell}
 use Rattle.mon_value.proofs.OrderLemmas.{same_fields}

@@ -2,13 +2,13 @@
 use Rattle.std.proofs.Common.{◌≡◌, ℕ, ◌+◌, Bool, true, false, List, [], length, refl, ap, arith}
 use Rattle.mon_value.specs.declared.grids.Grid.{Grid}
 use Rattle.mon_value.specs.declared.rows.Row.{Row}
-use Rattle.mql_types.specs.LevelLoads.{counted_if, is_zone, load_at}
-use Rattle.mql_types.specs.Levels.{is_leaf, is_root}
-use Rattle.mql_types.specs.Meaning.{load_of, points_reached, rows_meant}
-use Rattle.mql_types.specs.Nodes as node
-use Rattle.mql_types.specs.Nodes.{NodeTree}
-use Rattle.mql_types.specs.declared.levels.Level.{Level}
-use Rattle.mql_types.specs.declared.levels.Level.TheVariants as level
+use Rattle.typed_trees.specs.LevelLoads.{counted_if, is_zone, load_at}
+use Rattle.typed_trees.specs.Levels.{is_leaf, is_root}
+use Rattle.typed_trees.specs.Meaning.{load_of, points_reached, rows_meant}
+use Rattle.typed_trees.specs.Nodes as node
+use Rattle.typed_trees.specs.Nodes.{NodeTree}
+use Rattle.typed_trees.specs.declared.levels.Level.{Level}
+use Rattle.typed_trees.specs.declared.levels.Level.TheVariants as level
 use Rattle.mon_value.specs.declared.tables.TimedRow.{TimedRow}
 use Rattle.mixer.proofs.ApartPieces.{no_rows}
 

@@ -10,17 +10,17 @@ use Rattle.mql_ast.specs.Trees.{BranchTrees, DeedTree, OpTree, PipeTree, SourceT
 use Rattle.mql_ast.specs.declared.pipes.How.{How}
 use Rattle.mql_ast.specs.declared.pipes.How.TheVariants as how
 use Rattle.std.specs.Prelude.{ℕ, ℤ}
-use Rattle.mql_types.specs.Branches.{common_columns}
-use Rattle.mql_types.specs.Groupings.{key_columns_at}
-use Rattle.mql_types.specs.Levels.{higher_level, is_leaf, is_located, meeting_level, tell_target, in_zone}
-use Rattle.mql_types.specs.Nodes as node
-use Rattle.mql_types.specs.Nodes.{NodeTree, TypedTree, columns_of, level_of}
-use Rattle.mql_types.specs.Times.{every_said, query_times}
-use Rattle.mql_types.specs.Typing.{Part, aligned_by_default, aligned_tree, branch_node, branches_node, deed_part}
-use Rattle.mql_types.specs.Typing.{further_node, ops_part, pipe_part, source_part, typing}
-use Rattle.mql_types.specs.declared.levels.Level.{Level}
-use Rattle.mql_types.specs.declared.levels.Level.TheVariants as level
-use Rattle.mql_types.proofs.FetchColumnLemmas.{typed_without_faults}
+use Rattle.typed_trees.specs.Branches.{common_columns}
+use Rattle.typed_trees.specs.Groupings.{key_columns_at}
+use Rattle.typed_trees.specs.Levels.{higher_level, is_leaf, is_located, meeting_level, tell_target, in_zone}
+use Rattle.typed_trees.specs.Nodes as node
+use Rattle.typed_trees.specs.Nodes.{NodeTree, TypedTree, columns_of, level_of}
+use Rattle.typed_trees.specs.Times.{every_said, query_times}
+use Rattle.typed_trees.specs.Typing.{Part, aligned_by_default, aligned_tree, branch_node, branches_node, deed_part}
+use Rattle.typed_trees.specs.Typing.{further_node, ops_part, pipe_part, source_part, typing}
+use Rattle.typed_trees.specs.declared.levels.Level.{Level}
+use Rattle.typed_trees.specs.declared.levels.Level.TheVariants as level
+use Rattle.typed_trees.proofs.FetchColumnLemmas.{typed_without_faults}
 use Rattle.mon_schema.specs.Fits.{TellsLocation}
 use Rattle.mixer.proofs.LeafHomes.{TargetSays, target_told}
 use Rattle.mixer.proofs.LocalTrees.{IsLocal}

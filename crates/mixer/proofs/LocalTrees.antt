@@ -5,12 +5,12 @@ use Rattle.mon_value.specs.declared.grids.Grid.{Grid}
 use Rattle.mon_value.specs.declared.rows.Row.{Row}
 use Rattle.mon_value.specs.declared.values.Value.{Value}
 use Rattle.mon_schema.specs.Names.{SchemaLists}
-use Rattle.mql_types.specs.Branches.{common_columns}
-use Rattle.mql_types.specs.Groupings.{key_columns_at}
-use Rattle.mql_types.specs.Meaning.{rows_meant}
-use Rattle.mql_types.specs.Nodes as node
-use Rattle.mql_types.specs.Nodes.{NodeTree, columns_of, level_of}
-use Rattle.mql_types.specs.declared.levels.Level.{Level}
+use Rattle.typed_trees.specs.Branches.{common_columns}
+use Rattle.typed_trees.specs.Groupings.{key_columns_at}
+use Rattle.typed_trees.specs.Meaning.{rows_meant}
+use Rattle.typed_trees.specs.Nodes as node
+use Rattle.typed_trees.specs.Nodes.{NodeTree, columns_of, level_of}
+use Rattle.typed_trees.specs.declared.levels.Level.{Level}
 use Rattle.mixer.proofs.HeldCells.{Tell}
 use Rattle.mixer.proofs.StemmingRows.{AreWhole}
 

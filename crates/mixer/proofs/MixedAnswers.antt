@@ -10,14 +10,14 @@ use Rattle.mon_value.specs.declared.refusals.Refusal.TheVariants as refusal
 use Rattle.mon_value.specs.declared.rows.Row.{Row}
 use Rattle.mon_value.specs.declared.tables.Table.{Table}
 use Rattle.mon_value.specs.declared.tables.TimedRow.{TimedRow}
-use Rattle.mql_types.specs.LevelLoads.{leaf_load, zone_load}
-use Rattle.mql_types.specs.Levels.{is_leaf, TopPart, in_zone, top_parts}
-use Rattle.mql_types.specs.Meaning.{load, grid_of, rows_meant}
-use Rattle.mql_types.specs.Nodes.{TypedTree, columns_of}
-use Rattle.mql_types.specs.Soundness.{IsEvaluable, IsTyped, IsWithinRows}
-use Rattle.mql_types.proofs.FetchedTrees.{AllFit}
-use Rattle.mql_types.proofs.JoinedRows.{all-front}
-use Rattle.mql_types.proofs.QueryLaws.{typed_evaluable}
+use Rattle.typed_trees.specs.LevelLoads.{leaf_load, zone_load}
+use Rattle.typed_trees.specs.Levels.{is_leaf, TopPart, in_zone, top_parts}
+use Rattle.typed_trees.specs.Meaning.{load, grid_of, rows_meant}
+use Rattle.typed_trees.specs.Nodes.{TypedTree, columns_of}
+use Rattle.typed_trees.specs.Soundness.{IsEvaluable, IsTyped, IsWithinRows}
+use Rattle.typed_rows.proofs.FetchedTrees.{AllFit}
+use Rattle.typed_rows.proofs.JoinedRows.{all-front}
+use Rattle.typed_rows.proofs.QueryLaws.{typed_evaluable}
 use Rattle.mon_fold.specs.declared.answers.LeafAnswer.{LeafAnswer}
 use Rattle.mon_fold.specs.declared.answers.Piece.{Piece}
 use Rattle.mon_meaning.specs.Central.{IsMeant, IsRefusedBy}

@@ -8,16 +8,17 @@ use Rattle.mon_value.specs.declared.grids.Grid.{Grid}
 use Rattle.mon_value.specs.declared.rows.Row.{Row}
 use Rattle.mon_value.specs.declared.tables.TimedRow.{TimedRow}
 use Rattle.mon_schema.specs.Names.{SchemaLists}
-use Rattle.mql_types.specs.LevelLoads.{is_zone, leaf_load, load_at, root_load, zone_load}
-use Rattle.mql_types.specs.Levels.{is_leaf, is_root, PieceMeant, TopPart, in_zone, leaf_part, piece_meant, pieces_meant}
-use Rattle.mql_types.specs.Levels.{top_parts, zone_part}
-use Rattle.mql_types.specs.Meaning.{load, load_of, grid_of, meaning, rows_meant}
-use Rattle.mql_types.specs.Nodes.{NodeTree, TypedTree}
-use Rattle.mql_types.specs.Soundness.{IsTyped}
-use Rattle.mql_types.proofs.FetchedTrees.{AllFit}
-use Rattle.mql_types.proofs.JoinedRows.{all-front}
-use Rattle.mql_types.proofs.TypedGridLemmas.{typed_grid}
-use Rattle.mql_types.proofs.TypedQueries.{query_ruled}
+use Rattle.typed_trees.specs.LevelLoads.{is_zone, leaf_load, load_at, root_load, zone_load}
+use Rattle.typed_trees.specs.Levels.{is_leaf, is_root, PieceMeant, TopPart, in_zone, leaf_part, piece_meant}
+use Rattle.typed_trees.specs.Levels.{pieces_meant}
+use Rattle.typed_trees.specs.Levels.{top_parts, zone_part}
+use Rattle.typed_trees.specs.Meaning.{load, load_of, grid_of, meaning, rows_meant}
+use Rattle.typed_trees.specs.Nodes.{NodeTree, TypedTree}
+use Rattle.typed_trees.specs.Soundness.{IsTyped}
+use Rattle.typed_rows.proofs.FetchedTrees.{AllFit}
+use Rattle.typed_rows.proofs.JoinedRows.{all-front}
+use Rattle.typed_rows.proofs.TypedGridLemmas.{typed_grid}
+use Rattle.typed_rows.proofs.TypedQueries.{query_ruled}
 use Rattle.mixer.specs.Divisions.{IsDivided, ShareNoLocation, all_rows, together}
 use Rattle.mon_meaning.specs.ReadableSlots.{AreApart, ShareNoTarget}
 use Rattle.mon_schema.specs.Fits.{TellsLocation}
@@ -28,8 +29,8 @@ use Rattle.mixer.proofs.ApartPieces.{SamePieces-refl, SamePieces-trans, joined_p
 use Rattle.mixer.proofs.JoinLoads.{joins_mixed-load, joins_mixed-same, local_closed}
 use Rattle.mixer.proofs.LeafHomes.{TargetSays}
 use Rattle.mixer.proofs.ZoneHomes.{LocationSays}
-use Rattle.mql_types.specs.declared.levels.Level.{Level}
-use Rattle.mql_types.specs.declared.levels.Level.TheVariants as level
+use Rattle.typed_trees.specs.declared.levels.Level.{Level}
+use Rattle.typed_trees.specs.declared.levels.Level.TheVariants as level
 use Rattle.mixer.proofs.LevelSums.{level_loads, no_load}
 use Rattle.mixer.proofs.LevelledTrees.{leaf_local, query_levelled, zone_local}
 use Rattle.mixer.proofs.MixedTrees.{parts_mixed-meant, rows_mixed-meant, tables_of}

@@ -9,11 +9,11 @@ use Rattle.mon_value.specs.declared.grids.Grid.{Grid}
 use Rattle.mon_value.specs.declared.rows.Row.{Row}
 use Rattle.mon_value.specs.declared.tables.TimedRow.{TimedRow}
 use Rattle.mql_ast.specs.Rows.{predicate_truth}
-use Rattle.mql_types.specs.Meaning.{rows_meant, value_row}
-use Rattle.mql_types.specs.Nodes as node
-use Rattle.mql_types.specs.Nodes.{NodeTree, columns_of, level_of}
-use Rattle.mql_types.specs.Levels.{AsRows, PartUse, TopPart, part_or, top_parts}
-use Rattle.mql_types.specs.declared.levels.Level.{Level}
+use Rattle.typed_trees.specs.Meaning.{rows_meant, value_row}
+use Rattle.typed_trees.specs.Nodes as node
+use Rattle.typed_trees.specs.Nodes.{NodeTree, columns_of, level_of}
+use Rattle.typed_trees.specs.Levels.{AsRows, PartUse, TopPart, part_or, top_parts}
+use Rattle.typed_trees.specs.declared.levels.Level.{Level}
 use Rattle.mixer.specs.Mixing.{first_table, part_count, parts_mixed, rows_mixed}
 
 pub take_none : {A : Type 0} (xs : List A) → take 0 xs ≡ []

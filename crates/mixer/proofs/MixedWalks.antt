@@ -4,15 +4,15 @@ use Rattle.std.specs.List.{AllByRecursion}
 use Rattle.mon_value.specs.declared.refusals.Refusal.{Refusal}
 use Rattle.mon_value.specs.declared.refusals.Refusal.TheVariants as refusal
 use Rattle.mon_value.specs.declared.tables.TimedRow.{TimedRow}
-use Rattle.mql_types.specs.Nodes.{NodeTree}
-use Rattle.mql_types.specs.Soundness.{IsWithinRows}
-use Rattle.mql_types.specs.declared.levels.Level.{Level}
+use Rattle.typed_trees.specs.Nodes.{NodeTree}
+use Rattle.typed_trees.specs.Soundness.{IsWithinRows}
+use Rattle.typed_trees.specs.declared.levels.Level.{Level}
 use Rattle.mon_fold.specs.declared.answers.Piece.{Piece}
 use Rattle.mon_meaning.specs.Counts.{TellsOver}
 use Rattle.mon_meaning.specs.Operations.{CanOperate, operation_rows}
 use Rattle.mon_meaning.specs.declared.meter.OverLimit.{OverLimit}
 use Rattle.mon_meaning.specs.within.Paths.{Leads, first_input}
-use Rattle.mql_types.specs.ExplanationParts.{nodes}
+use Rattle.typed_trees.specs.ExplanationParts.{nodes}
 use Rattle.mon_meaning.proofs.PathLemmas.{Leads-pop, Leads-push, smaller_below}
 use Rattle.mixer.specs.Mixing.{part_count}
 use Rattle.mixer.specs.within.Mixtures.{CanMix, IsInput, IsWayDown, OtherCanMix, pieces_behind_first}

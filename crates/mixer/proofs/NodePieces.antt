@@ -3,10 +3,10 @@ use Rattle.std.proofs.Common.{◌≡◌, ◌∙◌, ◌≤◌, ℕ, ◌+◌, Boo
 use Rattle.std.proofs.Common.{arith}
 use Rattle.std.proofs.lemmas.List.{drop-drop, length-append}
 use Rattle.mon_value.specs.declared.tables.TimedRow.{TimedRow}
-use Rattle.mql_types.specs.Nodes as node
-use Rattle.mql_types.specs.Nodes.{NodeTree, level_of}
-use Rattle.mql_types.specs.Levels.{AsRows, PartUse, ToCut, ToGroup, TopPart, part_or, top_parts}
-use Rattle.mql_types.specs.declared.levels.Level.{Level}
+use Rattle.typed_trees.specs.Nodes as node
+use Rattle.typed_trees.specs.Nodes.{NodeTree, level_of}
+use Rattle.typed_trees.specs.Levels.{AsRows, PartUse, ToCut, ToGroup, TopPart, part_or, top_parts}
+use Rattle.typed_trees.specs.declared.levels.Level.{Level}
 use Rattle.mon_fold.specs.declared.answers.Piece.{Piece}
 use Rattle.mon_meaning.specs.Operations.{operation_rows}
 use Rattle.mon_meaning.specs.within.Paths.{HasNoInput, first_input}

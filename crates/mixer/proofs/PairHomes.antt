@@ -15,9 +15,10 @@ use Rattle.mon_value.specs.declared.values.Value.{Value}
 use Rattle.mon_value.proofs.SameLemmas.{same_value-Decides}
 use Rattle.mon_schema.specs.Names.{SchemaLists}
 use Rattle.mql_ast.specs.Rows.{column_named}
-use Rattle.mql_types.specs.Branches.{anchored_with, as_joined, common_columns, join_columns, left_column, same_columns}
-use Rattle.mql_types.specs.Branches.{union_columns}
-use Rattle.mql_types.specs.Levels.{common_anchor, is_location_anchor, same_anchor}
+use Rattle.typed_trees.specs.Branches.{anchored_with, as_joined, common_columns, join_columns, left_column}
+use Rattle.typed_trees.specs.Branches.{same_columns}
+use Rattle.typed_trees.specs.Branches.{union_columns}
+use Rattle.typed_trees.specs.Levels.{common_anchor, is_location_anchor, same_anchor}
 use Rattle.mixer.proofs.HeldCells as held_cells
 use Rattle.mixer.proofs.HeldCells.{Holds, SaysIf}
 

@@ -6,17 +6,17 @@ use Rattle.mon_value.specs.declared.grids.Grid.{Grid}
 use Rattle.mon_value.specs.declared.rows.Row.{Row}
 use Rattle.mon_value.specs.declared.columns.Column.{Column}
 use Rattle.mon_schema.specs.Names.{SchemaLists}
-use Rattle.mql_types.specs.Branches.{common_columns}
-use Rattle.mql_types.specs.Groupings.{key_columns_at}
-use Rattle.mql_types.specs.LevelLoads.{counted_if, is_zone, load_at}
-use Rattle.mql_types.specs.Levels.{higher_level, is_leaf, meeting_level, AsRows, PartUse, TopPart, in_zone, part_or}
-use Rattle.mql_types.specs.Levels.{top_parts}
-use Rattle.mql_types.specs.Meaning.{load_of, points_reached, rows_meant}
-use Rattle.mql_types.specs.Nodes as node
-use Rattle.mql_types.specs.Nodes.{NodeTree, columns_of, level_of}
-use Rattle.mql_types.specs.declared.levels.Level.{Level}
-use Rattle.mql_types.specs.declared.levels.Level.TheVariants as level
-use Rattle.mql_types.proofs.TypedTrees.{AreRows}
+use Rattle.typed_trees.specs.Branches.{common_columns}
+use Rattle.typed_trees.specs.Groupings.{key_columns_at}
+use Rattle.typed_trees.specs.LevelLoads.{counted_if, is_zone, load_at}
+use Rattle.typed_trees.specs.Levels.{higher_level, is_leaf, meeting_level, AsRows, PartUse, TopPart, in_zone, part_or}
+use Rattle.typed_trees.specs.Levels.{top_parts}
+use Rattle.typed_trees.specs.Meaning.{load_of, points_reached, rows_meant}
+use Rattle.typed_trees.specs.Nodes as node
+use Rattle.typed_trees.specs.Nodes.{NodeTree, columns_of, level_of}
+use Rattle.typed_trees.specs.declared.levels.Level.{Level}
+use Rattle.typed_trees.specs.declared.levels.Level.TheVariants as level
+use Rattle.typed_rows.proofs.TypedTrees.{AreRows}
 use Rattle.mixer.proofs.JoinLoads.{IsClosed, local_closed, uncounted}
 use Rattle.mixer.proofs.LeafHomes.{TargetSays}
 use Rattle.mixer.proofs.PointLevels.{points_level}

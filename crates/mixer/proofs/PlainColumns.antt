@@ -9,11 +9,11 @@ use Rattle.mql_ast.specs.Trees.{ItemTree, SumTree}
 use Rattle.mql_ast.specs.declared.names.Name.{Name}
 use Rattle.mql_ast.specs.declared.operations.Aggregate.{Aggregate}
 use Rattle.mql_ast.specs.declared.operations.FoldWord.{FoldWord}
-use Rattle.mql_types.specs.Groupings.{aggregate_column, aggregate_columns, aggregate_name, aggregated_column}
-use Rattle.mql_types.specs.Groupings.{folded_column}
-use Rattle.mql_types.specs.Items.{column_alone, item_column, item_name, plain_column, renamed_column, sum_column}
-use Rattle.mql_types.specs.Items.{sum_width}
-use Rattle.mql_types.proofs.MadeCells.{all-filter_map}
+use Rattle.typed_trees.specs.Groupings.{aggregate_column, aggregate_columns, aggregate_name, aggregated_column}
+use Rattle.typed_trees.specs.Groupings.{folded_column}
+use Rattle.typed_trees.specs.Items.{column_alone, item_column, item_name, plain_column, renamed_column, sum_column}
+use Rattle.typed_trees.specs.Items.{sum_width}
+use Rattle.typed_rows.proofs.MadeCells.{all-filter_map}
 use Rattle.mixer.proofs.HeldCells.{HasNoAnchor}
 use Rattle.mon_value.proofs.PlainLemmas.{nothing_is, same_item}
 

@@ -3,10 +3,10 @@ use Rattle.std.proofs.Common.{◌≡◌, ◌∙◌}
 use Rattle.mon_value.specs.declared.schemas.MetricSchema.{MetricSchema}
 use Rattle.mon_value.specs.declared.schemas.TargetSchema.{TargetSchema}
 use Rattle.mon_schema.specs.Names.{SchemaLists}
-use Rattle.mql_types.specs.Nodes as node
-use Rattle.mql_types.specs.Nodes.{NodeTree, level_of}
-use Rattle.mql_types.specs.declared.levels.Level.TheVariants as level
-use Rattle.mql_types.proofs.FetchedTrees.{ArePoints}
+use Rattle.typed_trees.specs.Nodes as node
+use Rattle.typed_trees.specs.Nodes.{NodeTree, level_of}
+use Rattle.typed_trees.specs.declared.levels.Level.TheVariants as level
+use Rattle.typed_rows.proofs.FetchedTrees.{ArePoints}
 use Rattle.mixer.proofs.LevelledTrees.{AreLevelled}
 
 -- points are fetched, filtered and aligned at leaves

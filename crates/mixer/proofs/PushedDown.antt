@@ -5,13 +5,13 @@ use Rattle.mon_value.specs.Grids.{IsLawfulGrid}
 use Rattle.mon_value.specs.declared.grids.Grid.{Grid}
 use Rattle.mon_value.specs.declared.rows.Row.{Row}
 use Rattle.mon_schema.specs.Names.{SchemaLists}
-use Rattle.mql_types.specs.LevelLoads.{is_zone, load_at}
-use Rattle.mql_types.specs.Levels.{is_leaf, in_zone, pieces_meant}
-use Rattle.mql_types.specs.Nodes.{NodeTree}
-use Rattle.mql_types.specs.declared.levels.Level.{Level}
-use Rattle.mql_types.specs.declared.levels.Level.TheVariants as level
-use Rattle.mql_types.proofs.FetchedTrees.{AllFit}
-use Rattle.mql_types.proofs.TypedTrees.{AreRows}
+use Rattle.typed_trees.specs.LevelLoads.{is_zone, load_at}
+use Rattle.typed_trees.specs.Levels.{is_leaf, in_zone, pieces_meant}
+use Rattle.typed_trees.specs.Nodes.{NodeTree}
+use Rattle.typed_trees.specs.declared.levels.Level.{Level}
+use Rattle.typed_trees.specs.declared.levels.Level.TheVariants as level
+use Rattle.typed_rows.proofs.FetchedTrees.{AllFit}
+use Rattle.typed_rows.proofs.TypedTrees.{AreRows}
 use Rattle.mixer.specs.Divisions.{ShareNoLocation}
 use Rattle.mon_meaning.specs.ReadableSlots.{ShareNoTarget}
 use Rattle.mon_schema.specs.Fits.{TellsLocation}

@@ -5,10 +5,10 @@ use Rattle.std.proofs.lemmas.List.Sums.{sum_by-append, sum_by-cons}
 use Rattle.mon_value.specs.declared.refusals.Refusal.{Refusal}
 use Rattle.mon_value.specs.declared.refusals.Refusal.TheVariants as refusal
 use Rattle.mon_value.specs.declared.rows.Row.{Row}
-use Rattle.mql_types.specs.LevelLoads.{leaf_load}
-use Rattle.mql_types.specs.Meaning.{load}
-use Rattle.mql_types.specs.Nodes.{TypedTree}
-use Rattle.mql_types.proofs.JoinedRows.{all-front}
+use Rattle.typed_trees.specs.LevelLoads.{leaf_load}
+use Rattle.typed_trees.specs.Meaning.{load}
+use Rattle.typed_trees.specs.Nodes.{TypedTree}
+use Rattle.typed_rows.proofs.JoinedRows.{all-front}
 use Rattle.mon_fold.specs.declared.answers.LeafAnswer.{LeafAnswer}
 use Rattle.mon_meaning.specs.Central.{IsRefusedBy}
 use Rattle.mon_meaning.specs.LeafAnswers.{IsRefusedByLeaf, load_in_leaf}

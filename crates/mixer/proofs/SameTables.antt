@@ -5,11 +5,11 @@ use Rattle.std.proofs.lemmas.List.Sorted.{IsPermutation-append, IsPermutation-re
 use Rattle.mon_value.specs.declared.tables.TimedRow.{TimedRow}
 use Rattle.mon_value.proofs.PermutationLemmas.{filter-permutation}
 use Rattle.mql_ast.specs.Rows.{predicate_truth}
-use Rattle.mql_types.specs.Meaning.{value_row}
-use Rattle.mql_types.specs.Nodes as node
-use Rattle.mql_types.specs.Nodes.{NodeTree, columns_of}
-use Rattle.mql_types.specs.Levels.{PieceMeant}
-use Rattle.mql_types.specs.declared.levels.Level.{Level}
+use Rattle.typed_trees.specs.Meaning.{value_row}
+use Rattle.typed_trees.specs.Nodes as node
+use Rattle.typed_trees.specs.Nodes.{NodeTree, columns_of}
+use Rattle.typed_trees.specs.Levels.{PieceMeant}
+use Rattle.typed_trees.specs.declared.levels.Level.{Level}
 use Rattle.mon_meaning.proofs.FilterLemmas.{filter_map-permutation}
 use Rattle.mon_meaning.proofs.OperationOrders.{group_rows-permutation, pairs-permutation, top_rows-permutation}
 use Rattle.mixer.specs.Mixing.{SamePieces, first_table, part_count, parts_mixed, piece_rows, rows_mixed}

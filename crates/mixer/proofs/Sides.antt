@@ -14,9 +14,9 @@ use Rattle.mon_value.proofs.SameLemmas.{same_series-Decides, same_text-Decides}
 use Rattle.mon_schema.specs.Fits.{fields_fit, fits, fits_both, TellsLocation}
 use Rattle.mon_schema.specs.Names.{SchemaLists, metric_named, target_named}
 use Rattle.mon_topo.specs.Locations.{location_of}
-use Rattle.mql_types.proofs.FetchedPoints.{row_of_schemas}
-use Rattle.mql_types.proofs.FetchedTrees.{AllFit}
-use Rattle.mql_types.proofs.JoinedRows.{all-map}
+use Rattle.typed_rows.proofs.FetchedPoints.{row_of_schemas}
+use Rattle.typed_rows.proofs.FetchedTrees.{AllFit}
+use Rattle.typed_rows.proofs.JoinedRows.{all-map}
 use Rattle.mixer.specs.Divisions.{ShareNoLocation, has_location, lies_at, together}
 use Rattle.mon_meaning.specs.ReadableSlots.{ShareNoTarget, has_target}
 use Rattle.mixer.proofs.LeafHomes.{IsItself, TargetSays, target_field}

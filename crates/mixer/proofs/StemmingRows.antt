@@ -16,13 +16,13 @@ use Rattle.mon_value.proofs.SameLemmas.{same_row-Decides}
 use Rattle.mon_schema.specs.Names.{SchemaLists}
 use Rattle.mql_ast.specs.Rows.{meets_no_values, sum_value}
 use Rattle.mql_ast.specs.Trees.{ItemTree}
-use Rattle.mql_types.specs.Branches.{common_columns, join_columns, same_columns, union_columns}
-use Rattle.mql_types.specs.Groupings.{key_columns_at}
-use Rattle.mql_types.specs.Items.{key_columns}
-use Rattle.mql_types.specs.Levels.{is_location_anchor, same_anchor}
-use Rattle.mql_types.specs.Meaning.{key_cells, value_row}
-use Rattle.mql_types.proofs.JoinedRows.{all-flat_map, all-made, all-map}
-use Rattle.mql_types.proofs.MadeCells.{all-filter_map}
+use Rattle.typed_trees.specs.Branches.{common_columns, join_columns, same_columns, union_columns}
+use Rattle.typed_trees.specs.Groupings.{key_columns_at}
+use Rattle.typed_trees.specs.Items.{key_columns}
+use Rattle.typed_trees.specs.Levels.{is_location_anchor, same_anchor}
+use Rattle.typed_trees.specs.Meaning.{key_cells, value_row}
+use Rattle.typed_rows.proofs.JoinedRows.{all-flat_map, all-made, all-map}
+use Rattle.typed_rows.proofs.MadeCells.{all-filter_map}
 use Rattle.mon_meaning.proofs.ApartKeys.{all_keys}
 use Rattle.mixer.proofs.HeldCells as held_cells
 use Rattle.mixer.proofs.HeldCells.{HasNoAnchor, Holds, Stems, Tell}

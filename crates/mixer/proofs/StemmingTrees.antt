@@ -30,22 +30,22 @@ use Rattle.mon_schema.specs.Fits.{field_fits, fields_fit}
 use Rattle.mon_schema.specs.Names.{SchemaLists, target_named}
 use Rattle.mql_ast.specs.Trees.{ItemTree}
 use Rattle.mql_ast.specs.Rows.{predicate_truth}
-use Rattle.mql_types.specs.Fetches.{columns_fetched, key_column, target_columns, value_column}
-use Rattle.mql_types.specs.Groupings.{aggregate_columns, key_columns_at}
-use Rattle.mql_types.specs.Items.{item_column}
-use Rattle.mql_types.specs.Levels.{is_location_anchor, same_anchor}
-use Rattle.mql_types.specs.Meaning.{aligned_rows, is_fetched, is_point_kept, points_meant, rows_meant, value_row}
-use Rattle.mql_types.specs.Nodes as node
-use Rattle.mql_types.specs.Nodes.{NodeTree, columns_of, level_of}
-use Rattle.mql_types.specs.Typing.{aligned_column, aligned_width}
-use Rattle.mql_types.specs.Branches.{with_width}
-use Rattle.mql_types.specs.declared.levels.Level.{Level}
-use Rattle.mql_types.specs.declared.nodes.NodeInfo.{NodeInfo}
-use Rattle.mql_types.proofs.FetchedPoints.{IsRowOf, columns_split, series_columns}
-use Rattle.mql_types.proofs.FetchedTrees.{AllFit, ArePoints, columns_fetched_are, points_of_schemas}
-use Rattle.mql_types.proofs.JoinedRows.{all-flat_map, all-made, all-map}
-use Rattle.mql_types.proofs.KeptRows.{all-filter}
-use Rattle.mql_types.proofs.TypedTrees.{AlignOf, AreRows, GroupOf, ValueOf}
+use Rattle.typed_trees.specs.Fetches.{columns_fetched, key_column, target_columns, value_column}
+use Rattle.typed_trees.specs.Groupings.{aggregate_columns, key_columns_at}
+use Rattle.typed_trees.specs.Items.{item_column}
+use Rattle.typed_trees.specs.Levels.{is_location_anchor, same_anchor}
+use Rattle.typed_trees.specs.Meaning.{aligned_rows, is_fetched, is_point_kept, points_meant, rows_meant, value_row}
+use Rattle.typed_trees.specs.Nodes as node
+use Rattle.typed_trees.specs.Nodes.{NodeTree, columns_of, level_of}
+use Rattle.typed_trees.specs.Typing.{aligned_column, aligned_width}
+use Rattle.typed_trees.specs.Branches.{with_width}
+use Rattle.typed_trees.specs.declared.levels.Level.{Level}
+use Rattle.typed_trees.specs.declared.nodes.NodeInfo.{NodeInfo}
+use Rattle.typed_rows.proofs.FetchedPoints.{IsRowOf, columns_split, series_columns}
+use Rattle.typed_rows.proofs.FetchedTrees.{AllFit, ArePoints, columns_fetched_are, points_of_schemas}
+use Rattle.typed_rows.proofs.JoinedRows.{all-flat_map, all-made, all-map}
+use Rattle.typed_rows.proofs.KeptRows.{all-filter}
+use Rattle.typed_rows.proofs.TypedTrees.{AlignOf, AreRows, GroupOf, ValueOf}
 use Rattle.mon_meaning.proofs.ApartKeys.{all_keys}
 use Rattle.mixer.proofs.HeldCells as held_cells
 use Rattle.mixer.proofs.HeldCells.{Holds, SaysIf, Stems}

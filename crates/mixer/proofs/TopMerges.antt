@@ -13,14 +13,14 @@ use Rattle.mon_value.specs.declared.tables.TimedRow.{TimedRow}
 use Rattle.mon_value.proofs.KeyedLemmas as keyed
 use Rattle.mon_value.proofs.SameLemmas.{same_row-Decides}
 use Rattle.mon_value.proofs.SortingLemmas.{sorted_list-permutation}
-use Rattle.mql_types.proofs.JoinedRows.{all-map}
-use Rattle.mql_types.proofs.KeptRows.{all-sorted, all-take}
+use Rattle.typed_rows.proofs.JoinedRows.{all-map}
+use Rattle.typed_rows.proofs.KeptRows.{all-sorted, all-take}
 use Rattle.mon_meaning.proofs.FilterLemmas.{flat_map-agree}
 use Rattle.mon_meaning.proofs.KeyOrders as orders
 use Rattle.mon_meaning.proofs.OperationOrders.{rank_exact, rank_total, top_rows-permutation}
 use Rattle.mon_meaning.proofs.ApartKeys.{all_keys}
 use Rattle.mixer.proofs.TopParts.{block_keys, firsts_append, no_block, one_block}
-use Rattle.mql_types.proofs.GroupedRows.{each_has_rows}
+use Rattle.typed_rows.proofs.GroupedRows.{each_has_rows}
 use Rattle.mon_value.proofs.PlainLemmas.{take_nothing}
 use Rattle.mixer.proofs.MixedTrees.{take_none}
 

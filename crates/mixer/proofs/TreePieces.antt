@@ -11,12 +11,12 @@ use Rattle.mon_value.specs.declared.rows.Row.{Row}
 use Rattle.mon_value.specs.declared.tables.TimedRow.{TimedRow}
 use Rattle.mon_value.proofs.PermutationLemmas.{filter-permutation}
 use Rattle.mql_ast.specs.Rows.{predicate_truth}
-use Rattle.mql_types.specs.Meaning.{rows_meant, value_row}
-use Rattle.mql_types.specs.Nodes as node
-use Rattle.mql_types.specs.Nodes.{NodeTree, columns_of, level_of}
-use Rattle.mql_types.specs.Levels as up
-use Rattle.mql_types.specs.Levels.{PartUse, TopPart, part_or, top_parts}
-use Rattle.mql_types.specs.declared.levels.Level.{Level}
+use Rattle.typed_trees.specs.Meaning.{rows_meant, value_row}
+use Rattle.typed_trees.specs.Nodes as node
+use Rattle.typed_trees.specs.Nodes.{NodeTree, columns_of, level_of}
+use Rattle.typed_trees.specs.Levels as up
+use Rattle.typed_trees.specs.Levels.{PartUse, TopPart, part_or, top_parts}
+use Rattle.typed_trees.specs.declared.levels.Level.{Level}
 use Rattle.mon_fold.proofs.PartialGroupLemmas.{groups_finish}
 use Rattle.mon_fold.specs.PartialGroups.{GroupsSoFar, row_finished}
 use Rattle.mon_fold.specs.declared.answers.Piece.{Piece}

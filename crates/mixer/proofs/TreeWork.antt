@@ -9,13 +9,13 @@ use Rattle.mon_value.specs.declared.grids.Grid.{Grid}
 use Rattle.mon_value.specs.declared.rows.Row.{Row}
 use Rattle.mon_value.specs.declared.tables.TimedRow.{TimedRow}
 use Rattle.mql_ast.specs.Rows.{CanCompute}
-use Rattle.mql_types.specs.Meaning.{load_of}
-use Rattle.mql_types.specs.Nodes as node
-use Rattle.mql_types.specs.Nodes.{NodeTree, columns_of, level_of}
-use Rattle.mql_types.specs.Levels as up
-use Rattle.mql_types.specs.Levels.{PartUse, TopPart, part_or, top_parts}
-use Rattle.mql_types.specs.Soundness.{IsEvaluable, IsWithinRows}
-use Rattle.mql_types.specs.declared.levels.Level.{Level}
+use Rattle.typed_trees.specs.Meaning.{load_of}
+use Rattle.typed_trees.specs.Nodes as node
+use Rattle.typed_trees.specs.Nodes.{NodeTree, columns_of, level_of}
+use Rattle.typed_trees.specs.Levels as up
+use Rattle.typed_trees.specs.Levels.{PartUse, TopPart, part_or, top_parts}
+use Rattle.typed_trees.specs.Soundness.{IsEvaluable, IsWithinRows}
+use Rattle.typed_trees.specs.declared.levels.Level.{Level}
 use Rattle.mon_fold.specs.declared.answers.Piece.{Piece}
 use Rattle.mon_meaning.specs.LeafAnswers.{parts_load}
 use Rattle.mon_meaning.proofs.FilterLemmas.{all-permutation}

@@ -17,14 +17,14 @@ use Rattle.mon_value.specs.declared.values.ValueType.{ValueType}
 use Rattle.mon_value.specs.declared.values.ValueType.TheVariants as type
 use Rattle.mql_ast.specs.Rows.{meets_no_values, sum_value}
 use Rattle.mql_ast.specs.Trees.{SumTree}
-use Rattle.mql_types.specs.Groupings.{as_key, key_at, key_columns_at}
-use Rattle.mql_types.specs.Items.{operand_faults, plain_column, renamed_column, sum_width}
-use Rattle.mql_types.proofs.FoldedValues.{Folded, greatest_folded, least_folded, mean_folded, merge_folded, sum_folded}
-use Rattle.mql_types.proofs.JoinedRows.{all-map}
-use Rattle.mql_types.proofs.KnownSums.{KnownNumber, cell_of, number_known, width_known}
-use Rattle.mql_types.proofs.MadeCells.{all-filter_map, is_there}
+use Rattle.typed_trees.specs.Groupings.{as_key, key_at, key_columns_at}
+use Rattle.typed_trees.specs.Items.{operand_faults, plain_column, renamed_column, sum_width}
+use Rattle.typed_rows.proofs.FoldedValues.{Folded, greatest_folded, least_folded, mean_folded, merge_folded, sum_folded}
+use Rattle.typed_rows.proofs.JoinedRows.{all-map}
+use Rattle.typed_rows.proofs.KnownSums.{KnownNumber, cell_of, number_known, width_known}
+use Rattle.typed_rows.proofs.MadeCells.{all-filter_map, is_there}
 use Rattle.mon_value.proofs.PlainLemmas.{same_item}
-use Rattle.mql_types.proofs.FoldedColumns.{cons_some}
+use Rattle.typed_rows.proofs.FoldedColumns.{cons_some}
 
 -- a column and a cell of its type, both of which are there
 abbrev pub TypedCell : Option Column → Option Value → Type 0

@@ -24,27 +24,27 @@ use Rattle.mql_ast.specs.declared.names.Name.{Name}
 use Rattle.mql_ast.specs.declared.operations.Aggregate.{Aggregate}
 use Rattle.mql_ast.specs.declared.operations.FoldWord.{FoldWord}
 use Rattle.mql_ast.specs.declared.operations.FoldWord.TheVariants as fold
-use Rattle.mql_types.specs.Groupings.{aggregate_at, aggregate_column, aggregate_columns, aggregate_faults}
-use Rattle.mql_types.specs.Groupings.{aggregate_name, aggregate_of, aggregates_over, aggregated_column, fold_kind}
-use Rattle.mql_types.specs.Groupings.{folded_column, folded_faults, key_columns_at, place_found}
-use Rattle.mql_types.specs.Groupings as grouping
-use Rattle.mql_types.specs.Items.{item_column, item_name, item_sum_faults, key_columns, plain_column}
-use Rattle.mql_types.specs.Meaning.{key_cells, value_row}
-use Rattle.mql_types.specs.Soundness.{CountsRows}
-use Rattle.mql_types.specs.Branches.{count_width}
-use Rattle.mql_types.proofs.FoldedColumns.{fold_made, over_is, no_count}
-use Rattle.mql_types.proofs.JoinedRows.{FitColumns-append, all-map}
-use Rattle.mql_types.proofs.KeptRows.{all-filter}
-use Rattle.mql_types.proofs.MadeCells.{kept_shaped}
-use Rattle.mql_types.proofs.SumBounds.{AreLawful}
-use Rattle.mql_types.proofs.GroupedRows.{each_has_rows}
+use Rattle.typed_trees.specs.Groupings.{aggregate_at, aggregate_column, aggregate_columns, aggregate_faults}
+use Rattle.typed_trees.specs.Groupings.{aggregate_name, aggregate_of, aggregates_over, aggregated_column, fold_kind}
+use Rattle.typed_trees.specs.Groupings.{folded_column, folded_faults, key_columns_at, place_found}
+use Rattle.typed_trees.specs.Groupings as grouping
+use Rattle.typed_trees.specs.Items.{item_column, item_name, item_sum_faults, key_columns, plain_column}
+use Rattle.typed_trees.specs.Meaning.{key_cells, value_row}
+use Rattle.typed_trees.specs.Soundness.{CountsRows}
+use Rattle.typed_trees.specs.Branches.{count_width}
+use Rattle.typed_rows.proofs.FoldedColumns.{fold_made, over_is, no_count}
+use Rattle.typed_rows.proofs.JoinedRows.{FitColumns-append, all-map}
+use Rattle.typed_rows.proofs.KeptRows.{all-filter}
+use Rattle.typed_rows.proofs.MadeCells.{kept_shaped}
+use Rattle.typed_rows.proofs.SumBounds.{AreLawful}
+use Rattle.typed_rows.proofs.GroupedRows.{each_has_rows}
 use Rattle.mon_meaning.proofs.ApartKeys.{all_keys}
 use Rattle.mixer.proofs.TypedCells.{AreTyped, TypedCell, alone_typed, aggregate_typed, cells_typed, cons_typed}
 use Rattle.mixer.proofs.TypedCells.{count_typed, keys_typed, sum_typed}
 use Rattle.mon_value.proofs.PlainLemmas.{nothing_is, same_item}
-use Rattle.mql_types.proofs.FetchColumnLemmas.{both_none}
-use Rattle.mql_types.proofs.ValueRows.{row_by}
-use Rattle.mql_types.proofs.TypedGridLemmas.{no_test}
+use Rattle.typed_trees.proofs.FetchColumnLemmas.{both_none}
+use Rattle.typed_rows.proofs.ValueRows.{row_by}
+use Rattle.typed_rows.proofs.TypedGridLemmas.{no_test}
 
 -- ---- aggregates
 

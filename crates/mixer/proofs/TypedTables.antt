@@ -23,26 +23,26 @@ use Rattle.mon_value.specs.declared.values.ValueType.TheVariants as type
 use Rattle.mon_schema.specs.Names.{SchemaLists}
 use Rattle.mql_ast.specs.Trees.{ItemTree}
 use Rattle.mql_ast.specs.Rows.{predicate_truth}
-use Rattle.mql_types.specs.Branches.{join_columns, union_columns, with_width}
-use Rattle.mql_types.specs.Fetches.{value_column}
-use Rattle.mql_types.specs.Groupings.{aggregate_columns, key_columns_at}
-use Rattle.mql_types.specs.Items.{value_columns}
-use Rattle.mql_types.specs.Meaning.{series_cells, aligned_rows, points_meant, rows_meant, value_row}
-use Rattle.mql_types.specs.Nodes as node
-use Rattle.mql_types.specs.Nodes.{NodeTree, columns_of}
-use Rattle.mql_types.specs.Typing.{aligned_column, aligned_width}
-use Rattle.mql_types.specs.declared.nodes.NodeInfo.{NodeInfo}
-use Rattle.mql_types.proofs.AlignedRows.{SeriesFits, aligned_are, series_fit}
-use Rattle.mql_types.proofs.AlignedValues.{aligned_fit}
-use Rattle.mql_types.proofs.FetchedPoints.{series_columns, series_typed}
-use Rattle.mql_types.proofs.FetchedTrees.{AllFit, columns_fetched_are, points_of_schemas}
-use Rattle.mql_types.proofs.JoinedRows.{FitColumns-append, all-flat_map, all-made, all-map}
-use Rattle.mql_types.proofs.KeptRows.{all-filter, all-sorted, all-take}
-use Rattle.mql_types.proofs.MadeCells.{all-filter_map, length_fit}
-use Rattle.mql_types.proofs.SumBounds.{AreLawful}
-use Rattle.mql_types.proofs.TypedTrees.{AlignOf, AreRows, GroupOf, ValueOf, lawful_columns}
-use Rattle.mql_types.proofs.UnitedRows.{left_fits, right_fits}
-use Rattle.mql_types.proofs.JoinedRows.{pair_fits}
+use Rattle.typed_trees.specs.Branches.{join_columns, union_columns, with_width}
+use Rattle.typed_trees.specs.Fetches.{value_column}
+use Rattle.typed_trees.specs.Groupings.{aggregate_columns, key_columns_at}
+use Rattle.typed_trees.specs.Items.{value_columns}
+use Rattle.typed_trees.specs.Meaning.{series_cells, aligned_rows, points_meant, rows_meant, value_row}
+use Rattle.typed_trees.specs.Nodes as node
+use Rattle.typed_trees.specs.Nodes.{NodeTree, columns_of}
+use Rattle.typed_trees.specs.Typing.{aligned_column, aligned_width}
+use Rattle.typed_trees.specs.declared.nodes.NodeInfo.{NodeInfo}
+use Rattle.typed_rows.proofs.AlignedRows.{SeriesFits, aligned_are, series_fit}
+use Rattle.typed_rows.proofs.AlignedValues.{aligned_fit}
+use Rattle.typed_rows.proofs.FetchedPoints.{series_columns, series_typed}
+use Rattle.typed_rows.proofs.FetchedTrees.{AllFit, columns_fetched_are, points_of_schemas}
+use Rattle.typed_rows.proofs.JoinedRows.{FitColumns-append, all-flat_map, all-made, all-map}
+use Rattle.typed_rows.proofs.KeptRows.{all-filter, all-sorted, all-take}
+use Rattle.typed_rows.proofs.MadeCells.{all-filter_map, length_fit}
+use Rattle.typed_rows.proofs.SumBounds.{AreLawful}
+use Rattle.typed_rows.proofs.TypedTrees.{AlignOf, AreRows, GroupOf, ValueOf, lawful_columns}
+use Rattle.typed_rows.proofs.UnitedRows.{left_fits, right_fits}
+use Rattle.typed_rows.proofs.JoinedRows.{pair_fits}
 use Rattle.mixer.proofs.LocalTrees.{MakesWhole}
 use Rattle.mixer.proofs.StemmingRows.{AreWhole}
 use Rattle.mixer.proofs.TypedCells.{AreTyped}

@@ -9,14 +9,14 @@ use Rattle.mon_value.specs.Values.{greatest_sum}
 use Rattle.mon_value.specs.declared.grids.Grid.{Grid}
 use Rattle.mon_value.specs.declared.rows.Row.{Row}
 use Rattle.mon_schema.specs.Names.{SchemaLists}
-use Rattle.mql_types.specs.Meaning.{load_of, rows_meant}
-use Rattle.mql_types.specs.Nodes.{NodeTree, columns_of}
-use Rattle.mql_types.specs.Levels.{TopPart, piece_meant, pieces_meant, top_parts}
-use Rattle.mql_types.specs.Soundness.{IsWithinRows}
-use Rattle.mql_types.specs.declared.levels.Level.{Level}
-use Rattle.mql_types.proofs.FetchedTrees.{AllFit}
-use Rattle.mql_types.proofs.JoinedRows.{all-front}
-use Rattle.mql_types.proofs.RowCounts.{rows_within_load}
+use Rattle.typed_trees.specs.Meaning.{load_of, rows_meant}
+use Rattle.typed_trees.specs.Nodes.{NodeTree, columns_of}
+use Rattle.typed_trees.specs.Levels.{TopPart, piece_meant, pieces_meant, top_parts}
+use Rattle.typed_trees.specs.Soundness.{IsWithinRows}
+use Rattle.typed_trees.specs.declared.levels.Level.{Level}
+use Rattle.typed_rows.proofs.FetchedTrees.{AllFit}
+use Rattle.typed_rows.proofs.JoinedRows.{all-front}
+use Rattle.typed_rows.proofs.RowCounts.{rows_within_load}
 use Rattle.mon_fold.specs.declared.answers.Piece.{Piece}
 use Rattle.mon_meaning.specs.LeafAnswers.{parts_load}
 use Rattle.mon_meaning.proofs.StandingPieces.{up-permutation}

@@ -23,8 +23,8 @@ use Rattle.mon_schema.specs.Faults.{is_location, is_text_field}
 use Rattle.mon_schema.specs.Fits.{field_fits, fields_fit, TellsLocation}
 use Rattle.mon_schema.specs.Names.{SchemaLists, target_named}
 use Rattle.mon_topo.specs.Locations.{location_in, location_of, text_in_field}
-use Rattle.mql_types.specs.Levels.{have_fields, is_anchored, is_located, is_location_anchor, marks_location}
-use Rattle.mql_types.specs.Levels.{names_target, same_anchor, tell_target}
+use Rattle.typed_trees.specs.Levels.{have_fields, is_anchored, is_located, is_location_anchor, marks_location}
+use Rattle.typed_trees.specs.Levels.{names_target, same_anchor, tell_target}
 use Rattle.mixer.proofs.AnchorLemmas.{found_in, name_is, same_anchor-is}
 use Rattle.mixer.proofs.HeldCells.{SaysIf, Tell}
 use Rattle.mon_value.proofs.PlainLemmas.{nothing_is, and_both, same_item}

@@ -6,12 +6,12 @@ use Rattle.std.proofs.lemmas.Grind.{flat_map-append}
 use Rattle.std.proofs.lemmas.List.Sums.{sum_by-append, sum_by-cons}
 use Rattle.mon_value.specs.declared.grids.Grid.{Grid}
 use Rattle.mon_value.specs.declared.rows.Row.{Row}
-use Rattle.mql_types.specs.Levels.{is_leaf, AsRows, PartUse, ToCut, ToGroup, TopPart, part_or, top_parts}
-use Rattle.mql_types.specs.Meaning.{load_of, rows_meant}
-use Rattle.mql_types.specs.Nodes as node
-use Rattle.mql_types.specs.Nodes.{NodeTree, columns_of, level_of}
-use Rattle.mql_types.specs.Soundness.{IsEvaluable, IsWithinRows}
-use Rattle.mql_types.specs.declared.levels.Level.{Level}
+use Rattle.typed_trees.specs.Levels.{is_leaf, AsRows, PartUse, ToCut, ToGroup, TopPart, part_or, top_parts}
+use Rattle.typed_trees.specs.Meaning.{load_of, rows_meant}
+use Rattle.typed_trees.specs.Nodes as node
+use Rattle.typed_trees.specs.Nodes.{NodeTree, columns_of, level_of}
+use Rattle.typed_trees.specs.Soundness.{IsEvaluable, IsWithinRows}
+use Rattle.typed_trees.specs.declared.levels.Level.{Level}
 use Rattle.mon_fold.specs.declared.answers.Piece.{Piece}
 use Rattle.mon_meaning.specs.GoingUp.{CanGoUp}
 use Rattle.mon_meaning.specs.Standing.{AllStandFor, StandsFor}

@@ -1,7 +1,7 @@
 -- A part more that a zone hands up.
 use Rattle.std.proofs.Common.{◌≡◌, ◌≤◌, ℕ, ◌+◌, Bool, true, false, List, ◌∷◌, ap, arith}
-use Rattle.mql_types.specs.Levels.{is_leaf, TopPart}
-use Rattle.mql_types.specs.Nodes.{level_of}
+use Rattle.typed_trees.specs.Levels.{is_leaf, TopPart}
+use Rattle.typed_trees.specs.Nodes.{level_of}
 use Rattle.mon_fold.specs.declared.answers.Piece.{Piece}
 use Rattle.mixer.specs.within.Mixtures.{joins_from}
 use Rattle.mixer.specs.within.ZonePieces.{CanHandUp, CanHandUpAll, CanHandUpBy, behind_part, joins_of_parts}

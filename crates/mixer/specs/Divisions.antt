@@ -8,8 +8,8 @@ use Rattle.mon_value.specs.declared.rows.Row.{Row}
 use Rattle.mon_schema.specs.Fits.{TellsLocation}
 use Rattle.mon_schema.specs.Names.{SchemaLists}
 use Rattle.mon_topo.specs.Locations.{location_of}
-use Rattle.mql_types.specs.Nodes.{TypedTree}
-use Rattle.mql_types.specs.Soundness.{IsTyped}
+use Rattle.typed_trees.specs.Nodes.{TypedTree}
+use Rattle.typed_trees.specs.Soundness.{IsTyped}
 
 abbrev pub lies_at : SchemaLists → List ℕ → Row → Bool
 lies_at held location row = option_map_or (same_text location) (location_of held row.key.target) false

@@ -10,12 +10,12 @@ use Rattle.mon_value.specs.declared.rows.Row.{Row}
 use Rattle.mon_value.specs.declared.tables.TimedRow.{TimedRow}
 use Rattle.mql_ast.specs.Rows.{predicate_truth}
 use Rattle.mixer.specs.Divisions.{all_rows, together}
-use Rattle.mql_types.specs.LevelLoads.{counted_if, is_zone, leaf_load, root_load, zone_load}
-use Rattle.mql_types.specs.Levels.{is_leaf, is_root, PieceMeant, in_zone, leaf_part, top_parts}
-use Rattle.mql_types.specs.Meaning.{value_row}
-use Rattle.mql_types.specs.Nodes as node
-use Rattle.mql_types.specs.Nodes.{NodeTree, TypedTree, columns_of}
-use Rattle.mql_types.specs.declared.levels.Level.{Level}
+use Rattle.typed_trees.specs.LevelLoads.{counted_if, is_zone, leaf_load, root_load, zone_load}
+use Rattle.typed_trees.specs.Levels.{is_leaf, is_root, PieceMeant, in_zone, leaf_part, top_parts}
+use Rattle.typed_trees.specs.Meaning.{value_row}
+use Rattle.typed_trees.specs.Nodes as node
+use Rattle.typed_trees.specs.Nodes.{NodeTree, TypedTree, columns_of}
+use Rattle.typed_trees.specs.declared.levels.Level.{Level}
 
 -- ---- pieces of several children
 

@@ -3,11 +3,11 @@ use Rattle.std.specs.Prelude.{◌≡◌, ◌<◌, ◌≤◌, ◌≤ℤ◌, ℕ, 
 use Rattle.mon_value.specs.declared.refusals.Refusal.{Refusal}
 use Rattle.mon_value.specs.declared.refusals.Refusal.TheVariants as refusal
 use Rattle.mon_value.specs.declared.rows.Row.{Row}
-use Rattle.mql_types.specs.LevelLoads.{leaf_load, zone_load}
-use Rattle.mql_types.specs.Meaning.{grid_of}
-use Rattle.mql_types.specs.Nodes.{TypedTree}
-use Rattle.mql_types.specs.Levels.{in_zone, top_parts}
-use Rattle.mql_types.specs.Soundness.{IsTyped}
+use Rattle.typed_trees.specs.LevelLoads.{leaf_load, zone_load}
+use Rattle.typed_trees.specs.Meaning.{grid_of}
+use Rattle.typed_trees.specs.Nodes.{TypedTree}
+use Rattle.typed_trees.specs.Levels.{in_zone, top_parts}
+use Rattle.typed_trees.specs.Soundness.{IsTyped}
 use Rattle.mon_fold.specs.declared.answers.LeafAnswer.{LeafAnswer}
 use Rattle.mon_meaning.specs.LeafAnswers.{IsLeafPart}
 use Rattle.mon_meaning.specs.Standing.{AllStandFor}

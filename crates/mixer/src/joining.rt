@@ -3,8 +3,8 @@ ghost use Rattle.std.specs.Prelude.{◌≡◌, ◌++◌, IfOk, length};
 ghost use Rattle.std.specs.Vec.Iter.{into_iter_items, into_iter_len};
 ghost use Rattle.mon_fold.specs.declared.answers.Piece.TheVariants as piece;
 ghost use Rattle.std.specs.List.{AllByRecursion};
-ghost use Rattle.mql_types.specs.Nodes.{node_tree};
-ghost use Rattle.mql_types.specs.Levels as spec;
+ghost use Rattle.typed_trees.specs.Nodes.{node_tree};
+ghost use Rattle.typed_trees.specs.Levels as spec;
 ghost use Rattle.mon_meaning.specs.TopParts.{up_to};
 ghost use Rattle.mixer.specs.within.Joined.{AllCanJoin, AllStandEmpty, AreTogether, CanBeEmpty, CanJoin, CanJoinAll};
 ghost use Rattle.mixer.specs.within.Joined.{CanJoinChildren, piece_joined, pieces_joined};
@@ -13,9 +13,9 @@ ghost use Rattle.mixer.specs.within.Joined as spec_joined;
 use mon_fold::{Parts, Piece, Pieces, merge_parts};
 use mon_meaning::{piece_of, top_parts};
 use mon_value::{OutOfMemory, Table, TimedRows};
-use mql_types::{Level, Node};
 use std::alloc::Global;
 use std::vec::IntoIter;
+use typed_trees::{Level, Node};
 
 /// The pieces of all children for the topmost parts of a tree. What the first child has is moved, and the others are
 /// put to it.

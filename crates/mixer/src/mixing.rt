@@ -2,7 +2,7 @@
 ghost use Rattle.std.specs.Prelude.{◌≡◌, ◌+◌, ◌≤◌, ◌^◌, ℤ, List, map, sum_by, IfErr, IfOk, OnOk};
 ghost use Rattle.mon_value.specs.declared.limits.TheConstants.{ROW_BITS};
 ghost use Rattle.mon_value.specs.declared.rows.Row.{Row};
-ghost use Rattle.mql_types.specs.Nodes.{typed_tree};
+ghost use Rattle.typed_trees.specs.Nodes.{typed_tree};
 ghost use Rattle.mon_fold.specs.declared.answers.LeafAnswer.{LeafAnswer};
 ghost use Rattle.mon_meaning.specs.Central.{IsAnswer};
 ghost use Rattle.mon_meaning.specs.Counts.{TellsOver};
@@ -17,8 +17,8 @@ use crate::zone_pieces::zone_pieces;
 use mon_fold::{LeafAnswers, Pieces};
 use mon_meaning::{Meter, OverLimit, table_of};
 use mon_value::{Refusal, Table};
-use mql_types::{Level, Plan};
 use std::alloc::Global;
+use typed_trees::{Level, Plan};
 
 /// A zone's part of a plan, made of the answers of its leaves. It is refused exactly where the load of the leaves and
 /// of the zone's joins is above the limit, before memory for what is too much is taken.

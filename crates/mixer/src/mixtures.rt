@@ -1,8 +1,8 @@
 // The rows of a typed tree, made of the pieces of its parts.
 ghost use Rattle.std.specs.Prelude.{◌≡◌, ◌+◌, drop, length, IfErr, IfOk, OnOk};
 ghost use Rattle.std.specs.Vec.Iter.{into_iter_items, into_iter_len};
-ghost use Rattle.mql_types.specs.Nodes.{node_tree};
-ghost use Rattle.mql_types.specs.Soundness.{IsWithinRows};
+ghost use Rattle.typed_trees.specs.Nodes.{node_tree};
+ghost use Rattle.typed_trees.specs.Soundness.{IsWithinRows};
 ghost use Rattle.mon_meaning.specs.Counts.{TellsOver};
 ghost use Rattle.mon_meaning.specs.Operations as meant;
 ghost use Rattle.mon_meaning.specs.Operations.{CanOperate};
@@ -17,9 +17,9 @@ use crate::paths::way_down;
 use mon_fold::{Piece, finish_parts};
 use mon_meaning::{Meter, OverLimit, operation_rows};
 use mon_value::{OutOfMemory, Refusal, TimedRows};
-use mql_types::{Level, Node};
 use std::alloc::Global;
 use std::vec::IntoIter;
+use typed_trees::{Level, Node};
 
 /// How rows are made of pieces: which level's pieces they are.
 #[derive(Clone, Copy)]

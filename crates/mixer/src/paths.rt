@@ -1,14 +1,14 @@
 // The way down a typed tree to the first of the parts of which there are pieces.
 ghost use Rattle.std.specs.Prelude.{◌≡◌, true, IfOk, IfSome, IsNone};
-ghost use Rattle.mql_types.specs.Nodes.{node_tree};
+ghost use Rattle.typed_trees.specs.Nodes.{node_tree};
 ghost use Rattle.mon_meaning.specs.TopParts.{up_to};
 ghost use Rattle.mon_meaning.specs.within.Paths.{trees_of};
 ghost use Rattle.mixer.specs.within.Mixtures.{IsInput, IsWayDown, is_piece};
 
 use mon_meaning::{input_of, is_up_to};
 use mon_value::OutOfMemory;
-use mql_types::{Level, Node};
 use std::alloc::Global;
+use typed_trees::{Level, Node};
 
 /// The nodes from the top of a tree down to the first of which there is a piece, without that one. Each is the input,
 /// or the left side, of the one before it. A loop goes down, since a query may have many thousand operations or

@@ -2,9 +2,9 @@
 ghost use Rattle.std.specs.Prelude.{◌≡◌, ◌+◌, length, IfErr, IfOk, OnOk};
 ghost use Rattle.std.specs.Vec.Iter.{into_iter_items, into_iter_len};
 ghost use Rattle.mon_fold.specs.declared.answers.Piece.TheVariants as piece;
-ghost use Rattle.mql_types.specs.Levels.{is_leaf, in_zone};
-ghost use Rattle.mql_types.specs.Nodes.{node_tree};
-ghost use Rattle.mql_types.specs.Levels as spec;
+ghost use Rattle.typed_trees.specs.Levels.{is_leaf, in_zone};
+ghost use Rattle.typed_trees.specs.Nodes.{node_tree};
+ghost use Rattle.typed_trees.specs.Levels as spec;
 ghost use Rattle.mon_meaning.specs.Counts.{TellsOver};
 ghost use Rattle.mon_meaning.specs.TopParts.{part_seen, use_seen};
 ghost use Rattle.mixer.specs.within.Mixtures.{joins_from};
@@ -15,9 +15,9 @@ use crate::mixtures::{MixtureSetting, mixed_rows};
 use mon_fold::{Piece, Pieces};
 use mon_meaning::{GoesUp, Meter, OverLimit, TopPart, is_up_to, piece_of, top_parts, top_rows};
 use mon_value::{OutOfMemory, Refusal, Table};
-use mql_types::{Level, Node};
 use std::alloc::Global;
 use std::vec::IntoIter;
+use typed_trees::{Level, Node};
 
 /// A piece for each part of a tree that is topmost in a zone, made of those of its leaves. The pairs of joins are
 /// counted.

@@ -6,11 +6,11 @@ use Rattle.mon_value.specs.declared.refusals.Refusal.TheVariants as refusal
 use Rattle.mon_value.specs.declared.rows.Row.{Row}
 use Rattle.mon_value.specs.declared.tables.Table.{Table}
 use Rattle.mon_value.specs.declared.tables.TimedRow.{TimedRow}
-use Rattle.mql_types.proofs.FetchColumnLemmas.{fetches_have_columns}
-use Rattle.mql_types.proofs.QueryLaws.{typed_evaluable}
-use Rattle.mql_types.proofs.TypedGridLemmas.{typed_grid}
-use Rattle.mql_types.specs.Meaning.{load, grid_of, meaning}
-use Rattle.mql_types.specs.Nodes.{TypedTree, columns_of}
+use Rattle.typed_trees.proofs.FetchColumnLemmas.{fetches_have_columns}
+use Rattle.typed_rows.proofs.QueryLaws.{typed_evaluable}
+use Rattle.typed_rows.proofs.TypedGridLemmas.{typed_grid}
+use Rattle.typed_trees.specs.Meaning.{load, grid_of, meaning}
+use Rattle.typed_trees.specs.Nodes.{TypedTree, columns_of}
 use Rattle.mon_meaning.specs.Central.{IsAsked, IsMeant, IsPartAsked, IsRefusedBy}
 use Rattle.mon_meaning.specs.Counts.{TellsOver}
 use Rattle.mon_meaning.specs.declared.meter.OverLimit.{OverLimit}

@@ -6,7 +6,7 @@ use Rattle.std.proofs.lemmas.Bool.{false_from_ne_true}
 use Rattle.std.proofs.lemmas.List.{map-append}
 use Rattle.std.proofs.lemmas.List.Elements.{filter-append}
 use Rattle.mon_value.specs.Same.{items_by_key, items_with, keys_of}
-use Rattle.mql_types.proofs.KeptRows.{all-filter}
+use Rattle.typed_rows.proofs.KeptRows.{all-filter}
 
 module _ {K A : Type 0} (same : K → K → Bool) (decides : (a b : K) → Decides (same a b) (a ≡ b)) (key_of : A → K) where
   -- what holds of each item's key holds of the keys that occur

@@ -13,9 +13,9 @@ use Rattle.mon_value.specs.declared.rows.Point.{Point}
 use Rattle.mon_value.specs.declared.rows.SeriesKey.{SeriesKey}
 use Rattle.mon_value.specs.declared.values.Value.{Value}
 use Rattle.mql_ast.specs.Rows.{predicate_truth}
-use Rattle.mql_types.specs.Meaning.{lets_in, meets, names_keys, series_cells, is_fetched}
-use Rattle.mql_types.specs.Nodes as node
-use Rattle.mql_types.specs.Nodes.{NodeTree}
+use Rattle.typed_trees.specs.Meaning.{lets_in, meets, names_keys, series_cells, is_fetched}
+use Rattle.typed_trees.specs.Nodes as node
+use Rattle.typed_trees.specs.Nodes.{NodeTree}
 use Rattle.mon_meaning.specs.within.FetchViews.{FetchView, FetchesNothing, IsFetchOf, all_filters_hold, is_fetch_met}
 use Rattle.mon_meaning.specs.within.FetchViews.{keeps}
 use Rattle.mon_meaning.specs.within.FetchViews.{met_rows, points_kept}

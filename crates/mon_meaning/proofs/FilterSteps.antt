@@ -9,10 +9,10 @@ use Rattle.mon_value.specs.declared.rows.SeriesKey.{SeriesKey}
 use Rattle.mon_value.specs.declared.values.Value.{Value}
 use Rattle.mql_ast.specs.Trees.{PredicateTree}
 use Rattle.mql_ast.specs.Rows.{predicate_truth}
-use Rattle.mql_types.specs.Meaning.{meets, names_keys, series_cells}
-use Rattle.mql_types.specs.Nodes as node
-use Rattle.mql_types.specs.Nodes.{NodeTree}
-use Rattle.mql_types.specs.declared.nodes.NodeInfo.{NodeInfo}
+use Rattle.typed_trees.specs.Meaning.{meets, names_keys, series_cells}
+use Rattle.typed_trees.specs.Nodes as node
+use Rattle.typed_trees.specs.Nodes.{NodeTree}
+use Rattle.typed_trees.specs.declared.nodes.NodeInfo.{NodeInfo}
 use Rattle.mon_meaning.specs.within.FetchViews.{all_filters_hold}
 use Rattle.mon_meaning.specs.within.KeyFilters.{KeysDecide}
 use Rattle.mon_meaning.specs.within.SeriesMeaning.{flows}

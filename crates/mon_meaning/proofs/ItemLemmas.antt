@@ -13,7 +13,7 @@ use Rattle.mon_value.specs.declared.tables.TimedRow.{TimedRow}
 use Rattle.mon_value.specs.declared.values.Value.{Value}
 use Rattle.mql_ast.specs.Rows.{meets_no_values, sum_value, CanCompute, HasShares, IsTypedSum}
 use Rattle.mql_ast.specs.Trees.{ItemTree}
-use Rattle.mql_types.specs.Meaning.{key_cells, value_row}
+use Rattle.typed_trees.specs.Meaning.{key_cells, value_row}
 use Rattle.mon_meaning.specs.within.Items.{AreBound, CanMake, all_values, row_made, with_value}
 
 -- ---- lists

@@ -21,11 +21,11 @@ use Rattle.mon_schema.specs.Names.{SchemaLists, metric_named, target_named}
 use Rattle.mql_ast.specs.Rows.{place_of, is_compared, is_like, is_passed, predicate_truth}
 use Rattle.mql_ast.specs.Trees as tree
 use Rattle.mql_ast.specs.Trees.{PredicateTree}
-use Rattle.mql_types.specs.Fetches.{fetch_columns, key_column, target_columns, value_column}
-use Rattle.mql_types.specs.Meaning.{is_key_name, names_keys, series_cells}
-use Rattle.mql_types.specs.Nodes as node
-use Rattle.mql_types.specs.Nodes.{NodeTree, columns_of}
-use Rattle.mql_types.specs.Plans.{HasFetchColumns}
+use Rattle.typed_trees.specs.Fetches.{fetch_columns, key_column, target_columns, value_column}
+use Rattle.typed_trees.specs.Meaning.{is_key_name, names_keys, series_cells}
+use Rattle.typed_trees.specs.Nodes as node
+use Rattle.typed_trees.specs.Nodes.{NodeTree, columns_of}
+use Rattle.typed_trees.specs.Plans.{HasFetchColumns}
 use Rattle.mon_meaning.specs.within.KeyFilters.{KeysDecide, fetches_series}
 
 -- ---- cells in front of the value

@@ -19,9 +19,9 @@ use Rattle.mon_value.specs.declared.rows.SeriesKey.{SeriesKey}
 use Rattle.mon_value.specs.declared.tables.Table.{Table}
 use Rattle.mon_value.specs.declared.tables.TimedRow.{TimedRow}
 use Rattle.mql_ast.specs.Rows.{predicate_truth}
-use Rattle.mql_types.specs.Meaning.{load, grid_of, meaning, value_row}
-use Rattle.mql_types.specs.Nodes as node
-use Rattle.mql_types.specs.Nodes.{NodeTree, TypedTree, columns_of}
+use Rattle.typed_trees.specs.Meaning.{load, grid_of, meaning, value_row}
+use Rattle.typed_trees.specs.Nodes as node
+use Rattle.typed_trees.specs.Nodes.{NodeTree, TypedTree, columns_of}
 use Rattle.mon_meaning.specs.Central.{IsAnswer, IsRefusedBy}
 use Rattle.mon_meaning.specs.declared.meter.OverLimit.{OverLimit}
 use Rattle.mon_meaning.specs.within.SeriesMeaning.{SeriesGroup, load_by_series, reach_count, rows_by_series}

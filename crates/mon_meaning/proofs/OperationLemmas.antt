@@ -1,9 +1,9 @@
 -- What an operation makes of what flows into it, in a tree over series.
 use Rattle.std.proofs.Common.{◌≡◌, List, refl}
 use Rattle.mon_value.specs.declared.grids.Grid.{Grid}
-use Rattle.mql_types.specs.Nodes as node
-use Rattle.mql_types.specs.Nodes.{NodeTree}
-use Rattle.mql_types.specs.Soundness.{IsWithinRows}
+use Rattle.typed_trees.specs.Nodes as node
+use Rattle.typed_trees.specs.Nodes.{NodeTree}
+use Rattle.typed_trees.specs.Soundness.{IsWithinRows}
 use Rattle.mon_meaning.specs.Operations.{CanOperate, operation_rows}
 use Rattle.mon_meaning.specs.within.Paths.{first_input, other_load, other_rows}
 use Rattle.mon_meaning.specs.within.Readiness.{IsNodeReady}

@@ -5,8 +5,8 @@ use Rattle.mon_value.specs.LeafHistories.{points_by_series}
 use Rattle.mon_value.specs.declared.grids.Grid.{Grid}
 use Rattle.mon_value.specs.declared.rows.Row.{Row}
 use Rattle.mon_value.specs.declared.tables.TimedRow.{TimedRow}
-use Rattle.mql_types.specs.Meaning.{load_of, rows_meant}
-use Rattle.mql_types.specs.Nodes.{NodeTree}
+use Rattle.typed_trees.specs.Meaning.{load_of, rows_meant}
+use Rattle.typed_trees.specs.Nodes.{NodeTree}
 use Rattle.mon_meaning.specs.Central.{IsPartAsked}
 use Rattle.mon_meaning.specs.within.Readiness.{IsNodeReady}
 use Rattle.mon_meaning.specs.within.SeriesMeaning.{SeriesGroup, load_by_series, rows_by_series}

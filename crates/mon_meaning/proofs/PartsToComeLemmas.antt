@@ -4,11 +4,11 @@ use Rattle.std.proofs.Common.{refl, append-nil, append_assoc, arith}
 use Rattle.std.specs.List.{AllByRecursion}
 use Rattle.std.proofs.lemmas.Result.{on_ok_weaker}
 use Rattle.std.proofs.lemmas.List.{map-append}
-use Rattle.mql_types.specs.Nodes as node
-use Rattle.mql_types.specs.Nodes.{NodeTree, level_of}
-use Rattle.mql_types.specs.Levels as spec
-use Rattle.mql_types.specs.Levels.{part_or, top_parts}
-use Rattle.mql_types.specs.declared.levels.Level.{Level}
+use Rattle.typed_trees.specs.Nodes as node
+use Rattle.typed_trees.specs.Nodes.{NodeTree, level_of}
+use Rattle.typed_trees.specs.Levels as spec
+use Rattle.typed_trees.specs.Levels.{part_or, top_parts}
+use Rattle.typed_trees.specs.declared.levels.Level.{Level}
 use Rattle.mon_meaning.specs.declared.parts_up.TopPart.{TopPart}
 use Rattle.mon_meaning.specs.within.PartsToCome.{as_rows, nodes_left, part_nodes, part_seen, parts_left, parts_of_part}
 

@@ -13,7 +13,7 @@ use Rattle.mon_value.specs.declared.aligners.Aligner.{Aligner}
 use Rattle.mon_value.specs.declared.aligners.Aligner.TheVariants as aligner
 use Rattle.mon_value.specs.declared.grids.Grid.{Grid}
 use Rattle.mon_value.specs.declared.rows.Point.{Point}
-use Rattle.mql_types.specs.Meaning.{is_in_reach}
+use Rattle.typed_trees.specs.Meaning.{is_in_reach}
 use Rattle.mon_meaning.specs.within.Reach.{points_within_reach}
 use Rattle.mon_meaning.proofs.FilterLemmas.{filter_swap, filter_twice}
 use Rattle.mon_value.proofs.GridLemmas.{more_times}

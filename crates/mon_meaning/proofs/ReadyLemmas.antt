@@ -17,12 +17,12 @@ use Rattle.mon_value.specs.declared.tables.TimedRow.{TimedRow}
 use Rattle.mon_schema.specs.Fits.{fits}
 use Rattle.mon_schema.specs.Names.{SchemaLists}
 use Rattle.mql_ast.specs.Rows.{CanCompute}
-use Rattle.mql_types.specs.Meaning.{points_meant, rows_meant}
-use Rattle.mql_types.specs.Nodes as node
-use Rattle.mql_types.specs.Nodes.{NodeTree, columns_of}
-use Rattle.mql_types.specs.Plans.{HasFetchColumns}
-use Rattle.mql_types.specs.Plans as plan
-use Rattle.mql_types.specs.Soundness.{IsEvaluable, IsWithinRows}
+use Rattle.typed_trees.specs.Meaning.{points_meant, rows_meant}
+use Rattle.typed_trees.specs.Nodes as node
+use Rattle.typed_trees.specs.Nodes.{NodeTree, columns_of}
+use Rattle.typed_trees.specs.Plans.{HasFetchColumns}
+use Rattle.typed_trees.specs.Plans as plan
+use Rattle.typed_trees.specs.Soundness.{IsEvaluable, IsWithinRows}
 use Rattle.mon_meaning.specs.within.KeyFilters.{KeysDecide, fetches_series}
 use Rattle.mon_meaning.specs.within.Readiness.{IsNodeReady}
 use Rattle.mon_meaning.specs.within.SeriesMeaning.{SeriesGroup, points_flowing, rows_by_series}
@@ -31,7 +31,7 @@ use Rattle.mon_meaning.proofs.KeyCells.{IsKeyOf, key_fits, keys_decide}
 use Rattle.mon_meaning.proofs.OperationOrders.{CanGroup-permutation}
 use Rattle.mon_meaning.proofs.SeriesOrders.{loads, points_meant-filter, points_of-flowing, reach_counts, row_flows}
 use Rattle.mon_meaning.proofs.SeriesOrders.{rows-permutation}
-use Rattle.mql_types.proofs.JoinedRows.{all-front}
+use Rattle.typed_rows.proofs.JoinedRows.{all-front}
 
 -- ---- what holds of each row's key holds of each series
 

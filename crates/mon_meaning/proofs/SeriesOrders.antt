@@ -20,10 +20,10 @@ use Rattle.mon_value.specs.declared.rows.Row.{Row}
 use Rattle.mon_value.specs.declared.rows.SeriesKey.{SeriesKey}
 use Rattle.mon_value.specs.declared.tables.TimedRow.{TimedRow}
 use Rattle.mql_ast.specs.Rows.{predicate_truth}
-use Rattle.mql_types.specs.Meaning.{is_reached, load_of, meets, points_reached, aligned_rows, is_point_kept}
-use Rattle.mql_types.specs.Meaning.{points_meant, rows_meant, value_row, is_in_reach}
-use Rattle.mql_types.specs.Nodes as node
-use Rattle.mql_types.specs.Nodes.{NodeTree, columns_of}
+use Rattle.typed_trees.specs.Meaning.{is_reached, load_of, meets, points_reached, aligned_rows, is_point_kept}
+use Rattle.typed_trees.specs.Meaning.{points_meant, rows_meant, value_row, is_in_reach}
+use Rattle.typed_trees.specs.Nodes as node
+use Rattle.typed_trees.specs.Nodes.{NodeTree, columns_of}
 use Rattle.mon_meaning.specs.within.Reach.{points_within_reach}
 use Rattle.mon_meaning.specs.within.SeriesMeaning.{SeriesGroup, align_load, flows, load_by_series, points_flowing}
 use Rattle.mon_meaning.specs.within.SeriesMeaning.{reach_count, rows_by_series, series_rows}

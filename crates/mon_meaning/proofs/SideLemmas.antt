@@ -2,11 +2,11 @@
 use Rattle.std.proofs.Common.{◌≡◌, ◌+◌, ℕ, List, [], refl, add-zero, sym}
 use Rattle.std.specs.Global.{Box}
 use Rattle.mon_value.specs.declared.tables.TimedRow.{TimedRow}
-use Rattle.mql_types.specs.Nodes as tree
-use Rattle.mql_types.specs.Nodes.{NodeTree, node_tree}
-use Rattle.mql_types.specs.declared.nodes.Node.{Node}
-use Rattle.mql_types.specs.declared.nodes.Node.TheVariants as node
-use Rattle.mql_types.specs.declared.nodes.NodeInfo.{NodeInfo}
+use Rattle.typed_trees.specs.Nodes as tree
+use Rattle.typed_trees.specs.Nodes.{NodeTree, node_tree}
+use Rattle.typed_trees.specs.declared.nodes.Node.{Node}
+use Rattle.typed_trees.specs.declared.nodes.Node.TheVariants as node
+use Rattle.typed_trees.specs.declared.nodes.NodeInfo.{NodeInfo}
 use Rattle.mon_meaning.specs.Operations.{CanOperate, operation_load, operation_rows}
 use Rattle.mon_meaning.specs.within.Sides.{HasOneSide}
 

@@ -9,12 +9,12 @@ use Rattle.mon_value.specs.declared.columns.Column.{Column}
 use Rattle.mon_value.specs.declared.grids.Grid.{Grid}
 use Rattle.mon_value.specs.declared.rows.Row.{Row}
 use Rattle.mon_value.specs.declared.tables.TimedRow.{TimedRow}
-use Rattle.mql_types.proofs.RowCounts.{rows_within_load}
-use Rattle.mql_types.specs.Meaning.{load_of, rows_meant}
-use Rattle.mql_types.specs.Nodes as node
-use Rattle.mql_types.specs.Nodes.{NodeTree, info_of}
-use Rattle.mql_types.specs.Levels as up
-use Rattle.mql_types.specs.Levels.{PartUse, sent_of}
+use Rattle.typed_rows.proofs.RowCounts.{rows_within_load}
+use Rattle.typed_trees.specs.Meaning.{load_of, rows_meant}
+use Rattle.typed_trees.specs.Nodes as node
+use Rattle.typed_trees.specs.Nodes.{NodeTree, info_of}
+use Rattle.typed_trees.specs.Levels as up
+use Rattle.typed_trees.specs.Levels.{PartUse, sent_of}
 use Rattle.mon_fold.specs.declared.answers.Piece.{Piece}
 use Rattle.mon_fold.specs.declared.answers.Piece.TheVariants as piece
 use Rattle.mon_fold.specs.PartialGroups.{PartialGroup, GroupsSoFar, partial_groups, parts_over}

@@ -12,10 +12,10 @@ use Rattle.mon_value.specs.declared.rows.Point.{Point}
 use Rattle.mon_value.specs.declared.rows.Row.{Row}
 use Rattle.mon_value.specs.declared.rows.SeriesKey.{SeriesKey}
 use Rattle.mon_value.specs.declared.tables.Table.{Table}
-use Rattle.mql_types.specs.Meaning.{load, meaning}
-use Rattle.mql_types.specs.Nodes.{NodeTree, TypedTree, columns_of}
-use Rattle.mql_types.specs.Plans.{HasFetchColumns, fetches}
-use Rattle.mql_types.specs.Soundness.{IsEvaluable, IsTyped}
+use Rattle.typed_trees.specs.Meaning.{load, meaning}
+use Rattle.typed_trees.specs.Nodes.{NodeTree, TypedTree, columns_of}
+use Rattle.typed_trees.specs.Plans.{HasFetchColumns, fetches}
+use Rattle.typed_trees.specs.Soundness.{IsEvaluable, IsTyped}
 use Rattle.mon_schema.specs.Fits.{fits}
 use Rattle.mon_schema.specs.Names.{SchemaLists}
 use Rattle.mon_meaning.specs.declared.meter.OverLimit.{OverLimit}

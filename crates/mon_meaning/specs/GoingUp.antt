@@ -5,9 +5,9 @@ use Rattle.mon_value.specs.declared.columns.Column.{Column}
 use Rattle.mon_value.specs.declared.grids.Grid.{Grid}
 use Rattle.mon_value.specs.declared.rows.Row.{Row}
 use Rattle.mon_value.specs.declared.tables.TimedRow.{TimedRow}
-use Rattle.mql_types.specs.Meaning.{rows_meant}
-use Rattle.mql_types.specs.Levels as up
-use Rattle.mql_types.specs.Levels.{PartUse, TopPart, sent_of}
+use Rattle.typed_trees.specs.Meaning.{rows_meant}
+use Rattle.typed_trees.specs.Levels as up
+use Rattle.typed_trees.specs.Levels.{PartUse, TopPart, sent_of}
 use Rattle.mon_fold.specs.declared.answers.Piece.{Piece}
 use Rattle.mon_fold.specs.declared.answers.Piece.TheVariants as piece
 

@@ -4,9 +4,9 @@ use Rattle.mon_value.specs.declared.grids.Grid.{Grid}
 use Rattle.mon_value.specs.declared.refusals.Refusal.{Refusal}
 use Rattle.mon_value.specs.declared.refusals.Refusal.TheVariants as refusal
 use Rattle.mon_value.specs.declared.rows.Row.{Row}
-use Rattle.mql_types.specs.Levels.{is_leaf, TopPart, sent_amount, top_parts}
-use Rattle.mql_types.specs.Meaning.{load_of, grid_of}
-use Rattle.mql_types.specs.Nodes.{TypedTree}
+use Rattle.typed_trees.specs.Levels.{is_leaf, TopPart, sent_amount, top_parts}
+use Rattle.typed_trees.specs.Meaning.{load_of, grid_of}
+use Rattle.typed_trees.specs.Nodes.{TypedTree}
 use Rattle.mon_fold.specs.declared.answers.LeafAnswer.{LeafAnswer}
 use Rattle.mon_meaning.specs.Standing.{AllStandFor}
 use Rattle.mon_meaning.specs.declared.meter.OverLimit.{OverLimit}

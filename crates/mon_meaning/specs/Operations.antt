@@ -6,9 +6,9 @@ use Rattle.mon_value.specs.Groups.{CanGroup, group_rows, top_rows}
 use Rattle.mon_value.specs.declared.tables.TimedRow.{TimedRow}
 use Rattle.mql_ast.specs.Rows.{CanCompute, HasShares, IsTypedSum, predicate_truth}
 use Rattle.mql_ast.specs.Trees.{ItemTree}
-use Rattle.mql_types.specs.Meaning.{value_row}
-use Rattle.mql_types.specs.Nodes as node
-use Rattle.mql_types.specs.Nodes.{NodeTree, columns_of}
+use Rattle.typed_trees.specs.Meaning.{value_row}
+use Rattle.typed_trees.specs.Nodes as node
+use Rattle.typed_trees.specs.Nodes.{NodeTree, columns_of}
 
 -- what an operation makes of the rows of its input, or of its left side and its right one; a source passes on what it
 -- has

@@ -7,8 +7,8 @@ use Rattle.mon_value.specs.declared.rows.Target.{Target}
 use Rattle.mon_value.specs.LeafHistories.{is_opened, replica_rows}
 use Rattle.mon_value.specs.declared.histories.Entry.{Entry}
 use Rattle.mon_value.specs.declared.positions.RangeSlot.{RangeSlot}
-use Rattle.mql_types.specs.Nodes.{TypedTree}
-use Rattle.mql_types.specs.Soundness.{IsTyped}
+use Rattle.typed_trees.specs.Nodes.{TypedTree}
+use Rattle.typed_trees.specs.Soundness.{IsTyped}
 
 -- Rows that share no target.
 

@@ -8,9 +8,9 @@ use Rattle.mon_value.specs.declared.grids.Grid.{Grid}
 use Rattle.mon_value.specs.declared.rows.Row.{Row}
 use Rattle.mon_value.specs.declared.tables.Table.{Table}
 use Rattle.mon_value.specs.declared.tables.TimedRow.{TimedRow}
-use Rattle.mql_types.specs.Nodes.{columns_of}
-use Rattle.mql_types.specs.Levels as up
-use Rattle.mql_types.specs.Levels.{PieceMeant, TopPart, piece_meant}
+use Rattle.typed_trees.specs.Nodes.{columns_of}
+use Rattle.typed_trees.specs.Levels as up
+use Rattle.typed_trees.specs.Levels.{PieceMeant, TopPart, piece_meant}
 use Rattle.mon_fold.specs.PartialGroups.{GroupsSoFar, parts_of}
 use Rattle.mon_fold.specs.declared.answers.Piece.{Piece}
 use Rattle.mon_fold.specs.declared.answers.Piece.TheVariants as piece

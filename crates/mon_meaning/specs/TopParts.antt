@@ -1,10 +1,10 @@
 -- The parts of a tree of which pieces go up, as the code has them.
 use Rattle.std.specs.Prelude.{Bool, true, List, map}
-use Rattle.mql_types.specs.Levels.{is_leaf, PartUse, in_zone}
-use Rattle.mql_types.specs.Nodes.{node_tree}
-use Rattle.mql_types.specs.Levels as spec
-use Rattle.mql_types.specs.declared.levels.Level.{Level}
-use Rattle.mql_types.specs.declared.levels.Level.TheVariants as level
+use Rattle.typed_trees.specs.Levels.{is_leaf, PartUse, in_zone}
+use Rattle.typed_trees.specs.Nodes.{node_tree}
+use Rattle.typed_trees.specs.Levels as spec
+use Rattle.typed_trees.specs.declared.levels.Level.{Level}
+use Rattle.typed_trees.specs.declared.levels.Level.TheVariants as level
 use Rattle.mon_meaning.specs.declared.parts_up.GoesUp.{GoesUp}
 use Rattle.mon_meaning.specs.declared.parts_up.GoesUp.TheVariants as goes
 use Rattle.mon_meaning.specs.declared.parts_up.TopPart.{TopPart}

@@ -5,7 +5,7 @@ ghost use Rattle.mon_value.specs.Grids.{aligned_values};
 ghost use Rattle.mon_value.specs.Grids as grids;
 ghost use Rattle.mon_value.specs.Order.{row_of};
 ghost use Rattle.mon_value.specs.LeafHistories.{points_by_series};
-ghost use Rattle.mql_types.specs.Nodes.{node_tree};
+ghost use Rattle.typed_trees.specs.Nodes.{node_tree};
 ghost use Rattle.mon_meaning.specs.Central.{all_held};
 ghost use Rattle.mon_meaning.specs.Counts.{TellsOver};
 ghost use Rattle.mon_meaning.specs.within.FetchViews as views;
@@ -24,8 +24,8 @@ use mon_value::{
     Aligner, Cells, OutOfMemory, Refusal, SeriesKey, Shared, TimedRow, TimedRows, TimedValue,
     TimedValues, TryCopy, Value,
 };
-use mql_types::Node;
 use std::alloc::Global;
+use typed_trees::Node;
 
 /// The rows of an alignment. The points in reach are counted before a row is made.
 pub(crate) fn aligned_rows(

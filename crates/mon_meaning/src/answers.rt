@@ -2,9 +2,9 @@
 ghost use Rattle.std.specs.Prelude.{◌≡◌, ◌≤◌, ◌^◌, ◌≤ℤ◌, pos};
 ghost use Rattle.mon_value.specs.LeafHistories.{IsSource};
 ghost use Rattle.mon_value.specs.declared.limits.TheConstants.{ROW_BITS};
-ghost use Rattle.mql_types.specs.Meaning as meant;
-ghost use Rattle.mql_types.specs.Nodes.{typed_tree};
-ghost use Rattle.mql_types.specs.Soundness.{IsTyped};
+ghost use Rattle.typed_trees.specs.Meaning as meant;
+ghost use Rattle.typed_trees.specs.Nodes.{typed_tree};
+ghost use Rattle.typed_trees.specs.Soundness.{IsTyped};
 ghost use Rattle.mon_meaning.specs.Central.{IsAnswer};
 
 use crate::meter::{Meter, OverLimit};
@@ -12,8 +12,8 @@ use crate::operations::table_of;
 use crate::parts::part_by_series;
 use mon_series::KeptRows;
 use mon_value::{Grid, Refusal, RowList, Table};
-use mql_types::Typed;
 use std::alloc::Global;
+use typed_trees::Typed;
 
 /// The rows that a typed query means, asked at a moment over rows of any series. They are a bag: their order says
 /// nothing. It is refused exactly where its load is above the limit.

@@ -1,6 +1,6 @@
 // The rows of a typed tree.
 ghost use Rattle.std.specs.Prelude.{◌≡◌, ◌+◌, ◌≤◌, IfErr, IfOk, OnOk};
-ghost use Rattle.mql_types.specs.Nodes.{node_tree};
+ghost use Rattle.typed_trees.specs.Nodes.{node_tree};
 ghost use Rattle.mon_meaning.specs.Central.{all_held};
 ghost use Rattle.mon_meaning.specs.Counts.{TellsOver};
 ghost use Rattle.mon_meaning.specs.within.Paths as way;
@@ -15,8 +15,8 @@ use crate::same_trees::are_same_tree;
 use crate::steps::operation_rows;
 use mon_series::KeptRows;
 use mon_value::{Grid, Refusal, TimedRows, TryCopy};
-use mql_types::Node;
 use std::alloc::Global;
+use typed_trees::Node;
 
 /// What every part is evaluated over: the series, and the times of the query.
 #[derive(Clone, Copy)]

@@ -1,16 +1,16 @@
 // What flows into an alignment: a fetch, less what its filters drop.
 ghost use Rattle.std.specs.Prelude.{◌≡◌, ◌++◌, ◌∷◌, [], map, true, IfOk, OnOk};
 ghost use Rattle.mon_value.specs.Order.{field_as_value};
-ghost use Rattle.mql_types.specs.Meaning as loads;
-ghost use Rattle.mql_types.specs.Meaning.{is_fetched};
-ghost use Rattle.mql_types.specs.Nodes.{node_tree};
+ghost use Rattle.typed_trees.specs.Meaning as loads;
+ghost use Rattle.typed_trees.specs.Meaning.{is_fetched};
+ghost use Rattle.typed_trees.specs.Nodes.{node_tree};
 ghost use Rattle.mon_meaning.specs.within.FetchViews.{all_filters_hold, is_fetch_met, IsFetchFound};
 
 use mon_expr::BoundPredicate;
 use mon_value::{Cells, FieldValue, OutOfMemory, SeriesKey, Text, TryCopy, Value};
-use mql_types::{Node, names_keys};
 use std::alloc::Global;
 use std::marker::Model;
+use typed_trees::{Node, names_keys};
 
 /// A fetch with its filters. A filter that names keys alone is tried once for a series; another for each of its points.
 #[derive(Drop)]

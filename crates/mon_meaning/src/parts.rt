@@ -3,8 +3,8 @@ ghost use Rattle.std.specs.Prelude.{◌≡◌, ◌+◌, List, IfErr, IfOk, OnOk}
 ghost use Rattle.std.specs.List.Sorted.{IsPermutation};
 ghost use Rattle.mon_value.specs.LeafHistories.{points_by_series};
 ghost use Rattle.mon_value.specs.declared.rows.Row.{Row};
-ghost use Rattle.mql_types.specs.Meaning.{load_of, rows_meant};
-ghost use Rattle.mql_types.specs.Nodes.{node_tree};
+ghost use Rattle.typed_trees.specs.Meaning.{load_of, rows_meant};
+ghost use Rattle.typed_trees.specs.Nodes.{node_tree};
 ghost use Rattle.mon_meaning.specs.Central.{IsPartAsked, all_held};
 ghost use Rattle.mon_meaning.specs.Counts.{TellsOver};
 
@@ -12,8 +12,8 @@ use crate::evaluation::{EvaluationSetting, rows_of};
 use crate::meter::{Meter, OverLimit};
 use mon_series::KeptRows;
 use mon_value::{Grid, Refusal, TimedRows};
-use mql_types::Node;
 use std::alloc::Global;
+use typed_trees::Node;
 
 /// The rows that a part of a query's tree means over series, which are kept in several places, at the times of a
 /// grid. They are a bag: their order says nothing. Only the series of a fetch's metric are looked at. The part's load

@@ -1,15 +1,15 @@
 // The parts of a tree of which pieces go up.
 ghost use Rattle.std.specs.Prelude.{◌≡◌, ◌<◌, ◌+◌, ◌++◌, ◌∷◌, [], Bool, false, IfOk, OnOk};
-ghost use Rattle.mql_types.specs.Nodes.{level_of, node_tree};
-ghost use Rattle.mql_types.specs.Levels as spec;
+ghost use Rattle.typed_trees.specs.Nodes.{level_of, node_tree};
+ghost use Rattle.typed_trees.specs.Levels as spec;
 ghost use Rattle.mon_meaning.specs.TopParts.{parts_seen, up_to};
-ghost use Rattle.mql_types.specs.ExplanationParts.{nodes};
+ghost use Rattle.typed_trees.specs.ExplanationParts.{nodes};
 ghost use Rattle.mon_meaning.specs.within.PartsToCome.{part_nodes, parts_left, nodes_left};
 ghost use Rattle.mon_meaning.specs.within.PartsToCome as come;
 
 use mon_value::{Aggregates, OutOfMemory, Positions};
-use mql_types::{Level, Node};
 use std::alloc::Global;
+use typed_trees::{Level, Node};
 
 /// What of a part's rows goes up: all of them; their groups, with aggregates that aren't finished; or so many that come
 /// first at each time by a column.

@@ -1,12 +1,12 @@
 // The way down a typed tree to what its rows come from.
 ghost use Rattle.std.specs.Prelude.{◌≡◌, ◌<◌, IfOk, IfSome, IsNone};
-ghost use Rattle.mql_types.specs.Nodes.{node_tree};
-ghost use Rattle.mql_types.specs.ExplanationParts.{nodes};
+ghost use Rattle.typed_trees.specs.Nodes.{node_tree};
+ghost use Rattle.typed_trees.specs.ExplanationParts.{nodes};
 ghost use Rattle.mon_meaning.specs.within.Paths.{first_input, HasNoInput, Leads, trees_of};
 
 use mon_value::OutOfMemory;
-use mql_types::Node;
 use std::alloc::Global;
+use typed_trees::Node;
 
 /// The nodes from the top of a tree down to a source of rows: an alignment, or a fetch that isn't aligned. Each one is
 /// the input, or the left side, of the one before it.

@@ -1,7 +1,7 @@
 // What goes up of a part's rows.
 ghost use Rattle.std.specs.Prelude.{◌≡◌, IfOk};
 ghost use Rattle.mon_value.specs.Groups as spec;
-ghost use Rattle.mql_types.specs.Nodes.{columns_of, node_tree};
+ghost use Rattle.typed_trees.specs.Nodes.{columns_of, node_tree};
 ghost use Rattle.mon_meaning.specs.GoingUp.{CanGoUp};
 ghost use Rattle.mon_meaning.specs.Standing.{StandsFor};
 ghost use Rattle.mon_meaning.specs.TopParts.{use_seen};

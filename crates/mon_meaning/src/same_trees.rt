@@ -1,15 +1,15 @@
 // Whether two trees are the same.
 ghost use Rattle.std.specs.Prelude.{◌≡◌, IfSome, IsTrue, map};
 ghost use Rattle.mql_ast.specs.Trees.{item_tree, predicate_tree};
-ghost use Rattle.mql_types.specs.Nodes as node;
-ghost use Rattle.mql_types.specs.Nodes.{info_of, node_tree};
+ghost use Rattle.typed_trees.specs.Nodes as node;
+ghost use Rattle.typed_trees.specs.Nodes.{info_of, node_tree};
 ghost use Rattle.mon_meaning.specs.within.SameTrees.{bare_items, bare_tree};
 
 use crate::same_columns::{are_same_columns, are_same_folds};
 use mon_expr::{are_same_predicate, are_same_sum};
 use mon_value::{Aggregates, Aligner, Positions, Text};
 use mql_ast::{Item, Predicate};
-use mql_types::Node;
+use typed_trees::Node;
 
 /// Whether two trees are the same, wherever they stand in the text: the same operations over the same columns on the
 /// same fetches. A loop goes down the input, or the left, since a query may have many thousand operations or branches;

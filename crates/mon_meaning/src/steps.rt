@@ -1,7 +1,7 @@
 // One operation of a tree.
 ghost use Rattle.std.specs.Prelude.{◌≡◌, ◌+◌, [], length, IfErr, IfOk, OnOk};
 ghost use Rattle.mon_value.specs.Tables.{IsWhole};
-ghost use Rattle.mql_types.specs.Nodes.{columns_of, node_tree};
+ghost use Rattle.typed_trees.specs.Nodes.{columns_of, node_tree};
 ghost use Rattle.mon_meaning.specs.Operations as meant;
 ghost use Rattle.mon_meaning.specs.Operations.{CanOperate, operation_load};
 ghost use Rattle.mon_meaning.specs.Counts.{TellsOver};
@@ -12,8 +12,8 @@ use crate::operations::{filtered_rows, grouped_rows, joined_rows, table_of, unit
 use crate::tops::top_rows;
 use crate::value_rows::value_rows;
 use mon_value::{OutOfMemory, Refusal, Table, TimedRows};
-use mql_types::Node;
 use std::alloc::Global;
+use typed_trees::Node;
 
 /// The rows of an operation on those of its input, or on those of its left side and its right one. The pairs of a
 /// join are counted, and more than there is room for are not made. Rows move.

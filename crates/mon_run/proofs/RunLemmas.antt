@@ -24,7 +24,7 @@ use Rattle.mon_run.specs.within.Lines.{NamedTells, TextEnds, TextTells}
 use Rattle.mon_run.specs.within.Stops.{ConfigStops, Counts, Done, Ends, Halts, HaltsBy, HasConfig, Stops, Tells, Weaves}
 use Rattle.mon_run.specs.within.Stops.{WriteStops, WroteFront, config_stop, files_plan, named_plan, noted, words_plan}
 use Rattle.weave_core.specs.Schedules.{IsPrinted, Printed}
-use Rattle.weave_core.specs.declared.calls.ScheduleFault.{ScheduleFault}
+use Rattle.schedule_lines.specs.declared.calls.ScheduleFault.{ScheduleFault}
 use Rattle.mon_run.proofs.EndLemmas.{causes_earlier, refused_config}
 use Rattle.mon_run.proofs.SinkLemmas.{nothing_written}
 use Rattle.mon_run.proofs.StepLemmas.{did_none, did_then, done_behind, not_long, stops_behind}

@@ -23,7 +23,7 @@ use Rattle.mon_config.specs.declared.faults.ConfigFault.{ConfigFault}
 use Rattle.mon_script.specs.Made.{made_pieces}
 use Rattle.mon_script.specs.Scripts.{script_in}
 use Rattle.weave_core.specs.Schedules.{IsPrinted, Printed}
-use Rattle.weave_core.specs.declared.calls.ScheduleFault.{ScheduleFault}
+use Rattle.schedule_lines.specs.declared.calls.ScheduleFault.{ScheduleFault}
 use Rattle.mon_run.specs.Outside.{Files}
 use Rattle.mon_run.specs.Steps.{End, Plan, Print, Step, Write, ending, next_read, plan, plan_behind, read_plan}
 use Rattle.mon_run.specs.Steps.{config_text, end_status, schedule_text, script_text, starved_plan, usage_text}

@@ -8,8 +8,8 @@ use Rattle.mon_script.specs.declared.faults.ScriptFault.{ScriptFault}
 use Rattle.mon_script.specs.declared.faults.ScriptKind.{ScriptKind}
 use Rattle.mon_script.specs.declared.faults.ScriptKind.TheVariants as kind
 use Rattle.mon_table.specs.Tables.{newline}
-use Rattle.weave_core.specs.Schedules.{schedule_fault_text}
-use Rattle.weave_core.specs.declared.calls.ScheduleFault.{ScheduleFault}
+use Rattle.schedule_lines.specs.FaultTexts.{schedule_fault_text}
+use Rattle.schedule_lines.specs.declared.calls.ScheduleFault.{ScheduleFault}
 use Rattle.mon_value.specs.declared.limits.TheConstants.{LONGEST_FILE}
 use Rattle.run_traces.specs.declared.traces.LineTrace.{LineTrace}
 use Rattle.mon_run.specs.Outside.{Files}

@@ -1,24 +1,29 @@
 -- A leaf that a line names is there, and one that is recovered is in the range's zone.
 use Rattle.std.proofs.Common.{◌≡◌, ℕ, ◌<◌, Bool, true, false, cond, List, length, Option, Some, None, Result, Ok}
-use Rattle.std.proofs.Common.{Err, option_map, refl, sym, subst}
+use Rattle.std.proofs.Common.{Err, IfOk, arith, option_map, refl, sym, subst}
 use Rattle.std.specs.Prelude.{codes}
 use Rattle.std.specs.List.{position_from}
 use Rattle.std.specs.Option.{ok_or}
-use Rattle.mon_script.specs.Forms.{control_form, down_form, leaf_of, on_leaf_form, recover_form, up_form, zoned_form}
-use Rattle.mon_script.specs.Forms.{has_space, tick_form}
+use Rattle.mon_script.specs.Controls.{IsLawfulControl, IsRecoverable, control_of, control_word, leaf_of}
+use Rattle.mon_script.specs.Controls.{on_leaf_control, zoned_control}
+use Rattle.mon_script.specs.Forms.{as_line, control_form, control_form_by, tick_form}
 use Rattle.mon_script.specs.Lawful.{IsLawfulForm}
-use Rattle.mon_script.specs.Lines.{cut_at, space}
+use Rattle.mon_script.specs.Lines.{cut_at, has_space, space}
+use Rattle.mon_script.specs.declared.controls.ControlForm.{ControlForm}
+use Rattle.mon_script.specs.declared.controls.ControlForm.TheVariants as control
+use Rattle.mon_script.specs.declared.controls.ControlWord.{ControlWord}
+use Rattle.mon_script.specs.declared.controls.ControlWord.TheVariants as word
 use Rattle.mon_script.specs.declared.faults.ScriptKind.{ScriptKind}
 use Rattle.mon_script.specs.declared.faults.ScriptKind.TheVariants as kind
 use Rattle.mon_script.specs.declared.forms.LineForm.{LineForm}
-use Rattle.mon_script.specs.declared.forms.LineForm.TheVariants as form
 use Rattle.mon_script.proofs.StandingLineLemmas.{tick_lawful}
 use Rattle.mon_topo.proofs.SharedZoneLemmas.{shared_zone}
 use Rattle.mon_topo.proofs.PositionLemmas.{found_within}
-use Rattle.mon_topo.specs.Zones.{share_zone, leaf_named, leaves_in, range_named}
+use Rattle.mon_topo.proofs.RangeNameLemmas.{length-range_names}
+use Rattle.mon_topo.specs.Zones.{share_zone, leaf_named, leaves_in, range_named, range_names, ranges_in}
 use Rattle.mon_topo.specs.declared.zones.ZoneSpec.{ZoneSpec}
 use Rattle.mon_value.specs.Answers.{◌>>=◌}
-use Rattle.mon_value.specs.Histories.{leaf_numbered}
+use Rattle.mon_value.specs.Histories.{leaf_numbered, range_numbered}
 use Rattle.mon_value.specs.Same.{same_text}
 use Rattle.mon_value.specs.declared.positions.Leaf.{Leaf}
 use Rattle.mon_value.specs.declared.positions.Range.{Range}
@@ -52,41 +57,92 @@ word_there zones name true leaf e = absurd cc
 word_there zones name false leaf e =
     known_there zones (leaf_named zones name) leaf (λ l is. leaf_there zones name l is) e
 
--- a form over the leaf of a name
-leaf_lawful : (zones : List ZoneSpec) (what : Leaf → LineForm) (found : Result Leaf ScriptKind) (said : LineForm)
-    → ((leaf : Leaf) → found ≡ Ok leaf → IsLawfulForm zones (what leaf))
-    → found >>= (λ leaf. Ok (what leaf)) ≡ Ok said → IsLawfulForm zones said
+-- what is done to the leaf of a name
+leaf_lawful : (zones : List ZoneSpec) (what : Leaf → ControlForm) (found : Result Leaf ScriptKind) (said : ControlForm)
+    → ((leaf : Leaf) → found ≡ Ok leaf → IsLawfulControl zones (what leaf))
+    → found >>= (λ leaf. Ok (what leaf)) ≡ Ok said → IsLawfulControl zones said
 leaf_lawful zones what (Err why) said all e = absurd cc
 leaf_lawful zones what (Ok leaf) said all e =
-    let same : what leaf ≡ said = cc in subst (IsLawfulForm zones) same (all leaf refl)
+    let same : what leaf ≡ said = cc in subst (IsLawfulControl zones) same (all leaf refl)
 
 -- ---- ranges
 
-zoned_by : (zones : List ZoneSpec) (range : Range) (leaf : Leaf) (shared : Bool) (said : LineForm)
-    → share_zone zones range leaf ≡ shared
-    → cond shared (Ok (form.Recover range leaf)) (Err kind.NotInZone) ≡ Ok said → IsLawfulForm zones said
-zoned_by zones range leaf true said is e =
-    let same : form.Recover range leaf ≡ said = cc in subst (IsLawfulForm zones) same (shared_zone zones range leaf is)
-zoned_by zones range leaf false said is e = absurd cc
+range_place_there : (zones : List ZoneSpec) (range : Range) (o : Option ℕ)
+    → ((p : ℕ) → o ≡ Some p → p < length (range_names zones)) → option_map range_numbered o ≡ Some range
+    → range.0 < length (ranges_in zones)
+range_place_there zones range None within e = absurd cc
+range_place_there zones range (Some p) within e =
+    let same : range_numbered p ≡ range = cc in
+    let there : p < length (range_names zones) = within p refl in
+    let listed : p < length (ranges_in zones) = omega (arith, there, length-range_names zones) in
+    subst (λ (r : Range). r.0 < length (ranges_in zones)) same listed
 
-range_by : (zones : List ZoneSpec) (named : Option Range) (leaf : Leaf) (said : LineForm)
-    → ok_or named kind.UnknownRange >>= (λ range. zoned_form zones range leaf) ≡ Ok said → IsLawfulForm zones said
-range_by zones None leaf said e = absurd cc
-range_by zones (Some range) leaf said e =
-    zoned_by zones range leaf (share_zone zones range leaf) said refl e
+range_there : (zones : List ZoneSpec) (name : List ℕ) (range : Range) → range_named zones name ≡ Some range
+    → range.0 < length (ranges_in zones)
+range_there zones name range e = range_place_there zones range (position_from (same_text name) 0 (range_names zones))
+    (λ p is. found_within (same_text name) (range_names zones) p (sym is)) e
 
-named_by : (zones : List ZoneSpec) (range : List ℕ) (found : Result Leaf ScriptKind) (said : LineForm)
-    → found >>= (λ leaf. ok_or (range_named zones range) kind.UnknownRange >>= λ of. zoned_form zones of leaf) ≡ Ok said
-    → IsLawfulForm zones said
-named_by zones range (Err why) said e = absurd cc
-named_by zones range (Ok leaf) said e = range_by zones (range_named zones range) leaf said e
+zoned_by : (zones : List ZoneSpec) (range : Range) (leaf : Leaf) (shared : Bool) (said : ControlForm)
+    → share_zone zones range leaf ≡ shared → range.0 < length (ranges_in zones) → leaf.0 < length (leaves_in zones)
+    → cond shared (Ok (control.Recover range leaf)) (Err kind.NotInZone) ≡ Ok said → IsLawfulControl zones said
+zoned_by zones range leaf true said is ranged leafed e =
+    let same : control.Recover range leaf ≡ said = cc in
+    let may : IsRecoverable zones range leaf
+    = record { range_there = ranged; leaf_there = leafed; zoned = shared_zone zones range leaf is } in
+    subst (IsLawfulControl zones) same may
+zoned_by zones range leaf false said is ranged leafed e = absurd cc
 
-cut_by : (zones : List ZoneSpec) (cut : Option (List ℕ × List ℕ)) (said : LineForm)
-    → ok_or cut kind.BadWord >>= (λ words. on_leaf_form zones words.0 words.1) ≡ Ok said → IsLawfulForm zones said
+range_by : (zones : List ZoneSpec) (named : Option Range) (leaf : Leaf) (said : ControlForm)
+    → ((r : Range) → named ≡ Some r → r.0 < length (ranges_in zones)) → leaf.0 < length (leaves_in zones)
+    → ok_or named kind.UnknownRange >>= (λ range. zoned_control zones range leaf) ≡ Ok said → IsLawfulControl zones said
+range_by zones None leaf said within leafed e = absurd cc
+range_by zones (Some range) leaf said within leafed e =
+    zoned_by zones range leaf (share_zone zones range leaf) said refl (within range refl) leafed e
+
+named_by : (zones : List ZoneSpec) (range : List ℕ) (found : Result Leaf ScriptKind) (said : ControlForm)
+    → ((leaf : Leaf) → found ≡ Ok leaf → leaf.0 < length (leaves_in zones))
+    → found >>= (λ leaf. ok_or (range_named zones range) kind.UnknownRange >>= λ of. zoned_control zones of leaf)
+    ≡ Ok said → IsLawfulControl zones said
+named_by zones range (Err why) said within e = absurd cc
+named_by zones range (Ok leaf) said within e =
+    range_by zones (range_named zones range) leaf said (λ r is. range_there zones range r is) (within leaf refl) e
+
+cut_by : (zones : List ZoneSpec) (cut : Option (List ℕ × List ℕ)) (said : ControlForm)
+    → ok_or cut kind.BadWord >>= (λ words. on_leaf_control zones words.0 words.1) ≡ Ok said → IsLawfulControl zones said
 cut_by zones None said e = absurd cc
-cut_by zones (Some words) said e = named_by zones words.0 (leaf_of zones words.1) said e
+cut_by zones (Some words) said e = named_by zones words.0 (leaf_of zones words.1) said
+    (λ leaf is. word_there zones words.1 (has_space words.1) leaf is) e
 
--- ---- by the first word
+-- ---- what stands behind a word
+
+pub behind_lawful : (zones : List ZoneSpec) (what : ControlWord) (rest : List ℕ) (said : ControlForm)
+    → control_of zones what rest ≡ Ok said → IsLawfulControl zones said
+behind_lawful zones word.Down rest said e = leaf_lawful zones control.Down (leaf_of zones rest) said
+    (λ leaf is. word_there zones rest (has_space rest) leaf is) e
+behind_lawful zones word.Up rest said e = leaf_lawful zones control.Up (leaf_of zones rest) said
+    (λ leaf is. word_there zones rest (has_space rest) leaf is) e
+behind_lawful zones word.Recover rest said e = cut_by zones (cut_at space rest) said e
+
+pub if_lawful : (zones : List ZoneSpec) (what : ControlWord) (rest : List ℕ) (said : Result ControlForm ScriptKind)
+    → said ≡ control_of zones what rest → IfOk said (IsLawfulControl zones)
+if_lawful zones what rest (Ok said) e = behind_lawful zones what rest said (sym e)
+if_lawful zones what rest (Err why) e = tt
+
+-- ---- lines of scripts
+
+line_lawful : (zones : List ZoneSpec) (what : ControlForm) → IsLawfulControl zones what
+    → IsLawfulForm zones (as_line what)
+line_lawful zones (control.Down leaf) lawful = lawful
+line_lawful zones (control.Up leaf) lawful = lawful
+line_lawful zones (control.Recover range leaf) lawful = lawful.zoned
+
+controlled : (zones : List ZoneSpec) (found : Result ControlForm ScriptKind) (said : LineForm)
+    → ((what : ControlForm) → found ≡ Ok what → IsLawfulControl zones what)
+    → found >>= (λ what. Ok (as_line what)) ≡ Ok said → IsLawfulForm zones said
+controlled zones (Err why) said all e = absurd cc
+controlled zones (Ok what) said all e =
+    let same : as_line what ≡ said = cc in
+    subst (IsLawfulForm zones) same (line_lawful zones what (all what refl))
 
 either : (zones : List ZoneSpec) (test : Bool) (a b : Result LineForm ScriptKind) (said : LineForm)
     → (a ≡ Ok said → IsLawfulForm zones said) → (b ≡ Ok said → IsLawfulForm zones said) → cond test a b ≡ Ok said
@@ -97,18 +153,15 @@ either zones false a b said first second e = second e
 no_form : (zones : List ZoneSpec) (why : ScriptKind) (said : LineForm) → Err why ≡ Ok said → IsLawfulForm zones said
 no_form zones why said e = absurd cc
 
+by_word : (zones : List ZoneSpec) (word rest : List ℕ) (what : Option ControlWord) (said : LineForm)
+    → control_form_by zones word rest what ≡ Ok said → IsLawfulForm zones said
+by_word zones word rest (Some what) said e =
+    controlled zones (control_of zones what rest) said (λ found is. behind_lawful zones what rest found is) e
+by_word zones word rest None said e =
+    either zones (same_text word (codes "tick")) (tick_form rest) (Err kind.BadWord) said
+    (tick_lawful zones rest said) (no_form zones kind.BadWord said) e
+
 -- what such a line says is lawful
 pub control_lawful : (zones : List ZoneSpec) (word rest : List ℕ) (said : LineForm)
     → control_form zones word rest ≡ Ok said → IsLawfulForm zones said
-control_lawful zones word rest said e =
-    either zones (same_text word (codes "down")) (down_form zones rest) _ said
-    (leaf_lawful zones form.Down (leaf_of zones rest) said
-    (λ leaf is. word_there zones rest (has_space rest) leaf is))
-    (either zones (same_text word (codes "up")) (up_form zones rest) _ said
-    (leaf_lawful zones form.Up (leaf_of zones rest) said
-    (λ leaf is. word_there zones rest (has_space rest) leaf is))
-    (either zones (same_text word (codes "recover")) (recover_form zones rest) _ said
-    (cut_by zones (cut_at space rest) said)
-    (either zones (same_text word (codes "tick")) (tick_form rest) (Err kind.BadWord) said
-    (tick_lawful zones rest said) (no_form zones kind.BadWord said))))
-    e
+control_lawful zones word rest said e = by_word zones word rest (control_word word) said e

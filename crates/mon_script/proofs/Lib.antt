@@ -1,5 +1,5 @@
 mod BlockLemmas
-mod ControlLemmas
+pub mod ControlLemmas
 mod Fronts
 mod LawfulLemmas
 mod LineLemmas

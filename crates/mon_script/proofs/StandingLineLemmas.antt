@@ -14,8 +14,8 @@ use Rattle.std.proofs.lemmas.Str.Ascii.{IsAscii-from_all}
 use Rattle.mon_schema.specs.Names.{is_name, is_name_byte, is_name_start}
 use Rattle.mon_schema.specs.declared.limits.TheConstants.{LONGEST_NAME}
 use Rattle.mon_script.specs.Lawful.{IsLawfulForm}
-use Rattle.mon_script.specs.Lines.{cut_at, is_moment, moment_of, space}
-use Rattle.mon_script.specs.Forms.{has_space, is_period, moment_form, named_form, period_of, period_form, standing_form}
+use Rattle.mon_script.specs.Lines.{cut_at, has_space, is_moment, moment_of, space}
+use Rattle.mon_script.specs.Forms.{is_period, moment_form, named_form, period_of, period_form, standing_form}
 use Rattle.mon_script.specs.Forms.{texts_form, tick_form}
 use Rattle.mon_script.specs.declared.faults.ScriptKind.{ScriptKind}
 use Rattle.mon_script.specs.declared.faults.ScriptKind.TheVariants as kind

@@ -1,18 +1,18 @@
 -- What a line says by itself, or why it says nothing. Of several reasons the one counts that is told.
-use Rattle.std.specs.Prelude.{◌==◌, ◌&&◌, ℕ, ℤ, pos, int_le, Bool, not, List, Option, Some, None, Result, Ok, Err}
+use Rattle.std.specs.Prelude.{◌&&◌, ℕ, ℤ, pos, int_le, Bool, List, Option, Some, None, Result, Ok, Err}
 use Rattle.std.specs.Prelude.{option_and_then, if◌then◌else◌, codes}
-use Rattle.std.specs.List.{list_any}
 use Rattle.std.specs.Option.{ok_or}
 use Rattle.std.specs.Str.{is_utf8}
 use Rattle.mon_schema.specs.Names.{is_name}
 use Rattle.mon_value.specs.Answers.{◌>>=◌}
 use Rattle.mon_value.specs.Values.{number_of}
-use Rattle.mon_topo.specs.Zones.{share_zone, leaf_named, range_named}
 use Rattle.mon_topo.specs.declared.zones.ZoneSpec.{ZoneSpec}
 use Rattle.mon_value.specs.Same.{same_text}
-use Rattle.mon_value.specs.declared.positions.Leaf.{Leaf}
-use Rattle.mon_value.specs.declared.positions.Range.{Range}
-use Rattle.mon_script.specs.Lines.{cut_at, moment_of, space, is_file_name}
+use Rattle.mon_script.specs.Controls.{control_of, control_word}
+use Rattle.mon_script.specs.Lines.{cut_at, has_space, moment_of, space, is_file_name}
+use Rattle.mon_script.specs.declared.controls.ControlForm.{ControlForm}
+use Rattle.mon_script.specs.declared.controls.ControlForm.TheVariants as control
+use Rattle.mon_script.specs.declared.controls.ControlWord.{ControlWord}
 use Rattle.mon_script.specs.declared.faults.ScriptKind.{ScriptKind}
 use Rattle.mon_script.specs.declared.faults.ScriptKind.TheVariants as kind
 use Rattle.mon_script.specs.declared.forms.LineForm.{LineForm}
@@ -22,9 +22,6 @@ use Rattle.mon_script.specs.declared.forms.Ask.{Ask}
 use Rattle.mon_script.specs.declared.forms.Ask.TheVariants as ask
 
 -- What a line says by which a query comes to stand, or at which those that are due are asked; or why it says nothing.
-
-abbrev pub has_space : List ℕ → Bool
-has_space = list_any (λ byte. byte == space)
 
 -- ---- standing queries
 
@@ -71,49 +68,26 @@ tick_form word = if has_space word then Err kind.BadWord else moment_form (momen
 -- What a line says that takes a leaf down or up, opens a range's replica on a leaf, or asks the standing queries that
 -- are due; or why it says nothing.
 
--- ---- leaves
+abbrev pub as_line : ControlForm → LineForm
+as_line (control.Down leaf) = form.Down leaf
+as_line (control.Up leaf) = form.Up leaf
+as_line (control.Recover range leaf) = form.Recover range leaf
 
--- a word that is a leaf's name
-abbrev pub leaf_of : List ZoneSpec → List ℕ → Result Leaf ScriptKind
-leaf_of zones name = if has_space name then Err kind.BadWord else ok_or (leaf_named zones name) kind.UnknownLeaf
+abbrev pub controlled_form : List ZoneSpec → ControlWord → List ℕ → Result LineForm ScriptKind
+controlled_form zones word rest = do
+  what ← control_of zones word rest
+  Ok (as_line what)
 
-abbrev pub down_form : List ZoneSpec → List ℕ → Result LineForm ScriptKind
-down_form zones name = do
-  leaf ← leaf_of zones name
-  Ok (form.Down leaf)
+abbrev pub tick_or_none : List ℕ → List ℕ → Result LineForm ScriptKind
+tick_or_none word rest = if same_text word (codes "tick") then tick_form rest else Err kind.BadWord
 
-abbrev pub up_form : List ZoneSpec → List ℕ → Result LineForm ScriptKind
-up_form zones name = do
-  leaf ← leaf_of zones name
-  Ok (form.Up leaf)
-
--- ---- a range and a leaf
-
-abbrev pub zoned_form : List ZoneSpec → Range → Leaf → Result LineForm ScriptKind
-zoned_form zones range leaf = if share_zone zones range leaf then Ok (form.Recover range leaf) else Err kind.NotInZone
-
--- the names of a range and of a leaf: a leaf that there isn't is told before a range that there isn't
-abbrev pub on_leaf_form : List ZoneSpec → List ℕ → List ℕ → Result LineForm ScriptKind
-on_leaf_form zones range leaf = do
-  found ← leaf_of zones leaf
-  of ← ok_or (range_named zones range) kind.UnknownRange
-  zoned_form zones of found
-
--- `recover` has a range's name and that of a leaf in its zone
-abbrev pub recover_form : List ZoneSpec → List ℕ → Result LineForm ScriptKind
-recover_form zones rest = do
-  words ← ok_or (cut_at space rest) kind.BadWord
-  on_leaf_form zones words.0 words.1
-
--- ---- by the first word
+-- by the first word
+abbrev pub control_form_by : List ZoneSpec → List ℕ → List ℕ → Option ControlWord → Result LineForm ScriptKind
+control_form_by zones word rest (Some what) = controlled_form zones what rest
+control_form_by zones word rest None = tick_or_none word rest
 
 abbrev pub control_form : List ZoneSpec → List ℕ → List ℕ → Result LineForm ScriptKind
-control_form zones word rest =
-    if same_text word (codes "down") then down_form zones rest
-    else if same_text word (codes "up") then up_form zones rest
-    else if same_text word (codes "recover") then recover_form zones rest
-    else if same_text word (codes "tick") then tick_form rest
-    else Err kind.BadWord
+control_form zones word rest = control_form_by zones word rest (control_word word)
 
 -- What a line says by itself, or why it says nothing. Of several reasons the one counts that is told first.
 

@@ -1,4 +1,5 @@
 pub mod Blocks
+pub mod Controls
 pub mod Forms
 pub mod Lawful
 pub mod Lines

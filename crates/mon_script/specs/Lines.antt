@@ -53,6 +53,9 @@ is_remark (byte ∷ line) = byte == 35
 abbrev pub space : ℕ
 space = 32
 
+abbrev pub has_space : List ℕ → Bool
+has_space = list_any (λ byte. byte == space)
+
 -- a moment is a number from 0 to 2 ^ 63 - 1
 abbrev pub is_moment : ℤ → Bool
 is_moment z = int_le (pos 0) z && int_le z (pos (2 ^ 63 - 1))

@@ -1,46 +1,74 @@
-// Lines that take a leaf down or up, open a range's replica on a leaf, or ask the standing queries that are due.
-ghost use Rattle.std.specs.Prelude.{◌≡◌};
-ghost use Rattle.mon_script.specs.Forms as spec;
+// Lines that take a leaf down or up, or open a range's replica on a leaf.
+ghost use Rattle.std.specs.Prelude.{◌≡◌, IfOk};
+ghost use Rattle.mon_script.specs.Controls as spec;
+ghost use Rattle.mon_script.specs.Controls.{IsLawfulControl};
 
 use crate::faults::ScriptKind;
-use crate::forms::LineForm;
 use crate::lines::cut_at;
-use crate::standing_lines::tick_form;
 use mon_topo::{Leaf, Range, Topology, share_zone};
 
-/// What a line says whose first word neither feeds, nor asks, nor has a query stand.
-pub(crate) fn control_form(
-    topology: &Topology,
-    word: &[u8],
-    rest: &[u8],
-) -> Result<LineForm, ScriptKind>
-    ensures form { result ≡ spec.control_form topology.now word.now rest.now }
+/// What a line says that switches a leaf or recovers a range.
+#[derive(Clone, Copy)]
+pub enum ControlForm {
+    /// Take a leaf down.
+    Down(Leaf),
+    /// Take a leaf that is down up again.
+    Up(Leaf),
+    /// Open one replica more of a range on a leaf of its zone.
+    Recover(Range, Leaf),
+}
+
+/// The first word of such a line.
+#[derive(Clone, Copy)]
+pub enum ControlWord {
+    Down,
+    Up,
+    Recover,
+}
+
+/// Which of these words it is.
+pub fn control_word(word: &[u8]) -> Option<ControlWord>
+    ensures word { result ≡ spec.control_word word.now }
 {
     if word == b"down".as_slice() {
-        down_form(topology, rest)
+        Some(ControlWord::Down)
     } else if word == b"up".as_slice() {
-        up_form(topology, rest)
+        Some(ControlWord::Up)
     } else if word == b"recover".as_slice() {
-        recover_form(topology, rest)
-    } else if word == b"tick".as_slice() {
-        tick_form(rest)
+        Some(ControlWord::Recover)
     } else {
-        Err(ScriptKind::BadWord)
+        None
     }
 }
 
-// A leaf that is to go down.
-fn down_form(topology: &Topology, name: &[u8]) -> Result<LineForm, ScriptKind>
-    ensures form { result ≡ spec.down_form topology.now name.now }
+/// What stands behind such a word, or why it says nothing.
+pub fn control_of(
+    topology: &Topology,
+    word: ControlWord,
+    rest: &[u8],
+) -> Result<ControlForm, ScriptKind>
+    ensures control { result ≡ spec.control_of topology.now word rest.now }
+    ensures lawful { IfOk result (IsLawfulControl topology.now) }
 {
-    Ok(LineForm::Down(leaf_of(topology, name)?))
+    control_behind(topology, word, rest)
 }
 
-// A leaf that is to come up.
-fn up_form(topology: &Topology, name: &[u8]) -> Result<LineForm, ScriptKind>
-    ensures form { result ≡ spec.up_form topology.now name.now }
+// What stands behind a word.
+fn control_behind(
+    topology: &Topology,
+    word: ControlWord,
+    rest: &[u8],
+) -> Result<ControlForm, ScriptKind>
+    ensures control { result ≡ spec.control_of topology.now word rest.now }
 {
-    Ok(LineForm::Up(leaf_of(topology, name)?))
+    match word {
+        ControlWord::Down => Ok(ControlForm::Down(leaf_of(topology, rest)?)),
+        ControlWord::Up => Ok(ControlForm::Up(leaf_of(topology, rest)?)),
+        ControlWord::Recover => match cut_at(rest, b' ') {
+            Some((range, leaf)) => on_leaf(topology, range, leaf),
+            None => Err(ScriptKind::BadWord),
+        },
+    }
 }
 
 // The leaf of a name.
@@ -57,30 +85,21 @@ fn leaf_of(topology: &Topology, name: &[u8]) -> Result<Leaf, ScriptKind>
 }
 
 // The name of a range, and that of a leaf in its zone.
-fn recover_form(topology: &Topology, rest: &[u8]) -> Result<LineForm, ScriptKind>
-    ensures form { result ≡ spec.recover_form topology.now rest.now }
-{
-    match cut_at(rest, b' ') {
-        Some((range, leaf)) => named_form(topology, range, leaf),
-        None => Err(ScriptKind::BadWord),
-    }
-}
-
-fn named_form(topology: &Topology, range: &[u8], leaf: &[u8]) -> Result<LineForm, ScriptKind>
-    ensures form { result ≡ spec.on_leaf_form topology.now range.now leaf.now }
+fn on_leaf(topology: &Topology, range: &[u8], leaf: &[u8]) -> Result<ControlForm, ScriptKind>
+    ensures control { result ≡ spec.on_leaf_control topology.now range.now leaf.now }
 {
     let leaf = leaf_of(topology, leaf)?;
     match topology.range_named(range) {
-        Some(range) => zoned_form(topology, range, leaf),
+        Some(range) => zoned(topology, range, leaf),
         None => Err(ScriptKind::UnknownRange),
     }
 }
 
-fn zoned_form(topology: &Topology, range: Range, leaf: Leaf) -> Result<LineForm, ScriptKind>
-    ensures form { result ≡ spec.zoned_form topology.now range leaf }
+fn zoned(topology: &Topology, range: Range, leaf: Leaf) -> Result<ControlForm, ScriptKind>
+    ensures control { result ≡ spec.zoned_control topology.now range leaf }
 {
     if share_zone(topology, range, leaf) {
-        Ok(LineForm::Recover(range, leaf))
+        Ok(ControlForm::Recover(range, leaf))
     } else {
         Err(ScriptKind::NotInZone)
     }

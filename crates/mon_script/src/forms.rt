@@ -4,10 +4,10 @@ ghost use Rattle.mon_script.specs.Lines.{is_file_name};
 ghost use Rattle.mon_value.specs.Answers.{Gives};
 ghost use Rattle.mon_script.specs.Forms as spec;
 
-use crate::controls::control_form;
+use crate::controls::{ControlForm, control_of, control_word};
 use crate::faults::ScriptKind;
 use crate::lines::cut_at;
-use crate::standing_lines::standing_form;
+use crate::standing_lines::{standing_form, tick_form};
 use crate::words::moment_of;
 use mon_topo::{Leaf, Range, Topology};
 use mon_value::{OutOfMemory, Refusal, Text};
@@ -108,6 +108,38 @@ fn other_form(
     match control_form(topology, word, rest) {
         Ok(form) => Ok(form),
         Err(kind) => Err(Refusal::Fault(kind)),
+    }
+}
+
+// What a line says whose first word neither feeds, nor asks, nor has a query stand.
+fn control_form(topology: &Topology, word: &[u8], rest: &[u8]) -> Result<LineForm, ScriptKind>
+    ensures form { result ≡ spec.control_form topology.now word.now rest.now }
+{
+    match control_word(word) {
+        Some(control) => Ok(as_line(control_of(topology, control, rest)?)),
+        None => tick_or_none(word, rest),
+    }
+}
+
+// A line that switches a leaf or recovers a range.
+fn as_line(what: ControlForm) -> LineForm
+    ensures form { result ≡ spec.as_line what }
+{
+    match what {
+        ControlForm::Down(leaf) => LineForm::Down(leaf),
+        ControlForm::Up(leaf) => LineForm::Up(leaf),
+        ControlForm::Recover(range, leaf) => LineForm::Recover(range, leaf),
+    }
+}
+
+// A line that asks the standing queries that are due.
+fn tick_or_none(word: &[u8], rest: &[u8]) -> Result<LineForm, ScriptKind>
+    ensures form { result ≡ spec.tick_or_none word.now rest.now }
+{
+    if word == b"tick".as_slice() {
+        tick_form(rest)
+    } else {
+        Err(ScriptKind::BadWord)
     }
 }
 

@@ -3,6 +3,7 @@
 #![tactic(auto)]
 
 mod blocks;
+mod control_texts;
 mod controls;
 mod faults;
 mod forms;
@@ -16,6 +17,8 @@ mod standing_lines;
 mod words;
 
 pub use blocks::cut_block;
+pub use control_texts::{ControlRefusal, recovered_text, source_down_text, switched_text};
+pub use controls::{ControlForm, ControlWord, control_of, control_word};
 pub use faults::{ScriptFault, ScriptKind};
 pub use forms::LineForm;
 pub use generator::made_points;

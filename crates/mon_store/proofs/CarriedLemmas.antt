@@ -1,5 +1,6 @@
 -- What a caller has carried through a write at its range's cell, from before the lock to behind it.
-use Rattle.std.proofs.Common.{◌≡◌, ℕ, ◌+◌, ◌≤◌, List, [], ◌∷◌, ◌++◌, length}
+use Rattle.std.proofs.Common.{◌≡◌, ℕ, ◌+◌, ◌≤◌, false, List, [], ◌∷◌, ◌++◌, length, take}
+use Rattle.std.specs.Prelude.{Contains}
 use Rattle.std.proofs.Common.{sym, ap, subst, ◌∙◌, arith}
 use mathlib.Core.List.{IsPrefix}
 use Rattle.std.proofs.lemmas.List.{append-nil, append_assoc}
@@ -10,20 +11,21 @@ use Rattle.history_book.specs.Seats.{length_note, times_room}
 use Rattle.history_book.specs.declared.views.LengthNote.{LengthNote}
 use Rattle.know.specs.Knowledge.{Knowledge}
 use Rattle.mon_config.specs.declared.config.Config.{Config}
-use Rattle.mon_topo.proofs.FrontLemmas.{begins_from, begins_itself}
+use Rattle.mon_topo.proofs.FrontLemmas.{begins_from, begins_itself, begins_length, take_on}
 use Rattle.mon_topo.proofs.HeldLemmas.{down_on}
 use Rattle.mon_topo.specs.HeldHistories.{BeginsWith}
 use Rattle.mon_topo.specs.Settings.{Setting}
 use Rattle.mon_topo.specs.Zones.{leaves_in}
 use Rattle.mon_value.specs.Histories.{leaf_history, range_history}
-use Rattle.mon_value.specs.LeafHistories.{IsDownAt}
+use Rattle.mon_value.specs.LeafHistories.{IsDownAt, is_down}
+use Rattle.mon_value.specs.declared.histories.Entry.{Entry}
 use Rattle.mon_value.specs.declared.histories.RangeEntry.{RangeEntry}
 use Rattle.mon_value.specs.declared.positions.Leaf.{Leaf}
 use Rattle.mon_value.specs.declared.positions.Range.{Range}
 use Rattle.mon_store.proofs.WriteLemmas.{IsCarried, no_rooms}
 use Rattle.mon_store.specs.Passes.{IsPass}
 use Rattle.mon_store.specs.Writes.{WasFoundSo}
-use Rattle.running_query.specs.Ends.{WasFoundDown}
+use Rattle.running_query.specs.Ends.{WasFoundDown, WasFoundUp}
 use Rattle.range_cell.specs.Calls.{HasBegun, HasMetRange}
 use Rattle.range_cell.specs.Rest.{others}
 use Rattle.range_cell.specs.Writing.{IsNotedSince}
@@ -146,10 +148,15 @@ module _ (setting : Setting) (config : Config) (leaves : ℕ) (range : Range) (b
       to = to;
     }
 
-    -- and what was down at a length noted on the way was found down in the call
-    pub over_down : (leaf : Leaf) (cut : ℕ) → IsDownAt (leaf_history mid.seen leaf) cut
-        → IsNotedSince begun mid leaf cut → WasFoundDown before after leaf cut
-    over_down leaf cut down noted = record {
+    -- a length that was noted on the way was noted in the call
+    record IsNotedIn (leaf : Leaf) (cut : ℕ) : Type 0 where
+      more : List LengthNote
+      notes : after.purse.notes ≡ before.purse.notes ++ more
+      noted : Contains more (length_note leaf.0 cut)
+      from : length (leaf_history before.seen leaf) ≤ cut
+
+    noted_over : (leaf : Leaf) (cut : ℕ) → IsNotedSince begun mid leaf cut → IsNotedIn leaf cut
+    noted_over leaf cut noted = record {
       more = (first_note ∷ noted.more) ++ last_note ∷ [];
       notes = notes_all noted.more noted.notes
           ∙ append_assoc before.purse.notes (first_note ∷ noted.more) (last_note ∷ []);
@@ -158,9 +165,39 @@ module _ (setting : Setting) (config : Config) (leaves : ℕ) (range : Range) (b
       from = at_most (length (leaf_history before.seen leaf)) (length (leaf_history begun.seen leaf)) cut
           (prefix_length (leaf_history before.seen leaf) (leaf_history begun.seen leaf) (begins.met.fronts.0 leaf))
           noted.low;
-      down = down_on (leaf_history after.seen leaf) (leaf_history mid.seen leaf) cut
-          (front_begins (leaf_history after.seen leaf) (leaf_history mid.seen leaf) (back.fronts.0 leaf)) down;
     }
       where
         at_most : (a b c : ℕ) → a ≤ b → b ≤ c → a ≤ c
         at_most a b c p q = omega arith
+
+    -- and what was down, or up, at such a length was found so in the call
+    pub over_down : (leaf : Leaf) (cut : ℕ) → IsDownAt (leaf_history mid.seen leaf) cut
+        → IsNotedSince begun mid leaf cut → WasFoundDown before after leaf cut
+    over_down leaf cut down noted =
+        let is : IsNotedIn leaf cut = noted_over leaf cut noted in
+        record {
+          more = is.more;
+          notes = is.notes;
+          noted = is.noted;
+          from = is.from;
+          down = down_on (leaf_history after.seen leaf) (leaf_history mid.seen leaf) cut
+              (front_begins (leaf_history after.seen leaf) (leaf_history mid.seen leaf) (back.fronts.0 leaf)) down;
+        }
+
+    pub over_up : (leaf : Leaf) (cut : ℕ) → cut ≤ length (leaf_history mid.seen leaf)
+        → is_down (take cut (leaf_history mid.seen leaf)) ≡ false → IsNotedSince begun mid leaf cut
+        → WasFoundUp before after leaf cut
+    over_up leaf cut within up noted =
+        let is : IsNotedIn leaf cut = noted_over leaf cut noted in
+        let was = leaf_history mid.seen leaf in
+        let now = leaf_history after.seen leaf in
+        let begin_so : BeginsWith now was = front_begins now was (back.fronts.0 leaf) in
+        let long = begins_length now was begin_so in
+        record {
+          more = is.more;
+          notes = is.notes;
+          noted = is.noted;
+          from = is.from;
+          seen_by_then = omega (arith, long, within);
+          up = ap (λ (h : List Entry). is_down h) (take_on now was cut begin_so within) ∙ up;
+        }

@@ -11,7 +11,7 @@ use Rattle.mon_topo.proofs.HeldLemmas.{seen_within_through}
 use Rattle.mon_topo.specs.HeldHistories.{first_histories}
 use Rattle.mon_topo.specs.Settings.{Setting}
 use Rattle.mon_topo.specs.Zones.{leaf_counts, ranges_in}
-use Rattle.mql_types.specs.declared.plans.Plan.{Plan}
+use Rattle.typed_trees.specs.declared.plans.Plan.{Plan}
 use Rattle.owners.specs.Puts.{pass_of}
 use Rattle.query_core.specs.Askings.{IsAskedOf}
 use Rattle.query_core.specs.Rounds.{QuerySetting}

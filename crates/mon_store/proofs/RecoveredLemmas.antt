@@ -34,7 +34,7 @@ use Rattle.owners.specs.Calls.{HasCalled, kept_with_all}
 use Rattle.owners.specs.Puts.{pass_of}
 use Rattle.mon_store.proofs.AddedLemmas.{entries_with}
 use Rattle.mon_store.proofs.CarriedLemmas.{HasGoneOver, HasReturned, asked_carried, asked_found, front_begins}
-use Rattle.mon_store.proofs.CarriedLemmas.{over_carried, over_down, over_found}
+use Rattle.mon_store.proofs.CarriedLemmas.{over_carried, over_down, over_found, over_up}
 use Rattle.mon_store.proofs.GrownLemmas.{HasComeBehind, many_seen}
 use Rattle.mon_store.proofs.OwnLemmas.{prefix_from}
 use Rattle.mon_store.proofs.RefusedLemmas.{given_back}
@@ -42,15 +42,15 @@ use Rattle.mon_store.proofs.WriteLemmas.{IsCarried, added_new, added_own, added_
 use Rattle.mon_store.proofs.WriteLemmas.{same_pass, unwritten, written_pass}
 use Rattle.mon_store.specs.Passes.{IsPass}
 use Rattle.mon_store.specs.Recoveries.{IsMoved, IsNotRecovered, IsNotRecoveredAs, IsRecovered, IsUnrecovered}
-use Rattle.mon_store.specs.Recoveries.{WereFoundDown, opened}
+use Rattle.mon_store.specs.Recoveries.{WasSourceUp, WereFoundDown, opened}
 use Rattle.mon_store.specs.Writes.{IsStill, IsUnwritten, WasFoundSo, only_in, own_entries}
-use Rattle.running_query.specs.Ends.{WasFoundDown}
+use Rattle.running_query.specs.Ends.{WasFoundDown, WasFoundUp}
 use Rattle.range_cell.proofs.HoldingLemmas.{looked_so}
-use Rattle.range_cell.proofs.LookingLemmas.{down_now, looks_on}
+use Rattle.range_cell.proofs.LookingLemmas.{down_now, looks_on, up_on}
 use Rattle.range_cell.specs.Calls.{HasBegun, HasGivenBack, HasMetRange}
 use Rattle.range_cell.specs.Recoveries.{AtItsLeaf, AtLock, Behind, HasCarried, HasFoundNoMemory}
 use Rattle.range_cell.specs.Recoveries.{HasFoundTargetDown, HasNotRecovered, HasOpened, HasRecovered, HasReturned as HasComeBack}
-use Rattle.range_cell.specs.Recoveries.{IsFoundDown, IsLooking, OnTheWay, RanShort, after_copying}
+use Rattle.range_cell.specs.Recoveries.{IsFoundDown, IsFoundUp, IsLooking, OnTheWay, RanShort, after_copying}
 use Rattle.range_cell.specs.declared.answers.RecoverFault.{RecoverFault}
 use Rattle.range_cell.specs.declared.answers.RecoverFault.TheVariants as fault
 use Rattle.write_core.specs.Recovering.{denial_of}
@@ -191,13 +191,34 @@ module _ (setting : Setting) (config : Config) (leaves : ℕ) (range : Range) (l
             }) in
             record { more = was.more; notes = was.notes; noted = was.noted; from = was.from; down = was.down }
 
+        looked_up : (at : Leaf) (cut : ℕ) → IsFoundUp begun mid at cut → WasFoundUp before after at cut
+        looked_up at cut found =
+            let noted = found.noted in
+            let was = over_up setting config leaves range before then is counted history begun there begins looked_over
+            came_back at cut found.seen_by_then found.up (record {
+              more = noted.more;
+              notes = noted.notes;
+              noted = noted.noted;
+              low = noted.low;
+            }) in
+            record {
+              more = was.more;
+              notes = was.notes;
+              noted = was.noted;
+              from = was.from;
+              seen_by_then = was.seen_by_then;
+              up = was.up;
+            }
+
     -- ---- the leaf was down, or had no memory
 
     target_down : (cut : ℕ) → HasCarried leaves range leaf history (pass_of before) begun after
         (λ mid. HasFoundTargetDown leaves range leaf history (pass_of before) mid after cut)
         → IsLeft × WasFoundSo config range history before after × WasFoundDown before after leaf cut
+        × WasSourceUp before after (serving history)
     target_down cut h =
         let met = h.ends in
+        let source = h.source in
         let n = after_copying history begun in
         let looking = looks_on range n n begun h.mid met.then h.looking begun_held leaf met.at_leaf.history
         met.at_leaf.called met.at_leaf.rooms_are (met.at_leaf.handed ∙ h.looking.counted) in (
@@ -206,6 +227,14 @@ module _ (setting : Setting) (config : Config) (leaves : ℕ) (range : Range) (l
           looked_down n met.then looking met.back leaf cut
               (down_now range n n begun h.mid met.then h.looking begun_held leaf met.at_leaf.history met.at_leaf.called
               cut met.at_leaf.down met.at_leaf.counted),
+          record {
+            source = source.source;
+            among = source.among;
+            cut = source.cut;
+            up = looked_up n met.then looking met.back source.source.leaf source.cut
+                (up_on range n n begun h.mid met.then h.looking begun_held leaf met.at_leaf.history met.at_leaf.called
+                source.source.leaf source.cut source.found);
+          },
         )
 
     no_memory : HasCarried leaves range leaf history (pass_of before) begun after
@@ -437,7 +466,7 @@ module _ (setting : Setting) (config : Config) (leaves : ℕ) (range : Range) (l
       record { history = h.history; found = both.0; cause = (h.free, both.1) }
   why_so (fault.TargetDown cut) h =
       let all = target_down h.history h.begun h.begins cut h.ends in
-      record { history = h.history; found = all.1; cause = (h.free, all.2) }
+      record { history = h.history; found = all.1; cause = (h.free, all.2, all.3) }
   why_so fault.OutOfMemory h = tt
 
   abbrev Recovered : Result Slot RecoverFault → Type 0

@@ -20,7 +20,7 @@ use Rattle.mon_value.specs.declared.histories.Histories.{Histories}
 use Rattle.mon_value.specs.declared.positions.Leaf.{Leaf}
 use Rattle.mon_value.specs.declared.positions.Range.{Range}
 use Rattle.mon_value.specs.declared.positions.Slot.{Slot}
-use Rattle.mql_types.specs.Nodes.{TypedTree}
+use Rattle.typed_trees.specs.Nodes.{TypedTree}
 use Rattle.query_core.specs.Mixtures.{typed_of}
 use Rattle.query_core.specs.Traces.{IsTraceOf, cut_of, looked_at}
 use Rattle.query_core.specs.declared.answers.Answer.{Answer}

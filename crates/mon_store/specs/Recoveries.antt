@@ -26,7 +26,7 @@ use Rattle.write_core.specs.CopySteps.{next_slot}
 use Rattle.write_core.specs.Recovering.{denial_of}
 use Rattle.write_core.specs.declared.copies.Denial.TheVariants.{ServesFully, ServesThere, SlotsSpent}
 use Rattle.mon_store.specs.Writes.{WasFoundSo, new_entries, only_in, own_entries}
-use Rattle.running_query.specs.Ends.{WasFoundDown}
+use Rattle.running_query.specs.Ends.{WasFoundDown, WasFoundUp}
 
 -- what a recovery adds: the replica with its rows, on the leaf, and the replica in its range's history
 abbrev pub opened : ℕ → Range → Slot → Leaf → List Row → History → List BookEntry
@@ -53,6 +53,13 @@ pub record IsUnrecovered (before after : Knowledge) : Type 0 where
 pub record WereFoundDown (before after : Knowledge) (replicas : List SlotLeaf) (founds : List FoundDown) : Type 0 where
   pub leaves : map (λ (found : FoundDown). found.leaf) founds ≡ map (λ (replica : SlotLeaf). replica.leaf) replicas
   pub down : (found : FoundDown) → Contains founds found → WasFoundDown before after found.leaf found.cut
+
+-- the leaf of one of these replicas was found up
+pub record WasSourceUp (before after : Knowledge) (replicas : List SlotLeaf) : Type 0 where
+  pub source : SlotLeaf
+  pub among : Contains replicas source
+  pub cut : ℕ
+  pub up : WasFoundUp before after source.leaf cut
 
 module _ (config : Config) (range : Range) (leaf : Leaf) (before after : Knowledge) where
   -- The range's history opens one more replica on the leaf: in its next slot, with all rows that it acknowledges. That
@@ -87,5 +94,6 @@ module _ (config : Config) (range : Range) (leaf : Leaf) (before after : Knowled
   IsNotRecovered (fault.SourceDown founds) =
       IsNotRecoveredAs (λ history. (denial_of history leaf ≡ None) × WereFoundDown before after (serving history) founds)
   IsNotRecovered (fault.TargetDown cut) =
-      IsNotRecoveredAs (λ history. (denial_of history leaf ≡ None) × WasFoundDown before after leaf cut)
+      IsNotRecoveredAs (λ history. (denial_of history leaf ≡ None) × WasFoundDown before after leaf cut
+      × WasSourceUp before after (serving history))
   IsNotRecovered fault.OutOfMemory = Unit {0}

@@ -3,10 +3,10 @@ use crate::stores::Store;
 use know::{Know, Names};
 use leaf_cell::{VisitFault, Visited};
 use mon_value::{Leaf, Leaves, Range, RangeSlots, SlotLeaf};
-use mql_types::Plan;
 use running_query::QueryCells;
 use std::alloc::Global;
 use std::sync::Wait;
+use typed_trees::Plan;
 
 /// A store, with what waits for its locks.
 #[derive(Drop)]

@@ -23,12 +23,12 @@ use mon_config::Config;
 use mon_topo::{ranges_have_replicas, zones_are_few};
 use mon_value::{Founds, OutOfMemory, Range, Refusal};
 use mql_parse::ParseFault;
-use mql_types::{Plan, TypeFault};
 use query_core::{Answer, QueryMachine, RoundFault, Trace};
 use query_texts::{TextFault, plan_of};
 use running_query::looked_up;
 use std::alloc::Global;
 use std::sync::Wait;
+use typed_trees::{Plan, TypeFault};
 
 /// Why a query has no table.
 #[derive(Drop)]

@@ -2,13 +2,13 @@
 use Rattle.std.proofs.Common.{◌≡◌, ◌∙◌, ℕ, ◌+◌, ◌||◌, Bool, true, false, zero, suc, cond, nat_lt, List, [], ◌∷◌, ◌++◌}
 use Rattle.std.proofs.Common.{Option, map, drop, refl, ap, sym, arith}
 use Rattle.std.proofs.lemmas.Bool.Decides.{nat_tests}
-use Rattle.mql_types.proofs.FaultLemmas.{first_with-append}
+use Rattle.typed_columns.proofs.FaultLemmas.{first_with-append}
 use Rattle.mql_ast.specs.declared.operations.Op.{Op}
 use Rattle.mql_ast.specs.Trees.{OpTree, op_tree}
-use Rattle.mql_types.specs.declared.faults.TypeFault.{TypeFault}
-use Rattle.mql_types.specs.Faults.{first_with}
-use Rattle.mql_types.specs.Times.{have_steps, is_every, is_step, is_within_deed, order_fault, order_faults}
-use Rattle.mql_types.specs.Times.{steps_length}
+use Rattle.typed_trees.specs.declared.faults.TypeFault.{TypeFault}
+use Rattle.typed_trees.specs.Faults.{first_with}
+use Rattle.typed_trees.specs.Times.{have_steps, is_every, is_step, is_within_deed, order_fault, order_faults}
+use Rattle.typed_trees.specs.Times.{steps_length}
 
 -- the length up to the last step, where the operations from a place on are still to be looked at
 abbrev pub length_behind : ℕ → ℕ → List OpTree → ℕ

@@ -4,14 +4,14 @@ use Rattle.mon_schema.specs.Names.{SchemaLists}
 use Rattle.mql_ast.specs.Trees.{PipeTree}
 use Rattle.mql_ast.specs.declared.pipes.How.{How}
 use Rattle.mql_ast.specs.declared.pipes.How.TheVariants as how
-use Rattle.mql_types.specs.declared.faults.TypeFault.{TypeFault}
-use Rattle.mql_types.specs.declared.times.Times.{Times}
-use Rattle.mql_types.specs.Faults.{first_fault, first_with}
-use Rattle.mql_types.specs.Nodes.{NodeTree, TypedTree}
-use Rattle.mql_types.specs.Times.{every_said, pipe_order_faults, query_times, times_faults, within_said}
-use Rattle.mql_types.specs.Typing.{aligned_tree, branch_info, branch_node, joint_node, pipe_faults, pipe_part}
-use Rattle.mql_types.specs.Typing.{query_faults, tree_or_fault, typed_query, typing}
-use Rattle.mql_types.proofs.FaultLemmas.{first_with-three}
+use Rattle.typed_trees.specs.declared.faults.TypeFault.{TypeFault}
+use Rattle.typed_trees.specs.declared.times.Times.{Times}
+use Rattle.typed_trees.specs.Faults.{first_fault, first_with}
+use Rattle.typed_trees.specs.Nodes.{NodeTree, TypedTree}
+use Rattle.typed_trees.specs.Times.{every_said, pipe_order_faults, query_times, times_faults, within_said}
+use Rattle.typed_trees.specs.Typing.{aligned_tree, branch_info, branch_node, joint_node, pipe_faults, pipe_part}
+use Rattle.typed_trees.specs.Typing.{query_faults, tree_or_fault, typed_query, typing}
+use Rattle.typed_columns.proofs.FaultLemmas.{first_with-three}
 
 -- two tables are brought together by what is told of them
 pub branch_made : (held : SchemaLists) (by : How) (at : ℕ) (left right : NodeTree)

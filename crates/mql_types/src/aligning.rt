@@ -1,17 +1,15 @@
 // Alignment, as a query says it and by default.
 ghost use Rattle.std.specs.Prelude.{◌≡◌, IfOk, map, None};
-ghost use Rattle.mql_types.specs.Faults.{first_with};
-ghost use Rattle.mql_types.specs.Nodes.{node_tree};
+ghost use Rattle.typed_trees.specs.Faults.{first_with};
+ghost use Rattle.typed_trees.specs.Nodes.{node_tree};
 ghost use Rattle.mql_types.specs.PartViews.{part_view};
-ghost use Rattle.mql_types.specs.Typing as spec;
+ghost use Rattle.typed_trees.specs.Typing as spec;
 
-use crate::branches::with_width;
-use crate::faults::{Faults, TypeKind};
-use crate::nodes::{Node, NodeInfo};
 use crate::parts::Part;
-use crate::widths::{OF_DELTA, OF_NUMBER, Width};
 use mon_value::{Aligner, Column, Columns, Kind, Shared, TryCopy};
 use std::alloc::{AllocError, Global};
+use typed_columns::with_width;
+use typed_trees::{Faults, Node, NodeInfo, OF_DELTA, OF_NUMBER, TypeKind, Width};
 
 /// A table: what isn't aligned yet is aligned here, at no place of the text.
 pub(crate) fn aligned_tree(alloc: Global, every: i64, part: Part) -> Result<Node, AllocError>

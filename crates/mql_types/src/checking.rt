@@ -2,23 +2,23 @@
 ghost use Rattle.std.specs.Prelude.{◌≡◌};
 ghost use Rattle.mon_value.specs.Answers.{GivesView};
 ghost use Rattle.mql_ast.specs.Trees.{query_tree};
-ghost use Rattle.mql_types.specs.Nodes.{node_tree, typed_tree};
-ghost use Rattle.mql_types.specs.Times.{every_said, within_said};
-ghost use Rattle.mql_types.specs.Typing.{typing};
+ghost use Rattle.typed_trees.specs.Nodes.{node_tree, typed_tree};
+ghost use Rattle.typed_trees.specs.Times.{every_said, within_said};
+ghost use Rattle.typed_trees.specs.Typing.{typing};
 
 use crate::aligning::aligned_tree;
-use crate::faults::{Faults, TypeFault};
-use crate::nodes::{Node, Typed};
-use crate::parts::{TypingSetting, pipe_part};
-use crate::times::{Times, hear_pipe};
+use crate::parts::pipe_part;
+use crate::times::hear_pipe;
 use mon_schema::Schemas;
 use mon_value::Refusal;
 use mql_ast::Query;
 use std::alloc::Global;
+use typed_columns::TypingSetting;
+use typed_trees::{Faults, Node, Times, TypeFault, Typed};
 
 /// The typed tree of a query over the schemas, or the first of its faults: the one furthest left, and of those at one
 /// place the one of the least number.
-#[tactic(auto, using(crate::proofs::FaultLemmas::faults), unfolding(crate::specs::Typing::typing))]
+#[tactic(auto, using(typed_columns::proofs::FaultLemmas::faults), unfolding(typed_trees::specs::Typing::typing))]
 pub fn check(alloc: Global, query: &Query, schemas: &Schemas) -> Result<Typed, Refusal<TypeFault>>
     ensures typed { GivesView typed_tree result (typing schemas.now (query_tree query.now)) }
 {

@@ -1,32 +1,28 @@
 // Operations on a part of a query.
 ghost use Rattle.std.specs.Prelude.{◌≡◌, IfOk, OnOk, map, Some, unwrap_or};
 ghost use Rattle.mql_ast.specs.Trees.{deed_tree, item_tree, op_tree, predicate_tree};
-ghost use Rattle.mql_types.specs.Faults.{first_with};
-ghost use Rattle.mql_types.specs.Fetches.{condition_faults, predicate_faults};
-ghost use Rattle.mql_types.specs.Groupings.{group_faults, place_found};
-ghost use Rattle.mql_types.specs.Items.{is_number_type, value_faults};
-ghost use Rattle.mql_types.specs.declared.faults.TypeWord.TheVariants as word;
-ghost use Rattle.mql_types.specs.Nodes as node;
-ghost use Rattle.mql_types.specs.Nodes.{columns_of, node_tree};
+ghost use Rattle.typed_trees.specs.Faults.{first_with};
+ghost use Rattle.typed_trees.specs.Fetches.{condition_faults, predicate_faults};
+ghost use Rattle.typed_trees.specs.Groupings.{group_faults, place_found};
+ghost use Rattle.typed_trees.specs.Items.{is_number_type, value_faults};
+ghost use Rattle.typed_trees.specs.declared.faults.TypeWord.TheVariants as word;
+ghost use Rattle.typed_trees.specs.Nodes as node;
+ghost use Rattle.typed_trees.specs.Nodes.{columns_of, node_tree};
 ghost use Rattle.mql_types.specs.PartViews.{part_view};
-ghost use Rattle.mql_types.specs.Typing as spec;
+ghost use Rattle.typed_trees.specs.Typing as spec;
 
 use crate::aligning::{align_node, aligned_tree, tell_align};
-use crate::faults::Faults;
-use crate::fetches::column_number;
-use crate::filters::tell_predicate;
-use crate::groupings::Grouping;
-use crate::items::value_columns;
-use crate::levels::Level;
-use crate::nodes::{Node, NodeInfo};
-use crate::parts::{Part, TypingSetting, table};
-use crate::places::NamedColumns;
+use crate::parts::{Part, table};
 use mon_value::{Aligner, Column, Shared, TryCopy};
 use mql_ast::{Aggregate, Items, Name, Op, OpKind, Predicate};
 use std::alloc::{AllocError, Global};
+use typed_columns::{
+    Grouping, NamedColumns, TypingSetting, column_number, tell_predicate, value_columns,
+};
+use typed_trees::{Faults, Level, Node, NodeInfo};
 
 /// A part with operations more. Tells what is wrong in them.
-#[tactic(auto, using(crate::proofs::FaultLemmas::faults))]
+#[tactic(auto, using(typed_columns::proofs::FaultLemmas::faults))]
 pub(crate) fn ops_part(
     setting: TypingSetting<'_>,
     part: Part,

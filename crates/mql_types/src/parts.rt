@@ -4,34 +4,24 @@ ghost use Rattle.std.specs.Option.{option_copied};
 ghost use Rattle.mon_schema.specs.Faults.{texts_repeat};
 ghost use Rattle.mon_value.specs.Tables.{column_names};
 ghost use Rattle.mql_ast.specs.Trees.{branches, pipe_tree, source_tree};
-ghost use Rattle.mql_types.specs.Faults.{fault_where, first_with};
-ghost use Rattle.mql_types.specs.Branches as branch;
-ghost use Rattle.mql_types.specs.Fetches as fetch;
-ghost use Rattle.mql_types.specs.Nodes as tree;
-ghost use Rattle.mql_types.specs.Nodes.{columns_of, node_tree};
+ghost use Rattle.typed_trees.specs.Faults.{fault_where, first_with};
+ghost use Rattle.typed_trees.specs.Branches as branch;
+ghost use Rattle.typed_trees.specs.Fetches as fetch;
+ghost use Rattle.typed_trees.specs.Nodes as tree;
+ghost use Rattle.typed_trees.specs.Nodes.{columns_of, node_tree};
 ghost use Rattle.mql_types.specs.PartViews.{part_view};
-ghost use Rattle.mql_types.specs.Typing as spec;
+ghost use Rattle.typed_trees.specs.Typing as spec;
 
 use crate::aligning::aligned_tree;
-use crate::branches::{Joined, same_columns, union_columns};
-use crate::faults::{Faults, TypeKind};
-use crate::fetches::{fetch_columns, kind_of, names_repeat};
-use crate::levels::{Level, meeting_level};
-use crate::nodes::{Node, NodeInfo};
 use crate::operations::ops_part;
-use crate::widths::tell_wide_columns;
-use mon_schema::Schemas;
 use mon_value::{Columns, Kind, MetricSchema, TargetSchema, Text, TryCopy};
 use mql_ast::{How, Name, Pipe, Source};
 use std::alloc::{AllocError, Global};
-
-/// What every part is typed by: the schemas that are held, and the seconds from one time to the next.
-#[derive(Clone, Copy)]
-pub(crate) struct TypingSetting<'a> {
-    pub(crate) alloc: Global,
-    pub(crate) schemas: &'a Schemas,
-    pub(crate) every: i64,
-}
+use typed_columns::{
+    Joined, TypingSetting, fetch_columns, kind_of, meeting_level, names_repeat, same_columns,
+    tell_wide_columns, union_columns,
+};
+use typed_trees::{Faults, Level, Node, NodeInfo, TypeKind};
 
 /// A part of a query: its tree, and the kind of its metric while its points aren't aligned.
 #[derive(Drop)]
@@ -49,7 +39,7 @@ pub(crate) fn table(node: Node) -> Part
 
 /// The part that a pipe is. Tells what is wrong in it.
 #[cycle(parts)]
-#[tactic(auto, using(crate::proofs::FaultLemmas::faults))]
+#[tactic(auto, using(typed_columns::proofs::FaultLemmas::faults))]
 pub(crate) fn pipe_part(
     setting: TypingSetting<'_>,
     pipe: &Pipe,
@@ -65,7 +55,7 @@ pub(crate) fn pipe_part(
 }
 
 #[cycle(parts)]
-#[tactic(auto, using(crate::proofs::FaultLemmas::faults))]
+#[tactic(auto, using(typed_columns::proofs::FaultLemmas::faults))]
 fn source_part(
     setting: TypingSetting<'_>,
     source: &Source,
@@ -96,7 +86,7 @@ fn source_part(
 
 // Branches are taken from the left, two at a time.
 #[cycle(parts)]
-#[tactic(auto, using(crate::proofs::FaultLemmas::faults))]
+#[tactic(auto, using(typed_columns::proofs::FaultLemmas::faults))]
 fn branches_node(
     setting: TypingSetting<'_>,
     pipes: &[Pipe],
@@ -123,7 +113,7 @@ fn branches_node(
 
 // A branch, whose table is aligned.
 #[cycle(parts)]
-#[tactic(auto, using(crate::proofs::FaultLemmas::faults))]
+#[tactic(auto, using(typed_columns::proofs::FaultLemmas::faults))]
 fn branch_table(
     setting: TypingSetting<'_>,
     pipe: &Pipe,
@@ -221,7 +211,7 @@ fn branch_info(
 }
 
 // What is told of a join.
-#[tactic(auto, using(crate::proofs::FaultLemmas::faults))]
+#[tactic(auto, using(typed_columns::proofs::FaultLemmas::faults))]
 fn join_info(
     setting: TypingSetting<'_>,
     at: u32,
@@ -244,7 +234,7 @@ fn join_info(
 }
 
 // What is told of a union.
-#[tactic(auto, using(crate::proofs::FaultLemmas::faults))]
+#[tactic(auto, using(typed_columns::proofs::FaultLemmas::faults))]
 fn union_info(
     setting: TypingSetting<'_>,
     at: u32,
@@ -267,7 +257,7 @@ fn union_info(
 }
 
 // A fetch, which each leaf does.
-#[tactic(auto, using(crate::proofs::FaultLemmas::faults))]
+#[tactic(auto, using(typed_columns::proofs::FaultLemmas::faults))]
 fn fetch_part(
     setting: TypingSetting<'_>,
     at: u32,

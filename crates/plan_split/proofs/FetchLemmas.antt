@@ -13,11 +13,11 @@ use Rattle.mon_hints.specs.Formulas.{FormulaTree, holds, is_among}
 use Rattle.mon_hints.specs.Hints.{field_buckets, metric_bucket, series_buckets}
 use Rattle.mon_schema.specs.Names.{SchemaLists, metric_named, target_named}
 use Rattle.mql_ast.specs.Rows.{predicate_truth}
-use Rattle.mql_types.specs.Fetches.{columns_fetched, fetch_columns}
-use Rattle.mql_types.specs.Meaning.{lets_in, meets, names_keys, series_cells, is_fetched}
-use Rattle.mql_types.specs.Nodes as node
-use Rattle.mql_types.specs.Nodes.{NodeTree, columns_of}
-use Rattle.mql_types.specs.Plans.{HasFetchColumns}
+use Rattle.typed_trees.specs.Fetches.{columns_fetched, fetch_columns}
+use Rattle.typed_trees.specs.Meaning.{lets_in, meets, names_keys, series_cells, is_fetched}
+use Rattle.typed_trees.specs.Nodes as node
+use Rattle.typed_trees.specs.Nodes.{NodeTree, columns_of}
+use Rattle.typed_trees.specs.Plans.{HasFetchColumns}
 use Rattle.plan_split.specs.FetchFormulas.{fetch_formula, schema_fetched, both, predicate_formula}
 use Rattle.plan_split.specs.Meeting.{AllHoldWhereMet, HasFields, HoldsWhereMet}
 use Rattle.plan_split.proofs.HintLemmas.{among-self}

@@ -22,8 +22,8 @@ use Rattle.mon_hints.specs.Hints.{value_buckets}
 use Rattle.mon_hints.specs.Formulas.{AreAmong, is_among}
 use Rattle.mql_ast.specs.Rows.{cell_named, place_of}
 use Rattle.mon_value.specs.Tables.{column_names}
-use Rattle.mql_types.specs.Fetches.{columns_fetched, key_column, target_columns, value_column}
-use Rattle.mql_types.specs.Meaning.{series_cells}
+use Rattle.typed_trees.specs.Fetches.{columns_fetched, key_column, target_columns, value_column}
+use Rattle.typed_trees.specs.Meaning.{series_cells}
 use Rattle.plan_split.specs.Meeting.{HasFields}
 
 -- ---- lists of buckets

@@ -3,7 +3,7 @@ use Rattle.std.proofs.Common.{◌≡◌, ◌∙◌, ℕ, ◌+◌, ◌<◌, Bool,
 use Rattle.std.proofs.lemmas.List.FromFn.{map-range_with_len_more}
 use Rattle.std.specs.List.{range_with_len}
 use Rattle.mon_hints.specs.Hints.{IsMask, has_bit}
-use Rattle.mql_types.specs.declared.plans.Plan.{Plan}
+use Rattle.typed_trees.specs.declared.plans.Plan.{Plan}
 use Rattle.plan_split.specs.Meeting.{lets_child_in}
 
 pub flags_more : (plan : Plan) (words : List ℕ) (mask child : ℕ) → IsMask mask (lets_child_in plan words) → child < 64

@@ -1,10 +1,10 @@
 -- A part that is put at the end comes first.
 use Rattle.std.proofs.Common.{◌≡◌, ◌∙◌, ◌+◌, List, [], ◌∷◌, ◌++◌, ap, sym, append_assoc, append-nil, arith}
 use Rattle.std.proofs.lemmas.List.{map-append}
-use Rattle.mql_types.specs.ExplanationParts.{nodes}
-use Rattle.mql_types.specs.Nodes.{node_tree}
-use Rattle.mql_types.specs.Plans.{fetches}
-use Rattle.mql_types.specs.declared.nodes.Node.{Node}
+use Rattle.typed_trees.specs.ExplanationParts.{nodes}
+use Rattle.typed_trees.specs.Nodes.{node_tree}
+use Rattle.typed_trees.specs.Plans.{fetches}
+use Rattle.typed_trees.specs.declared.nodes.Node.{Node}
 use Rattle.plan_split.specs.FetchParts.{remaining_fetches, remaining_nodes}
 use denote.Ref.{Bor}
 

@@ -13,10 +13,10 @@ use Rattle.mql_ast.specs.Trees as tree
 use Rattle.mql_ast.specs.Trees.{PredicateTree}
 use Rattle.mql_ast.specs.declared.predicates.Comparison.{Comparison}
 use Rattle.mql_ast.specs.declared.predicates.Comparison.TheVariants as comparison
-use Rattle.mql_types.specs.Meaning.{names_keys}
-use Rattle.mql_types.specs.Nodes as node
-use Rattle.mql_types.specs.Nodes.{NodeTree}
-use Rattle.mql_types.specs.Plans.{fetches}
+use Rattle.typed_trees.specs.Meaning.{names_keys}
+use Rattle.typed_trees.specs.Nodes as node
+use Rattle.typed_trees.specs.Nodes.{NodeTree}
+use Rattle.typed_trees.specs.Plans.{fetches}
 use Rattle.plan_split.specs.FetchFormulas.{fetch_formula, plan_formulas, schema_fetched, all_of, both, choices}
 use Rattle.plan_split.specs.FetchFormulas.{formula_list, one_of, wanted_formulas, bucket_formula, comparison_formula}
 use Rattle.plan_split.specs.FetchFormulas.{predicate_formula}

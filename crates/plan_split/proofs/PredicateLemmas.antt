@@ -22,8 +22,8 @@ use Rattle.mql_ast.specs.Trees as tree
 use Rattle.mql_ast.specs.Trees.{PredicateTree}
 use Rattle.mql_ast.specs.declared.predicates.Comparison.{Comparison}
 use Rattle.mql_ast.specs.declared.predicates.Comparison.TheVariants as comparison
-use Rattle.mql_types.specs.Fetches.{columns_fetched}
-use Rattle.mql_types.specs.Meaning.{series_cells}
+use Rattle.typed_trees.specs.Fetches.{columns_fetched}
+use Rattle.typed_trees.specs.Meaning.{series_cells}
 use Rattle.plan_split.specs.FetchFormulas.{bucket_formula, comparison_formula, excerpts_formula, likeness_formula}
 use Rattle.plan_split.specs.FetchFormulas.{predicate_formula}
 use Rattle.plan_split.specs.Meeting.{HasFields, HoldsWhereTrue}

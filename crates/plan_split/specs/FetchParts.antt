@@ -1,9 +1,9 @@
 -- What is still to be gone through of a query's tree. Only proofs need these.
 use Rattle.std.specs.Prelude.{ℕ, ◌+◌, List, [], ◌∷◌, ◌++◌}
-use Rattle.mql_types.specs.ExplanationParts.{nodes}
-use Rattle.mql_types.specs.Nodes.{NodeTree, node_tree}
-use Rattle.mql_types.specs.Plans.{fetches}
-use Rattle.mql_types.specs.declared.nodes.Node.{Node}
+use Rattle.typed_trees.specs.ExplanationParts.{nodes}
+use Rattle.typed_trees.specs.Nodes.{NodeTree, node_tree}
+use Rattle.typed_trees.specs.Plans.{fetches}
+use Rattle.typed_trees.specs.declared.nodes.Node.{Node}
 use denote.Ref.{Bor}
 
 -- the fetches of the parts to come, the last of them first

@@ -9,10 +9,10 @@ use Rattle.mon_hints.specs.Hints.{series_buckets, buckets_of_child}
 use Rattle.mon_schema.specs.Names.{SchemaLists, metric_named, target_named}
 use Rattle.mql_ast.specs.Trees.{PredicateTree}
 use Rattle.mql_ast.specs.Rows.{predicate_truth}
-use Rattle.mql_types.specs.Fetches.{columns_fetched}
-use Rattle.mql_types.specs.Meaning.{meets, series_cells}
-use Rattle.mql_types.specs.Nodes.{NodeTree}
-use Rattle.mql_types.specs.declared.plans.Plan.{Plan}
+use Rattle.typed_trees.specs.Fetches.{columns_fetched}
+use Rattle.typed_trees.specs.Meaning.{meets, series_cells}
+use Rattle.typed_trees.specs.Nodes.{NodeTree}
+use Rattle.typed_trees.specs.declared.plans.Plan.{Plan}
 
 -- What a formula promises: a series of which it doesn't hold can't be what is looked for.
 

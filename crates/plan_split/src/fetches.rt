@@ -2,8 +2,8 @@
 ghost use Rattle.std.specs.Prelude.{◌≡◌, ◌<◌, ℕ, List, if◌then◌else◌, IfOk, OnOk};
 ghost use Rattle.mon_hints.specs.Formulas.{FormulaTree, formula_tree};
 ghost use Rattle.mql_ast.specs.Trees.{predicate_tree};
-ghost use Rattle.mql_types.specs.Meaning as loads;
-ghost use Rattle.mql_types.specs.Nodes.{node_tree};
+ghost use Rattle.typed_trees.specs.Meaning as loads;
+ghost use Rattle.typed_trees.specs.Nodes.{node_tree};
 ghost use Rattle.plan_split.specs.FetchFormulas as spec;
 ghost use Rattle.plan_split.specs.FormulaLinks.{filtered_formula};
 ghost use Rattle.plan_split.specs.FetchFormulas.{predicate_formula};
@@ -13,8 +13,8 @@ use crate::predicates::BucketSetting;
 use mon_hints::Formula;
 use mon_value::{Columns, OutOfMemory};
 use mql_ast::Predicate;
-use mql_types::{Node, names_keys};
 use std::alloc::Global;
+use typed_trees::{Node, names_keys};
 
 /// Which buckets, among so many, a series has where it meets a fetch: that of its metric, and what the filters want
 /// that name its keys alone. The filters are kept in a list, since a fetch may have many thousand.

@@ -6,8 +6,8 @@ ghost use Rattle.plan_split.specs.Meeting as spec;
 
 use mon_hints::{Buckets, Formula, Words, mask};
 use mon_value::{ListOf, OutOfMemory};
-use mql_types::Plan;
 use std::alloc::Global;
+use typed_trees::Plan;
 
 /// Of so many children, which ones the words let in: those of which some formula of the plan holds.
 #[tactic(auto, using(crate::proofs::MeetingLemmas::flags_more))]

@@ -4,10 +4,10 @@ ghost use Rattle.std.specs.List.{AllByRecursion};
 ghost use Rattle.mon_hints.specs.Formulas.{all_named, formula_tree, formulas, IsListing};
 ghost use Rattle.mon_schema.specs.Names.{SchemaLists};
 ghost use Rattle.mql_ast.specs.Trees.{PipeTree};
-ghost use Rattle.mql_types.specs.ExplanationParts.{nodes};
-ghost use Rattle.mql_types.specs.Nodes.{node_tree, typed_tree};
-ghost use Rattle.mql_types.specs.Plans.{fetches};
-ghost use Rattle.mql_types.specs.Typing.{typing};
+ghost use Rattle.typed_trees.specs.ExplanationParts.{nodes};
+ghost use Rattle.typed_trees.specs.Nodes.{node_tree, typed_tree};
+ghost use Rattle.typed_trees.specs.Plans.{fetches};
+ghost use Rattle.typed_trees.specs.Typing.{typing};
 ghost use Rattle.plan_split.specs.FetchFormulas as spec;
 ghost use Rattle.plan_split.specs.FetchParts.{remaining_fetches, remaining_nodes};
 ghost use Rattle.plan_split.specs.Meeting.{AllHoldWhereMet};
@@ -15,8 +15,8 @@ ghost use Rattle.plan_split.specs.Meeting.{AllHoldWhereMet};
 use crate::fetches::fetch_formula;
 use mon_hints::buckets_of_all;
 use mon_value::OutOfMemory;
-use mql_types::{Formulas, Node, Plan, Typed};
 use std::alloc::Global;
+use typed_trees::{Formulas, Node, Plan, Typed};
 
 /// The plan of a typed query: its tree as it is, the formula of each of its fetches, from the left, among so many
 /// buckets, and the buckets that the formulas name. After a refusal the query is gone.

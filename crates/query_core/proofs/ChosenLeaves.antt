@@ -14,7 +14,7 @@ use Rattle.mon_topo.specs.declared.zones.ZoneSpec.{ZoneSpec}
 use Rattle.mon_value.specs.declared.positions.Leaf.{Leaf}
 use Rattle.mon_value.specs.declared.positions.Range.{Range}
 use Rattle.mon_value.specs.declared.positions.Zone.{Zone}
-use Rattle.mql_types.proofs.JoinedRows.{all-map}
+use Rattle.typed_rows.proofs.JoinedRows.{all-map}
 use Rattle.query_core.specs.Rounds.{area_of}
 use Rattle.query_core.proofs.DividedRows.{AreLeavesOf, AreOtherLeaves, AreOtherZones, SomeLeaves, all_leaves}
 use Rattle.query_core.proofs.ReadLeaves.{Ascend, among_from, ascend_append, ascend_before, ascend_once, ascend_within}

@@ -29,8 +29,8 @@ use Rattle.mixer.proofs.ApartTargets as apart_targets
 use Rattle.mixer.specs.Divisions.{ShareNoLocation, all_rows, has_location}
 use Rattle.mon_meaning.specs.ReadableSlots.{AreApart, ShareNoTarget}
 use Rattle.mixer.specs.Divisions.{together}
-use Rattle.mql_types.proofs.JoinedRows.{all-map}
-use Rattle.mql_types.proofs.KeptRows.{all-filter}
+use Rattle.typed_rows.proofs.JoinedRows.{all-map}
+use Rattle.typed_rows.proofs.KeptRows.{all-filter}
 use Rattle.query_core.specs.declared.answers.Resolved.{Resolved}
 use Rattle.mon_topo.proofs.PlacedRangeLemmas.{is_placed}
 use Rattle.query_core.proofs.LeafLemmas.{same_leaves}

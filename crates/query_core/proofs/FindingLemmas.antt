@@ -105,7 +105,7 @@ module _ (area : Area) (leaf : Leaf) (here : has_leaf area leaf ≡ true) where
   is_named [] any = any
   is_named (found ∷ founds) any = named_by found founds (has_leaf area found.leaf) refl any (is_named founds)
 
-all_named : (area : Area) (founds : List FoundDown) (replicas : List SlotLeaf)
+pub all_named : (area : Area) (founds : List FoundDown) (replicas : List SlotLeaf)
     → AllByRecursion (λ (replica : SlotLeaf). has_leaf area replica.leaf ≡ true) replicas
     → AllDown (found_leaves founds) replicas → AllDown (found_leaves (founds_of_zone founds area)) replicas
 all_named area founds [] here down = record {}

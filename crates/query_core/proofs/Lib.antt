@@ -10,6 +10,7 @@ mod HintFacts
 pub mod LeafLemmas
 mod MixLemmas
 mod MixedParts
+pub mod NamedDowns
 mod NamedLeaves
 mod NextPlaces
 mod OrderLemmas

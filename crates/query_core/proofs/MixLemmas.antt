@@ -16,8 +16,8 @@ use Rattle.mon_value.specs.declared.rows.Row.{Row}
 use Rattle.mon_meaning.specs.Central.{IsAnswer}
 use Rattle.mon_value.specs.declared.tables.Table.{Table}
 use Rattle.mon_schema.specs.Fits.{fits}
-use Rattle.mql_types.specs.Nodes.{TypedTree, typed_tree}
-use Rattle.mql_types.specs.declared.plans.Plan.{Plan}
+use Rattle.typed_trees.specs.Nodes.{TypedTree, typed_tree}
+use Rattle.typed_trees.specs.declared.plans.Plan.{Plan}
 use Rattle.query_core.specs.declared.areas.Area.{Area}
 use Rattle.query_core.specs.declared.courses.Course.{Course}
 use Rattle.query_core.specs.declared.stages.Stage.{Stage}

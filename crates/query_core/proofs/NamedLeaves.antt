@@ -3,17 +3,18 @@ use Rattle.std.proofs.Common.{◌≡◌, ℕ, ℤ, List, [], ◌∷◌, ◌++◌
 use Rattle.std.specs.List.{AllByRecursion as All}
 use Rattle.mon_topo.specs.Settings.{Setting}
 use Rattle.mon_value.specs.declared.positions.FoundDown.{FoundDown}
-use Rattle.mon_value.specs.declared.positions.Leaf.{Leaf}
+use Rattle.mon_value.specs.declared.positions.Range.{Range}
 use Rattle.std.specs.Prelude.{Contains}
-use Rattle.mon_topo.proofs.RangeHistoryLemmas.{all_from}
+use Rattle.mon_topo.proofs.RangeHistoryLemmas.{all_append, all_from}
 use Rattle.query_core.specs.Courses.{found_down}
 use Rattle.query_core.specs.declared.answers.RoundFault.TheVariants as fault
-use Rattle.query_core.proofs.FoundsTold.{EndDown, StageDown, ToldDown, settles_down, told_down}
+use Rattle.query_core.proofs.FoundsTold.{EndHas, HasThen, StageHas, settles_has, told_has}
 use Rattle.query_core.specs.Machine.{Query, new_query, slots_at}
 use Rattle.query_core.specs.Program.{after}
 use Rattle.query_core.specs.Sessions as session
 use Rattle.mon_topo.specs.Views.{View}
-use Rattle.query_core.specs.Rounds.{QuerySetting}
+use Rattle.typed_rows.proofs.KeptRows.{all-filter}
+use Rattle.query_core.specs.Rounds.{has_leaf, QuerySetting}
 use Rattle.query_core.specs.ToldDowns.{EndNames, down_told, downs_told}
 use Rattle.query_core.specs.declared.answers.Answer.{Answer}
 use Rattle.query_core.specs.declared.answers.RoundFault.{RoundFault}
@@ -24,41 +25,50 @@ use Rattle.query_core.specs.declared.stages.Stage.TheVariants as at
 use Rattle.mon_value.proofs.PlainLemmas.{all_front, all_back}
 
 module _ (Is : FoundDown → Type 0) where
-  abbrev Down : Leaf → ℕ → Type 0
-  Down leaf cut = Is (found_down leaf cut)
+  abbrev Named : Range → List FoundDown → Type 0
+  Named range named = All Is named
 
-  told_one : (stage : Stage) (answer : Told) → All Is (down_told stage answer) → ToldDown Down stage answer
-  told_one (at.Visiting course round visits leaf) (told.Down cut) h = h.0
-  told_one (at.Visiting course round visits leaf) (told.Word word seen) h = tt
-  told_one (at.Visiting course round visits leaf) (told.Slot slot other) h = tt
-  told_one (at.Visiting course round visits leaf) told.NoSlot h = tt
-  told_one (at.Visiting course round visits leaf) (told.Unread cut) h = tt
-  told_one (at.Visiting course round visits leaf) (told.Read cut answer) h = tt
-  told_one (at.Visiting course round visits leaf) (told.Over load cut) h = tt
-  told_one (at.Rooting loading) answer h = tt
-  told_one (at.Entering course round loading) answer h = tt
-  told_one (at.Resolving course round range) answer h = tt
-  told_one (at.Reloading course round loading) answer h = tt
-  told_one (at.Ended end) answer h = tt
+  told_one : (stage : Stage) (answer : Told) → All Is (down_told stage answer) → StageHas (All Is) Named stage
+      → HasThen (All Is) Named stage answer
+  told_one (at.Visiting course round visits leaf) (told.Down cut) h so =
+      all_append Is course.founds (found_down leaf cut ∷ []) so h
+  told_one (at.Visiting course round visits leaf) (told.Word word seen) h so = so
+  told_one (at.Visiting course round visits leaf) (told.Slot slot other) h so = so
+  told_one (at.Visiting course round visits leaf) told.NoSlot h so = so
+  told_one (at.Visiting course round visits leaf) (told.Unread cut) h so = so
+  told_one (at.Visiting course round visits leaf) (told.Read cut answer) h so = so
+  told_one (at.Visiting course round visits leaf) (told.Over load cut) h so = so
+  told_one (at.Resolving course round range) told.NoSlot h so =
+      all-filter Is (λ (found : FoundDown). has_leaf round.area found.leaf) course.founds so
+  told_one (at.Resolving course round range) (told.Word word seen) h so = so
+  told_one (at.Resolving course round range) (told.Slot slot other) h so = so
+  told_one (at.Resolving course round range) (told.Down cut) h so = so
+  told_one (at.Resolving course round range) (told.Unread cut) h so = so
+  told_one (at.Resolving course round range) (told.Read cut answer) h so = so
+  told_one (at.Resolving course round range) (told.Over load cut) h so = so
+  told_one (at.Rooting loading) answer h so = so
+  told_one (at.Entering course round loading) answer h so = so
+  told_one (at.Reloading course round loading) answer h so = so
+  told_one (at.Ended end) answer h so = so
 
   module _ (store : Setting) (setting : QuerySetting) (moment : ℤ) where
     session_down : (events : List (session.Event store setting moment)) (before : View) (query : Query)
-        → StageDown Down query.stage → All Is (downs_told store setting moment query events)
+        → StageHas (All Is) Named query.stage → All Is (downs_told store setting moment query events)
         → session.IsLicensed store setting moment before query events
-        → StageDown Down (session.query_after store setting moment query events).stage
+        → StageHas (All Is) Named (session.query_after store setting moment query events).stage
     session_down [] before query h all licensed = h
     session_down (event ∷ events) before query h all licensed =
         let next = session.told_then store setting moment query event in
         let first = down_told query.stage event.answer in
         let rest = downs_told store setting moment next events in
         session_down events event.view next
-        (settles_down Down setting (after setting query.stage event.answer) event.stage
-        (told_down Down store setting moment before event.view query.avoided (slots_at query) query.stage event.answer h
-        (told_one query.stage event.answer (all_front Is first rest all)) licensed.0.true_then)
+        (settles_has (All Is) Named setting (after setting query.stage event.answer) event.stage
+        (told_has (All Is) Named store setting moment before event.view query.avoided (slots_at query) query.stage
+        event.answer (told_one query.stage event.answer (all_front Is first rest all) h) licensed.0.true_then)
         licensed.0.goes_on)
         (all_back Is first rest all) licensed.1
 
-    end_names : (end : Result Answer RoundFault) → EndDown Down end → EndNames Is end
+    end_names : (end : Result Answer RoundFault) → EndHas (All Is) Named end → EndNames Is end
     end_names (Ok answer) h = h
     end_names (Err (fault.NoReplica range named)) h = h
     end_names (Err (fault.StepLimit limit trace)) h = h
@@ -69,7 +79,7 @@ module _ (Is : FoundDown → Type 0) where
         → (session.query_after store setting moment (new_query setting) events).stage ≡ at.Ended end → EndNames Is end
     named_told events before end all licensed ended =
         end_names end
-        (subst (StageDown Down) ended (session_down events before (new_query setting) tt all licensed))
+        (subst (StageHas (All Is) Named) ended (session_down events before (new_query setting) tt all licensed))
 
 -- each of them was told
 pub named_among : (store : Setting) (setting : QuerySetting) (moment : ℤ) (before : View)

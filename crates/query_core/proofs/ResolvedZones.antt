@@ -13,8 +13,8 @@ use Rattle.mon_topo.specs.declared.zones.ZoneSpec.{ZoneSpec}
 use Rattle.mon_schema.specs.Names.{SchemaLists}
 use Rattle.mon_value.specs.declared.positions.Leaf.{Leaf}
 use Rattle.mon_value.specs.declared.positions.SlotLeaf.{SlotLeaf}
-use Rattle.mql_types.proofs.JoinedRows.{all-map, column_of_all}
-use Rattle.mql_types.proofs.KeptRows.{all-filter}
+use Rattle.typed_rows.proofs.JoinedRows.{all-map, column_of_all}
+use Rattle.typed_rows.proofs.KeptRows.{all-filter}
 use Rattle.query_core.specs.declared.answers.Resolved.{Resolved}
 use Rattle.query_core.specs.Traces.{IsFirstServing, replica_of}
 use Rattle.query_core.proofs.AckedRows.{HasRows, serve_at}

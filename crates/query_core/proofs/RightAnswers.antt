@@ -12,7 +12,7 @@ use Rattle.mon_topo.specs.Zones.{first_leaf}
 use Rattle.mon_value.specs.declared.positions.FoundDown.{FoundDown}
 use Rattle.mon_value.specs.declared.positions.Leaf.{Leaf}
 use Rattle.mon_value.specs.declared.positions.Range.{Range}
-use Rattle.mql_types.proofs.JoinedRows.{all-map}
+use Rattle.typed_rows.proofs.JoinedRows.{all-map}
 use Rattle.query_core.specs.Answers.{IsAnsweredRightly, IsStoppedRightly}
 use Rattle.query_core.specs.Askings.{IsAskedOf}
 use Rattle.query_core.specs.declared.answers.Answer.{Answer}
@@ -124,12 +124,12 @@ module _ (store : Setting) (setting : QuerySetting) (moment : ℤ) (asked : IsAs
 
   -- ---- from one event to the next
 
-  record AreKept (before : View) (query : Query) : Type 0 where
-    since : AreWithin at_entry before.seen
-    sound : IsSound store before
-    stage : claim.StageSo store setting at_entry before query.avoided query.stage
+  pub record AreKept (before : View) (query : Query) : Type 0 where
+    pub since : AreWithin at_entry before.seen
+    pub sound : IsSound store before
+    pub stage : claim.StageSo store setting at_entry before query.avoided query.stage
 
-  keeps : Keeps store setting moment (TellsOf setting) asked.areas AreKept
+  pub keeps : Keeps store setting moment (TellsOf setting) asked.areas AreKept
   keeps = record {
     on = λ before query event also licensed. (
       record {
@@ -147,7 +147,7 @@ module _ (store : Setting) (setting : QuerySetting) (moment : ℤ) (asked : IsAs
     );
   }
 
-  kept_first : (view : View) → view.seen ≡ at_entry → IsSound store view → AreKept view (new_query setting)
+  pub kept_first : (view : View) → view.seen ≡ at_entry → IsSound store view → AreKept view (new_query setting)
   kept_first view same sound = record {
     since = subst (λ (seen : Histories). AreWithin seen view.seen) same (seen_within_itself view.seen);
     sound = sound;

@@ -231,6 +231,7 @@ module _ (held : SchemaLists) (zones : List ZoneSpec) (points : ℕ)
     unread = λ e. slots_among (λ row. wanted row ≡ false) history slots
         (unmet history (home_rows held zones history home) out);
     read = λ e. absurd (cc);
+    up = λ e. absurd (cc);
   }
 
   module _ (at_entry seen now : Histories) (holds : AreHeld held zones points seen) (since : AreWithin at_entry seen)

@@ -18,8 +18,8 @@ use Rattle.mon_topo.specs.declared.zones.ZoneSpec.{ZoneSpec}
 use Rattle.mon_value.specs.declared.histories.Entry.{Entry}
 use Rattle.mon_value.specs.declared.positions.Range.{Range}
 use Rattle.mon_value.specs.declared.rows.Row.{Row}
-use Rattle.mql_types.proofs.JoinedRows.{all-map}
-use Rattle.mql_types.specs.Levels.{sent_amount}
+use Rattle.typed_rows.proofs.JoinedRows.{all-map}
+use Rattle.typed_trees.specs.Levels.{sent_amount}
 use Rattle.query_core.specs.declared.answers.Resolved.{Resolved}
 use Rattle.query_core.specs.declared.areas.Area.{Area}
 use Rattle.query_core.specs.declared.asks.Seen.{Seen}

@@ -12,7 +12,7 @@ use Rattle.mon_topo.specs.Zones.{first_leaf}
 use Rattle.mon_value.specs.declared.positions.Leaf.{Leaf}
 use Rattle.mon_value.specs.declared.rows.Row.{Row}
 use Rattle.mon_fold.specs.declared.answers.LeafAnswer.{LeafAnswer}
-use Rattle.mql_types.specs.Levels.{sent_amount}
+use Rattle.typed_trees.specs.Levels.{sent_amount}
 use Rattle.query_core.specs.Askings.{IsAskedOf}
 use Rattle.query_core.specs.declared.answers.Resolved.{Resolved}
 use Rattle.query_core.specs.declared.answers.Trace.{Trace}

@@ -16,7 +16,7 @@ use Rattle.mon_value.specs.declared.histories.Histories.{Histories}
 use Rattle.mon_topo.specs.HeldHistories.{BeginsWith, AreWithin}
 use Rattle.mon_topo.specs.RangeHistories.{acknowledged_rows, serving, first_serving, is_avoided}
 use Rattle.mon_value.proofs.LeafHistoryLemmas.{is_opened-append}
-use Rattle.mon_value.specs.LeafHistories.{entry_rows, is_opened, replica_rows}
+use Rattle.mon_value.specs.LeafHistories.{entry_rows, is_down, is_opened, replica_rows}
 use Rattle.mon_value.specs.declared.histories.Entry.{Entry}
 use Rattle.mon_value.specs.declared.histories.RangeEntry.{RangeEntry}
 use Rattle.mon_value.specs.declared.positions.Leaf.{Leaf}
@@ -155,11 +155,12 @@ counted_on first (suc n) m next e =
 abbrev pub up_to : Histories → Leaf → Look → List Entry
 up_to now leaf look = take look.cut (leaf_history now leaf)
 
--- a leaf that was not read has no row there that is wanted; one that was read has a formula that holds
+-- a leaf that was not read has no row there that is wanted; one that was read was up, and has a formula that holds
 pub record Tells (wanted : Row → Bool) (met : List ℕ → Bool) (buckets_of : SeriesKey → List ℕ) (history : List Entry)
     (slots : List RangeSlot) (look : Look) : Type 0 where
   pub unread : look.read ≡ false → All (λ row. wanted row ≡ false) (slot_rows history slots)
   pub read : look.read ≡ true → met (history_buckets buckets_of history) ≡ true
+  pub up : look.read ≡ true → is_down history ≡ false
 
 abbrev pub IsLookedAt : Histories → Histories → Leaf → Look → Type 0
 IsLookedAt at_entry now leaf look =

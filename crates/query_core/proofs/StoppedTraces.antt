@@ -19,8 +19,8 @@ use Rattle.mon_topo.specs.Zones.{first_leaf, leaf_zones}
 use Rattle.mon_value.specs.declared.positions.Leaf.{Leaf}
 use Rattle.mon_value.specs.declared.refusals.Refusal.TheVariants as refusal
 use Rattle.mon_value.specs.declared.rows.Row.{Row}
-use Rattle.mql_types.proofs.JoinedRows.{all-map}
-use Rattle.mql_types.specs.Meaning.{load}
+use Rattle.typed_rows.proofs.JoinedRows.{all-map}
+use Rattle.typed_trees.specs.Meaning.{load}
 use Rattle.mon_topo.specs.Settings.{Setting}
 use Rattle.query_core.specs.Askings.{IsAskedOf}
 use Rattle.query_core.specs.declared.answers.Resolved.{Resolved}

@@ -16,7 +16,7 @@ use Rattle.mon_topo.specs.HeldHistories.{AreHeld, AreWithin}
 use Rattle.mon_topo.specs.RangeHistories.{acknowledged_rows}
 use Rattle.mon_topo.specs.Settings.{Setting}
 use Rattle.mon_topo.specs.Zones.{first_leaf}
-use Rattle.mon_value.specs.LeafHistories.{IsDownAt, is_opened, leaf_rows, replica_rows}
+use Rattle.mon_value.specs.LeafHistories.{IsDownAt, is_down, is_opened, leaf_rows, replica_rows}
 use Rattle.mon_value.specs.declared.histories.Entry.{Entry}
 use Rattle.mon_value.specs.declared.histories.RangeEntry.{RangeEntry}
 use Rattle.mon_value.specs.declared.positions.FoundDown.{FoundDown}
@@ -25,10 +25,10 @@ use Rattle.mon_value.specs.declared.positions.Range.{Range}
 use Rattle.mon_value.specs.declared.rows.Row.{Row}
 use Rattle.mon_value.specs.declared.schemas.MetricSchema.{MetricSchema}
 use Rattle.mon_value.specs.declared.schemas.TargetSchema.{TargetSchema}
-use Rattle.mql_types.specs.Meaning.{meets}
-use Rattle.mql_types.specs.Nodes.{NodeTree}
-use Rattle.mql_types.specs.Levels.{sent_amount}
-use Rattle.mql_types.specs.Plans.{fetches}
+use Rattle.typed_trees.specs.Meaning.{meets}
+use Rattle.typed_trees.specs.Nodes.{NodeTree}
+use Rattle.typed_trees.specs.Levels.{sent_amount}
+use Rattle.typed_trees.specs.Plans.{fetches}
 use Rattle.plan_split.proofs.FitLemmas.{fields_of_fitting}
 use Rattle.plan_split.specs.Meeting.{AllHoldWhereMet, is_plan_met}
 use Rattle.query_core.proofs.HintFacts.{none_wanted}
@@ -251,5 +251,6 @@ module _ (store : Setting) (setting : QuerySetting) (moment : ℤ) (at_entry : H
               (history_buckets store.buckets_of history)
               ≡ true) same
               (tells.read (sym (read_is leaf low) ∙ e));
+          up = λ e. ap is_down (looked_is leaf low) ∙ tells.up (sym (read_is leaf low) ∙ e);
         }
       ]

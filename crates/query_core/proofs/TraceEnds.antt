@@ -4,7 +4,7 @@ use Rattle.std.proofs.Common.{◌≡◌, ◌∙◌, ◌<◌, ◌≤ℤ◌, inl, 
 use Rattle.mon_meaning.specs.Central.{IsMeant}
 use Rattle.mon_value.specs.declared.histories.Histories.{Histories}
 use Rattle.mon_topo.specs.HeldHistories.{AreHeld}
-use Rattle.mql_types.specs.Meaning.{load}
+use Rattle.typed_trees.specs.Meaning.{load}
 use Rattle.mon_topo.specs.Settings.{Setting}
 use Rattle.query_core.specs.Askings.{IsAskedOf}
 use Rattle.query_core.specs.declared.answers.Answer.{Answer}

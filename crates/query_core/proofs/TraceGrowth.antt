@@ -12,7 +12,7 @@ use Rattle.mon_topo.proofs.HeldLemmas.{down_on}
 use Rattle.mon_topo.proofs.RangeHistoryLemmas.{all_front, all_on}
 use Rattle.mon_topo.specs.RangeHistories.{acked_row, acknowledged_rows, first_serving}
 use Rattle.mon_value.specs.Histories.{leaf_history, range_history}
-use Rattle.mon_value.specs.LeafHistories.{IsDownAt, is_opened, replica_rows}
+use Rattle.mon_value.specs.LeafHistories.{IsDownAt, is_down, is_opened, replica_rows}
 use Rattle.mon_value.specs.declared.histories.Entry.{Entry}
 use Rattle.mon_value.specs.declared.histories.Histories.{Histories}
 use Rattle.mon_value.specs.declared.histories.RangeEntry.{RangeEntry}
@@ -20,9 +20,9 @@ use Rattle.mon_value.specs.declared.positions.FoundDown.{FoundDown}
 use Rattle.mon_value.specs.declared.positions.Leaf.{Leaf}
 use Rattle.mon_value.specs.declared.rows.Row.{Row}
 use Rattle.mon_value.specs.declared.rows.SeriesKey.{SeriesKey}
-use Rattle.mql_types.specs.Nodes.{TypedTree}
-use Rattle.mql_types.specs.Levels.{sent_amount}
-use Rattle.mql_types.specs.declared.plans.Plan.{Plan}
+use Rattle.typed_trees.specs.Nodes.{TypedTree}
+use Rattle.typed_trees.specs.Levels.{sent_amount}
+use Rattle.typed_trees.specs.declared.plans.Plan.{Plan}
 use Rattle.query_core.specs.Courses.{IsFoundBetween}
 use Rattle.plan_split.specs.Meeting.{is_plan_met}
 use Rattle.query_core.specs.Rounds.{slots_on}
@@ -117,6 +117,7 @@ module _ (typed : TypedTree) (moment : ℤ) (from to earlier later : Lengths) (s
     unread = λ e. subst (λ rows. All (λ row. is_wanted typed row ≡ false) rows) (sym (rows_still leaf)) (so.unread e);
     read = λ e. ap (λ (history : List Entry). is_plan_met plan (history_buckets buckets_of history))
         (looked_still leaf) ∙ so.read e;
+    up = λ e. ap is_down (looked_still leaf) ∙ so.up e;
   }
 
   -- ---- freshness

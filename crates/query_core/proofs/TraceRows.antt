@@ -30,12 +30,12 @@ use Rattle.mon_meaning.proofs.FilterLemmas.{filter_twice}
 use Rattle.mon_meaning.specs.Central.{IsMeant, IsOver}
 use Rattle.mon_meaning.specs.declared.meter.OverLimit.{OverLimit}
 use Rattle.mixer.specs.Divisions.{IsDivided, all_rows}
-use Rattle.mql_types.proofs.JoinedRows.{all-map}
-use Rattle.mql_types.proofs.KeptRows.{all-take}
-use Rattle.mql_types.specs.Meaning.{load, meets, meaning}
-use Rattle.mql_types.specs.Nodes.{TypedTree}
-use Rattle.mql_types.specs.Plans.{fetches}
-use Rattle.mql_types.specs.Soundness.{IsTyped}
+use Rattle.typed_rows.proofs.JoinedRows.{all-map}
+use Rattle.typed_rows.proofs.KeptRows.{all-take}
+use Rattle.typed_trees.specs.Meaning.{load, meets, meaning}
+use Rattle.typed_trees.specs.Nodes.{TypedTree}
+use Rattle.typed_trees.specs.Plans.{fetches}
+use Rattle.typed_trees.specs.Soundness.{IsTyped}
 use Rattle.query_core.specs.Askings.{IsAskedOf}
 use Rattle.query_core.specs.declared.answers.Resolved.{Resolved}
 use Rattle.query_core.specs.declared.answers.Trace.{Trace}

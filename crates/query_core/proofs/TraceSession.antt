@@ -433,7 +433,7 @@ module _ (store : Setting) (setting : QuerySetting) (moment : ℤ) (at_entry : H
           answer))
       read_so cut answer found holds =
           let looks = looked_so (read_at cut answer.sent) found.between
-          (record { unread = λ e. absurd (cc); read = λ e. holds }) in
+          (record { unread = λ e. absurd (cc); read = λ e. holds; up = λ e. found.is }) in
           visiting_so store setting at_entry replicated unmet after avoided course round
           (visit.with_leaf_answer (with_look visits leaf (read_at cut answer.sent)) answer) k zone
           (record { first = looks.first; span = looks.span; ours = looks.ours })

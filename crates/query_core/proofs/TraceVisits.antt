@@ -315,6 +315,7 @@ module _ (store : Setting) (setting : QuerySetting) (at_entry : Histories)
             (sym none)
             (record {});
         read = λ e. absurd (cc);
+        up = λ e. absurd (cc);
       }
 
       shut_told : flag_at flags j ≡ false → Told (slots_on leaf resolved)

@@ -10,7 +10,7 @@ use Rattle.mon_value.specs.declared.histories.Histories.{Histories}
 use Rattle.mon_topo.specs.Zones.{first_leaf, first_range, leaf_zones}
 use Rattle.mon_value.specs.declared.positions.Leaf.{Leaf}
 use Rattle.mon_value.specs.declared.rows.Row.{Row}
-use Rattle.mql_types.proofs.JoinedRows.{all-front, all-map}
+use Rattle.typed_rows.proofs.JoinedRows.{all-front, all-map}
 use Rattle.mon_topo.specs.Settings.{Setting}
 use Rattle.query_core.specs.declared.answers.Resolved.{Resolved}
 use Rattle.query_core.specs.declared.answers.Trace.{Trace}

@@ -18,8 +18,8 @@ use Rattle.mon_value.specs.declared.positions.Leaf.{Leaf}
 use Rattle.mon_value.specs.declared.positions.Range.{Range}
 use Rattle.mon_value.specs.declared.positions.RangeSlot.{RangeSlot}
 use Rattle.mon_value.specs.declared.rows.Row.{Row}
-use Rattle.mql_types.proofs.JoinedRows.{all-map}
-use Rattle.mql_types.proofs.KeptRows.{all-filter, all-take}
+use Rattle.typed_rows.proofs.JoinedRows.{all-map}
+use Rattle.typed_rows.proofs.KeptRows.{all-filter, all-take}
 use Rattle.query_core.specs.Askings.{IsAskedOf}
 use Rattle.query_core.specs.declared.answers.Resolved.{Resolved}
 use Rattle.query_core.specs.declared.looks.Look.{Look}

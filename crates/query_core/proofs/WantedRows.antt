@@ -16,17 +16,17 @@ use Rattle.mon_value.specs.declared.tables.TimedRow.{TimedRow}
 use Rattle.mon_schema.specs.Fits.{fits, fits_both, row_fits}
 use Rattle.mon_schema.specs.Names.{SchemaLists, metric_named, target_named}
 use Rattle.mql_ast.specs.Rows.{predicate_truth}
-use Rattle.mql_types.specs.Fetches.{columns_fetched, fetch_columns}
-use Rattle.mql_types.specs.Meaning.{is_reached, lets_in, load, load_of, meets, points_reached, aligned_rows, grid_of}
-use Rattle.mql_types.specs.Meaning.{is_fetched, is_point_kept, meaning, points_meant, rows_meant, value_row}
-use Rattle.mql_types.specs.Nodes as node
-use Rattle.mql_types.specs.Nodes.{NodeTree, TypedTree, columns_of}
-use Rattle.mql_types.specs.Plans.{HasFetchColumns, fetches}
-use Rattle.mql_types.specs.Soundness.{IsTyped}
-use Rattle.mql_types.proofs.FetchColumnLemmas.{fetches_have_columns}
-use Rattle.mql_types.proofs.FetchedPoints.{kept_let_in, row_of_schemas}
-use Rattle.mql_types.proofs.FetchedTrees.{AllFit}
-use Rattle.mql_types.proofs.JoinedRows.{all-front, all-map}
+use Rattle.typed_trees.specs.Fetches.{columns_fetched, fetch_columns}
+use Rattle.typed_trees.specs.Meaning.{is_reached, lets_in, load, load_of, meets, points_reached, aligned_rows, grid_of}
+use Rattle.typed_trees.specs.Meaning.{is_fetched, is_point_kept, meaning, points_meant, rows_meant, value_row}
+use Rattle.typed_trees.specs.Nodes as node
+use Rattle.typed_trees.specs.Nodes.{NodeTree, TypedTree, columns_of}
+use Rattle.typed_trees.specs.Plans.{HasFetchColumns, fetches}
+use Rattle.typed_trees.specs.Soundness.{IsTyped}
+use Rattle.typed_trees.proofs.FetchColumnLemmas.{fetches_have_columns}
+use Rattle.typed_rows.proofs.FetchedPoints.{kept_let_in, row_of_schemas}
+use Rattle.typed_rows.proofs.FetchedTrees.{AllFit}
+use Rattle.typed_rows.proofs.JoinedRows.{all-front, all-map}
 use Rattle.mon_meaning.proofs.FilterLemmas.{filter_none, filter_twice}
 use Rattle.mon_value.proofs.PlainLemmas.{and_implied}
 use Rattle.query_core.specs.Traces.{is_wanted}

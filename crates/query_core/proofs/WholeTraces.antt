@@ -18,7 +18,7 @@ use Rattle.mon_topo.specs.Zones.{first_leaf, first_range}
 use Rattle.mon_value.specs.declared.positions.Leaf.{Leaf}
 use Rattle.mon_value.specs.declared.rows.Row.{Row}
 use Rattle.mon_value.specs.declared.tables.Table.{Table}
-use Rattle.mql_types.specs.Meaning.{load}
+use Rattle.typed_trees.specs.Meaning.{load}
 use Rattle.mon_topo.specs.Settings.{Setting}
 use Rattle.query_core.specs.Askings.{IsAskedOf}
 use Rattle.query_core.specs.declared.answers.Resolved.{Resolved}

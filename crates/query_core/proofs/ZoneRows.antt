@@ -12,7 +12,7 @@ use Rattle.mon_topo.specs.RangeHistories.{IsInZoneOf}
 use Rattle.mon_topo.specs.Zones.{first_leaf, first_range, leaf_zones}
 use Rattle.mon_topo.specs.declared.zones.ZoneSpec.{ZoneSpec}
 use Rattle.mon_value.specs.declared.positions.Leaf.{Leaf}
-use Rattle.mql_types.proofs.JoinedRows.{all-front}
+use Rattle.typed_rows.proofs.JoinedRows.{all-front}
 use Rattle.query_core.specs.declared.answers.Resolved.{Resolved}
 use Rattle.query_core.specs.declared.answers.Trace.{Trace}
 use Rattle.query_core.specs.declared.looks.Look.{Look}

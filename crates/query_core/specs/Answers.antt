@@ -5,8 +5,8 @@ use Rattle.mon_value.specs.Histories.{leaf_history}
 use Rattle.mon_value.specs.declared.histories.Histories.{Histories}
 use Rattle.mon_topo.specs.Settings.{Setting}
 use Rattle.mon_value.specs.declared.positions.Leaf.{Leaf}
-use Rattle.mql_types.specs.Plans.{op_levels}
-use Rattle.mql_types.specs.Meaning.{load}
+use Rattle.typed_trees.specs.Plans.{op_levels}
+use Rattle.typed_trees.specs.Meaning.{load}
 use Rattle.query_core.specs.Courses.{AreFoundThen}
 use Rattle.query_core.specs.Mixtures.{typed_of}
 use Rattle.query_core.specs.Rounds.{QuerySetting}

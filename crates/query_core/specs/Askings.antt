@@ -13,10 +13,10 @@ use Rattle.mon_value.specs.declared.rows.SeriesKey.{SeriesKey}
 use Rattle.mon_value.specs.declared.schemas.MetricSchema.{MetricSchema}
 use Rattle.mon_value.specs.declared.schemas.TargetSchema.{TargetSchema}
 use Rattle.mql_ast.specs.Trees.{PipeTree}
-use Rattle.mql_types.specs.Times.{HasDurations}
-use Rattle.mql_types.specs.Plans.{fetches}
-use Rattle.mql_types.specs.Soundness.{IsPipeSpelled}
-use Rattle.mql_types.specs.Typing.{typing}
+use Rattle.typed_trees.specs.Times.{HasDurations}
+use Rattle.typed_trees.specs.Plans.{fetches}
+use Rattle.typed_trees.specs.Soundness.{IsPipeSpelled}
+use Rattle.typed_trees.specs.Typing.{typing}
 use Rattle.plan_split.specs.Meeting.{AllHoldWhereMet}
 use Rattle.query_core.specs.Rounds.{areas_of, QuerySetting}
 use Rattle.query_core.specs.Mixtures.{typed_of}

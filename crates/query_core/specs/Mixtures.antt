@@ -9,8 +9,8 @@ use Rattle.mon_meaning.specs.Central.{IsMeant, IsOver}
 use Rattle.mon_meaning.specs.declared.meter.OverLimit.{OverLimit}
 use Rattle.mon_value.specs.declared.rows.Row.{Row}
 use Rattle.mon_value.specs.declared.tables.Table.{Table}
-use Rattle.mql_types.specs.Plans.{op_levels}
-use Rattle.mql_types.specs.Nodes.{TypedTree, typed_tree}
+use Rattle.typed_trees.specs.Plans.{op_levels}
+use Rattle.typed_trees.specs.Nodes.{TypedTree, typed_tree}
 use Rattle.query_core.specs.declared.answers.Answer.{Answer}
 use Rattle.query_core.specs.declared.asks.Told.{Told}
 use Rattle.query_core.specs.declared.courses.Course.{Course}

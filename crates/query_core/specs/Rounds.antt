@@ -7,7 +7,7 @@ use Rattle.mon_value.specs.declared.positions.Range.{Range}
 use Rattle.mon_topo.specs.declared.zones.ZoneSpec.{ZoneSpec}
 use Rattle.mon_value.specs.Histories.{leaf_numbered, range_numbered, zone_numbered, same_leaf}
 use Rattle.mon_topo.specs.Zones.{first_leaf, first_range, zone_at}
-use Rattle.mql_types.specs.declared.plans.Plan.{Plan}
+use Rattle.typed_trees.specs.declared.plans.Plan.{Plan}
 use Rattle.mon_value.specs.declared.positions.RangeSlot.{RangeSlot}
 use Rattle.mon_value.specs.declared.positions.Slot.{Slot}
 use Rattle.plan_split.specs.Meeting.{flag_at}

@@ -7,7 +7,7 @@ use Rattle.mon_value.specs.Histories.{leaf_history, range_history, range_numbere
 use Rattle.mon_value.specs.declared.histories.Histories.{Histories}
 use Rattle.mon_topo.specs.RangeHistories.{acknowledged_rows, first_serving}
 use Rattle.mon_topo.specs.HeldHistories.{AreWithin}
-use Rattle.mon_value.specs.LeafHistories.{IsDownAt, is_opened, replica_rows}
+use Rattle.mon_value.specs.LeafHistories.{IsDownAt, is_down, is_opened, replica_rows}
 use Rattle.mon_value.specs.declared.histories.Entry.{Entry}
 use Rattle.mon_value.specs.declared.positions.FoundDown.{FoundDown}
 use Rattle.mon_value.specs.declared.positions.Leaf.{Leaf}
@@ -15,11 +15,11 @@ use Rattle.mon_value.specs.declared.positions.Range.{Range}
 use Rattle.mon_value.specs.declared.positions.SlotLeaf.{SlotLeaf}
 use Rattle.mon_value.specs.declared.rows.Row.{Row}
 use Rattle.mon_value.specs.declared.rows.SeriesKey.{SeriesKey}
-use Rattle.mql_types.specs.Meaning.{meets}
-use Rattle.mql_types.specs.Nodes.{TypedTree}
-use Rattle.mql_types.specs.Levels.{sent_amount}
-use Rattle.mql_types.specs.Plans.{fetches}
-use Rattle.mql_types.specs.declared.plans.Plan.{Plan}
+use Rattle.typed_trees.specs.Meaning.{meets}
+use Rattle.typed_trees.specs.Nodes.{TypedTree}
+use Rattle.typed_trees.specs.Levels.{sent_amount}
+use Rattle.typed_trees.specs.Plans.{fetches}
+use Rattle.typed_trees.specs.declared.plans.Plan.{Plan}
 use Rattle.mon_meaning.specs.ReadableSlots.{slot_rows}
 use Rattle.query_core.specs.declared.answers.Resolved.{Resolved}
 use Rattle.query_core.specs.declared.answers.Trace.{Trace}
@@ -156,10 +156,12 @@ IsFresh at_entry at_exit = IsFreshSince (lengths_of at_entry) at_exit
 abbrev pub is_wanted : TypedTree → Row → Bool
 is_wanted typed row = list_any (λ fetch. meets fetch row.key) (fetches typed.tree)
 
--- a leaf that was not read has no series there that meets a fetch; one that was read has a formula that holds
+-- a leaf that was not read has no series there that meets a fetch; one that was read was up there, and has a formula
+-- that holds
 pub record IsReadRightly (typed : TypedTree) (plan : Plan) (buckets_of : SeriesKey → List ℕ) (at_exit : Histories)
     (trace : Trace) (leaf : Leaf) : Type 0 where
   pub unread : was_read trace leaf ≡ false
       → AllByRecursion (λ row. is_wanted typed row ≡ false) (rows_on at_exit trace leaf)
   pub read : was_read trace leaf ≡ true
       → is_plan_met plan (history_buckets buckets_of (looked_at at_exit trace leaf)) ≡ true
+  pub up : was_read trace leaf ≡ true → is_down (looked_at at_exit trace leaf) ≡ false

@@ -2,8 +2,8 @@
 ghost use Rattle.std.specs.Prelude.{◌≡◌, IfOk};
 
 use mon_value::{Founds, Leaf, ListOf, OutOfMemory, Range, Slot, Table, TryCopy};
-use mql_types::OpLevels;
 use std::alloc::Global;
+use typed_trees::OpLevels;
 
 /// The slot that a range resolved to, and its leaf.
 #[derive(Clone, Copy, PartialEq, Eq)]

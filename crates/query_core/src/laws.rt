@@ -9,8 +9,8 @@ ghost use Rattle.mon_value.specs.declared.positions.FoundDown.{FoundDown as Foun
 ghost use Rattle.mon_value.specs.declared.positions.Leaf.{Leaf as LeafOf};
 ghost use Rattle.mon_value.specs.declared.positions.Range.{Range as RangeOf};
 ghost use Rattle.mon_value.specs.declared.rows.SeriesKey.{SeriesKey as KeyOf};
-ghost use Rattle.mql_types.specs.Nodes.{TypedTree as Typed};
-ghost use Rattle.mql_types.specs.declared.plans.Plan.{Plan as PlanOf};
+ghost use Rattle.typed_trees.specs.Nodes.{TypedTree as Typed};
+ghost use Rattle.typed_trees.specs.declared.plans.Plan.{Plan as PlanOf};
 ghost use Rattle.query_core.specs.Answers.{IsAnsweredRightly, IsStoppedRightly};
 ghost use Rattle.query_core.specs.AskedPlaces.{IsThere};
 ghost use Rattle.query_core.specs.Askings.{IsAskedOf};
@@ -25,7 +25,7 @@ ghost use Rattle.query_core.specs.Sessions.{Event, IsLicensed, IsTrueAnswer, que
 ghost use Rattle.mon_topo.specs.Views.{IsSound, IsViewWithin, View};
 ghost use Rattle.query_core.specs.Sessions.{view_after};
 ghost use Rattle.query_core.specs.Rounds.{QuerySetting};
-ghost use Rattle.query_core.specs.ToldDowns.{EndNames, downs_told};
+ghost use Rattle.query_core.specs.ToldDowns.{EndNames, NamesAll, downs_told};
 ghost use Rattle.query_core.specs.Traces.{AreWider, IsBetween, IsFreshSince, IsReadRightly, IsTraceBetween, Lengths};
 ghost use Rattle.query_core.specs.Traces.{source_of};
 ghost use Rattle.query_core.specs.declared.answers.RoundFault.{RoundFault as FaultOf};
@@ -66,13 +66,21 @@ pub fn sessions_answer_rightly()
         → HasNoReplica store.zones view.seen (view_after store setting moment view events).seen range named }
 {}
 
-/// Each leaf that the end of a licensed session's query names as down was told so in the session, with that cut.
+/// Each leaf that the end of a licensed session's query names as down was told so in the session, with that cut. Its
+/// trace has all that were, and where a range has no replica all of its zone that were are named, in the order in which
+/// they were told.
 pub fn ends_name_what_was_told()
     ensures named { (store : Setting) (setting : QuerySetting) (moment : ℤ) (view : View)
         (events : List (Event store setting moment)) (end : Result AnswerOf FaultOf)
         → IsLicensed store setting moment view (new_query setting) events
         → (query_after store setting moment (new_query setting) events).stage ≡ Ended end
         → EndNames (Contains (downs_told store setting moment (new_query setting) events)) end }
+    ensures all { (store : Setting) (setting : QuerySetting) (moment : ℤ) (view : View)
+        (events : List (Event store setting moment)) (end : Result AnswerOf FaultOf)
+        → IsAskedOf store setting → IsSound store view
+        → IsLicensed store setting moment view (new_query setting) events
+        → (query_after store setting moment (new_query setting) events).stage ≡ Ended end
+        → NamesAll store.zones (downs_told store setting moment (new_query setting) events) end }
 {}
 
 /// Where no leaf was found down, the trace of a licensed session's table counts all that its leaves sent: as much as

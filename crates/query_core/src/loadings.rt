@@ -6,8 +6,8 @@ use crate::answers::{Cuts, Resolveds};
 use crate::asks::Seen;
 use mon_hints::Words;
 use mon_value::OutOfMemory;
-use mql_types::Plan;
 use std::alloc::Global;
+use typed_trees::Plan;
 
 /// The words that were loaded so far, and what had been seen by the first of them.
 #[derive(Drop)]

@@ -15,10 +15,10 @@ use crate::settings::QuerySetting;
 use crate::stages::Stage;
 use mon_topo::Topology;
 use mon_value::{Leaf, Leaves, OutOfMemory, RangeSlots};
-use mql_types::Plan;
 use std::alloc::Global;
 use std::marker::Model;
 use std::mem;
+use typed_trees::Plan;
 
 /// A query that is asked of zones. It says what is done next, and is told how that went.
 #[derive(Drop)]
@@ -34,7 +34,7 @@ impl Model for QueryMachine {
     ghost use Rattle.query_core.specs.Machine.{Query};
     ghost use Rattle.std.specs.Coded.{codes};
     ghost use Rattle.mon_hints.specs.contracts.formulas.Formula as formula;
-    ghost use Rattle.mql_types.specs.contracts.nodes.Node as node;
+    ghost use Rattle.typed_trees.specs.contracts.nodes.Node as node;
 
     ghost coded = { Prim.hlevel (codes, node.the_row.coded, formula.the_row.coded) };
 

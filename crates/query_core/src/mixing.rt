@@ -1,7 +1,7 @@
 // Answers that are mixed: those of a zone's leaves, and those of all zones.
 ghost use Rattle.std.specs.Prelude.{◌≡◌, IfOk, Ok};
 ghost use Rattle.mixer.specs.ZoneAnswers.{HasZoneParts};
-ghost use Rattle.mql_types.specs.Nodes.{typed_tree};
+ghost use Rattle.typed_trees.specs.Nodes.{typed_tree};
 ghost use Rattle.query_core.specs.Mixtures as spec;
 
 use crate::answers::Answer;
@@ -12,9 +12,9 @@ use crate::stages::{Stage, Step, Turn, next_zone, stopped};
 use mixer::{ZoneAnswers, mix_root, mix_zone};
 use mon_fold::LeafAnswers;
 use mon_value::{OutOfMemory, Refusal, Table};
-use mql_types::op_levels;
 use std::alloc::AllocError;
 use std::mem;
+use typed_trees::op_levels;
 
 /// The stage to which an answer leads, once what it gathered is mixed.
 #[tactic(auto, using(crate::proofs::StageLemmas::may_settle, crate::proofs::StageLemmas::settles_so))]

@@ -7,9 +7,9 @@ ghost use Rattle.query_core.specs.Rounds.{areas_of, IsSmall};
 use crate::areas::{Area, areas_of};
 use mon_topo::Topology;
 use mon_value::OutOfMemory;
-use mql_types::Plan;
 use std::alloc::Global;
 use std::marker::Model;
+use typed_trees::Plan;
 
 /// The plan of a query, the zones that it is asked of, and the limit of its load.
 #[derive(Drop)]
@@ -28,7 +28,7 @@ impl Model for QuerySetting {
     ghost use Rattle.query_core.specs.Rounds as spec;
     ghost use Rattle.std.specs.Coded.{codes};
     ghost use Rattle.mon_hints.specs.contracts.formulas.Formula as formula;
-    ghost use Rattle.mql_types.specs.contracts.nodes.Node as node;
+    ghost use Rattle.typed_trees.specs.contracts.nodes.Node as node;
 
     ghost coded = { Prim.hlevel (codes, node.the_row.coded, formula.the_row.coded) };
 

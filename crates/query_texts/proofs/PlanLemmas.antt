@@ -9,13 +9,13 @@ use Rattle.mon_value.specs.declared.refusals.Refusal.{Refusal}
 use Rattle.mql_ast.specs.Grammar.{Spells}
 use Rattle.mql_ast.specs.Trees.{PipeTree}
 use Rattle.mql_parse.specs.PipeReading.{text_outcome}
-use Rattle.mql_types.proofs.DurationLemmas.{durations_spelled}
-use Rattle.mql_types.proofs.SpelledQueries.{query_spelled}
-use Rattle.mql_types.specs.Nodes.{TypedTree, typed_tree}
-use Rattle.mql_types.specs.Plans.{fetches}
-use Rattle.mql_types.specs.Soundness.{IsQueryType}
-use Rattle.mql_types.specs.Typing.{typing}
-use Rattle.mql_types.specs.declared.plans.Plan.{Plan}
+use Rattle.typed_rows.proofs.DurationLemmas.{durations_spelled}
+use Rattle.typed_rows.proofs.SpelledQueries.{query_spelled}
+use Rattle.typed_trees.specs.Nodes.{TypedTree, typed_tree}
+use Rattle.typed_trees.specs.Plans.{fetches}
+use Rattle.typed_trees.specs.Soundness.{IsQueryType}
+use Rattle.typed_trees.specs.Typing.{typing}
+use Rattle.typed_trees.specs.declared.plans.Plan.{Plan}
 use Rattle.plan_split.specs.FetchFormulas.{plan_formulas}
 use Rattle.plan_split.specs.Meeting.{AllHoldWhereMet}
 use Rattle.query_texts.specs.TextTypes.{IsPlanOver, refused_as, text_type, tree_type}

@@ -6,15 +6,15 @@ use Rattle.mon_value.specs.Answers.{◌>>=◌}
 use Rattle.mql_ast.specs.Trees.{PipeTree}
 use Rattle.mql_parse.specs.Faults.{parse_fault_text, FaultKind, IsAtLongestFront, too_long}
 use Rattle.mql_parse.specs.PipeReading.{text_outcome}
-use Rattle.mql_types.specs.Faults.{type_fault_text}
-use Rattle.mql_types.specs.Nodes.{TypedTree, typed_tree}
-use Rattle.mql_types.specs.Typing.{typing}
+use Rattle.typed_trees.specs.Faults.{type_fault_text}
+use Rattle.typed_trees.specs.Nodes.{TypedTree, typed_tree}
+use Rattle.typed_trees.specs.Typing.{typing}
 use Rattle.mql_ast.specs.Grammar.{Spells, longest_text}
 use Rattle.mql_parse.specs.declared.faults.ParseFault.{ParseFault}
 use Rattle.mon_hints.specs.Formulas.{all_named, formula_tree, formulas, IsListing}
-use Rattle.mql_types.specs.Plans.{fetches}
-use Rattle.mql_types.specs.Soundness.{IsQueryType}
-use Rattle.mql_types.specs.declared.plans.Plan.{Plan}
+use Rattle.typed_trees.specs.Plans.{fetches}
+use Rattle.typed_trees.specs.Soundness.{IsQueryType}
+use Rattle.typed_trees.specs.declared.plans.Plan.{Plan}
 use Rattle.plan_split.specs.FetchFormulas.{plan_formulas}
 use Rattle.plan_split.specs.Meeting.{AllHoldWhereMet}
 use Rattle.query_texts.specs.declared.faults.TextFault.{TextFault}

@@ -1,7 +1,7 @@
 // Why a text has no plan.
 use mql_parse::ParseFault;
-use mql_types::TypeFault;
 use std::fmt;
+use typed_trees::TypeFault;
 
 /// Why a text has no plan.
 #[derive(Clone, Copy, PartialEq, Eq)]

@@ -2,9 +2,9 @@
 ghost use Rattle.std.specs.Prelude.{◌≡◌, ◌<◌, Ok, IfOk};
 ghost use Rattle.mon_value.specs.Answers.{GivesView};
 ghost use Rattle.mql_ast.specs.Trees.{query_tree};
-ghost use Rattle.mql_types.specs.Nodes.{typed_tree};
-ghost use Rattle.mql_types.specs.Soundness.{IsQueryType};
-ghost use Rattle.mql_types.specs.Typing.{typing};
+ghost use Rattle.typed_trees.specs.Nodes.{typed_tree};
+ghost use Rattle.typed_trees.specs.Soundness.{IsQueryType};
+ghost use Rattle.typed_trees.specs.Typing.{typing};
 ghost use Rattle.query_texts.specs.TextTypes.{IsPlanOver, plan_type, text_type, tree_type};
 
 use crate::faults::TextFault;
@@ -12,9 +12,10 @@ use mon_schema::Schemas;
 use mon_value::Refusal;
 use mql_ast::Query;
 use mql_parse::parse;
-use mql_types::{Plan, Typed, check};
+use mql_types::check;
 use plan_split::split;
 use std::alloc::Global;
+use typed_trees::{Plan, Typed};
 
 /// The plan of a query's text over schemas, with formulas among so many buckets; or the first fault of the text, or of
 /// its type.

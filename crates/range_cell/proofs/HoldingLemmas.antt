@@ -29,7 +29,7 @@ use Rattle.range_cell.proofs.BeginLemmas.{placed}
 use Rattle.range_cell.specs.Calls.{HasBegun, HasGivenBack, HasMetRange}
 use Rattle.range_cell.specs.Copying.{IsHolding}
 use Rattle.range_cell.specs.Recoveries.{AtItsLeaf, AtLock, Behind, HasEndedSo, HasEndedThere, HasNotCopied}
-use Rattle.range_cell.specs.Recoveries.{HasNotRecovered, HasRecovered, IsDeniedAs, IsLooking, NotYet}
+use Rattle.range_cell.specs.Recoveries.{HasNotRecovered, HasRecovered, HasSource, IsDeniedAs, IsLooking, NotYet}
 use Rattle.range_cell.specs.Recoveries.{Once, OnTheWay, after_copying}
 use Rattle.range_cell.specs.Rest.{HaveJust}
 use Rattle.range_cell.specs.declared.answers.RecoverFault.{RecoverFault}
@@ -105,17 +105,18 @@ module _ (setting : Setting) (range : Range) (leaf : Leaf) (history : List Range
 module _ (leaves : ℕ) (range : Range) (leaf : Leaf) (history : List RangeEntry) (pass : ℕ) (begun mid after : Knowledge)
   where
     -- it came to its leaf with the rows
-    pub ended_there : (result : Result Slot RecoverFault) → IsLooking range (after_copying history begun) begun mid
+    pub ended_there : (result : Result Slot RecoverFault) → HasSource begun mid (serving history)
+        → IsLooking range (after_copying history begun) begun mid
         → HasEndedThere leaves range leaf history pass mid after result
         → HasEndedSo leaves range leaf history pass begun after result
-    ended_there (Ok slot) looking ends = record { mid = mid; looking = looking; ends = ends }
-    ended_there (Err (fault.Serving slot)) looking ends = absurd ends
-    ended_there (Err fault.ThreeServing) looking ends = absurd ends
-    ended_there (Err (fault.SlotsSpent count)) looking ends = absurd ends
-    ended_there (Err (fault.SourceDown founds)) looking ends = absurd ends
-    ended_there (Err (fault.TargetDown cut)) looking ends = record { mid = mid; looking = looking; ends = ends }
-    ended_there (Err fault.OutOfMemory) looking ends =
-        AtItsLeaf (record { mid = mid; looking = looking; ends = ends })
+    ended_there (Ok slot) source looking ends = record { mid = mid; source = source; looking = looking; ends = ends }
+    ended_there (Err (fault.Serving slot)) source looking ends = absurd ends
+    ended_there (Err fault.ThreeServing) source looking ends = absurd ends
+    ended_there (Err (fault.SlotsSpent count)) source looking ends = absurd ends
+    ended_there (Err (fault.SourceDown founds)) source looking ends = absurd ends
+    ended_there (Err (fault.TargetDown cut)) source looking ends = record { mid = mid; source = source; looking = looking; ends = ends }
+    ended_there (Err fault.OutOfMemory) source looking ends =
+        AtItsLeaf (record { mid = mid; source = source; looking = looking; ends = ends })
 
     -- it came by no rows
     pub ended_short : (why : RecoverFault) → HasNotCopied range history begun mid why

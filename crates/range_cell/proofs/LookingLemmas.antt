@@ -1,6 +1,6 @@
 -- A caller that holds a range and looks at leaves knows of the range's replicas what it knew.
-use Rattle.std.proofs.Common.{◌≡◌, ◌≢◌, ℕ, ◌<◌, ◌≤◌, Bool, true, false, ◌||◌, List, [], ◌∷◌, ◌++◌, length, map, refl, sym}
-use Rattle.std.proofs.Common.{ap, subst, ◌∙◌, arith, inl, inr, ◌⊎◌, Some, None, append-nil, append_assoc}
+use Rattle.std.proofs.Common.{◌≡◌, ◌≢◌, ℕ, ◌<◌, ◌≤◌, Bool, true, false, ◌||◌, List, [], ◌∷◌, ◌++◌, length, map, take, refl}
+use Rattle.std.proofs.Common.{sym, ap, subst, ◌∙◌, arith, inl, inr, ◌⊎◌, Some, None, append-nil, append_assoc}
 use Rattle.std.specs.Prelude.{Contains, Option, option_map}
 use Rattle.std.proofs.lemmas.Bool.{cases_eq}
 use Rattle.std.proofs.lemmas.List.{map-append, take_all}
@@ -9,8 +9,9 @@ use Rattle.history_book.proofs.ListLemmas.{prefix_refl, prefix_trans}
 use Rattle.history_book.specs.Seats.{hand_of, length_note, times_range}
 use Rattle.history_book.specs.declared.views.Kept.{Kept}
 use Rattle.know.specs.Knowledge.{Knowledge}
-use Rattle.mon_topo.proofs.FrontLemmas.{begins_from, begins_length}
+use Rattle.mon_topo.proofs.FrontLemmas.{begins_from, begins_length, take_on}
 use Rattle.mon_topo.proofs.HeldLemmas.{leaf_same}
+use Rattle.mon_topo.specs.HeldHistories.{BeginsWith}
 use Rattle.mon_topo.specs.RangeHistories.{acknowledged_rows, opened_slots, serving}
 use Rattle.mon_topo.specs.Settings.{Setting}
 use Rattle.mon_value.specs.Histories.{leaf_history, range_history}
@@ -28,7 +29,7 @@ use Rattle.owners.specs.Calls.{HasCalled, kept_with_all}
 use Rattle.owners.specs.Puts.{number_or, pass_of}
 use Rattle.range_cell.proofs.CallLemmas.{down_stays, noted_stays}
 use Rattle.range_cell.specs.Copying.{IsHolding}
-use Rattle.range_cell.specs.Recoveries.{IsFoundDown, IsLooking, IsSameReplica}
+use Rattle.range_cell.specs.Recoveries.{IsFoundDown, IsFoundUp, IsLooking, IsSameReplica}
 use Rattle.range_cell.specs.Rest.{HaveJust}
 use Rattle.range_cell.specs.Writing.{IsNotedSince}
 use Rattle.write_core.proofs.AckLemmas.{contains_one}
@@ -128,30 +129,60 @@ module _ (range : Range) (n m : ℕ) (begun old new : Knowledge) (looking : IsLo
     noted = noted_stays leaf history [] old new called range still_held begun at cut h.noted;
   }
 
-  -- and this leaf is found down now
-  pub down_now : (cut : ℕ) → is_down history ≡ true → length history ≡ cut → IsFoundDown begun new leaf cut
-  down_now cut down counted =
-      let low : length (leaf_history old.seen leaf) ≤ length history =
-      begins_length history (leaf_history old.seen leaf) called.front in
-      let since : length (leaf_history begun.seen leaf) ≤ length (leaf_history old.seen leaf) =
+  -- so does what was found up
+  pub up_on : (at : Leaf) (cut : ℕ) → IsFoundUp begun old at cut → IsFoundUp begun new at cut
+  up_on at cut h =
+      let was = leaf_history old.seen at in
+      let now = leaf_history new.seen at in
+      let begins : BeginsWith now was = begins_from now was (called.fronts.0 at).0 (sym (called.fronts.0 at).1) in
+      let long = begins_length now was begins in
+      record {
+        seen_by_then = omega (arith, long, h.seen_by_then);
+        up = ap (λ (h : List Entry). is_down h) (take_on now was cut begins h.seen_by_then) ∙ h.up;
+        noted = noted_stays leaf history [] old new called range still_held begun at cut h.noted;
+      }
+
+  low : length (leaf_history old.seen leaf) ≤ length history
+  low = begins_length history (leaf_history old.seen leaf) called.front
+
+  since : length (leaf_history begun.seen leaf) ≤ length (leaf_history old.seen leaf)
+  since =
       begins_length (leaf_history old.seen leaf) (leaf_history begun.seen leaf)
       (begins_from (leaf_history old.seen leaf) (leaf_history begun.seen leaf)
-      (looking.fronts.0 leaf).0 (sym (looking.fronts.0 leaf).1)) in
+      (looking.fronts.0 leaf).0 (sym (looking.fronts.0 leaf).1))
+
+  noted_now : (cut : ℕ) → length history ≡ cut → IsNotedSince begun new leaf cut
+  noted_now cut counted =
       let note = length_note leaf.0 (length history) in
       record {
-        down = subst (λ (h : List Entry). IsDownAt h cut)
-            (sym (whole leaf history old new called range still_held)) (record {
-              seen_by_then = omega (arith, counted);
-              down = ap is_down (take_all cut history (omega (arith, counted))) ∙ down;
-            });
-        noted = record {
-          more = looking.notes.0 ++ note ∷ [];
-          notes = called.notes ∙ ap (λ xs. xs ++ note ∷ []) looking.notes.1
-              ∙ append_assoc begun.purse.notes looking.notes.0 (note ∷ []);
-          noted = subst (λ (k : ℕ). Contains (looking.notes.0 ++ note ∷ []) (length_note leaf.0 k)) counted
-              (Contains-push looking.notes.0 note);
-          low = omega (arith, low, since, counted);
-        };
+        more = looking.notes.0 ++ note ∷ [];
+        notes = called.notes ∙ ap (λ xs. xs ++ note ∷ []) looking.notes.1
+            ∙ append_assoc begun.purse.notes looking.notes.0 (note ∷ []);
+        noted = subst (λ (k : ℕ). Contains (looking.notes.0 ++ note ∷ []) (length_note leaf.0 k)) counted
+            (Contains-push looking.notes.0 note);
+        low = omega (arith, low, since, counted);
+      }
+
+  -- and this leaf is found down now
+  pub down_now : (cut : ℕ) → is_down history ≡ true → length history ≡ cut → IsFoundDown begun new leaf cut
+  down_now cut down counted = record {
+    down = subst (λ (h : List Entry). IsDownAt h cut)
+        (sym (whole leaf history old new called range still_held)) (record {
+          seen_by_then = omega (arith, counted);
+          down = ap is_down (take_all cut history (omega (arith, counted))) ∙ down;
+        });
+    noted = noted_now cut counted;
+  }
+
+  -- or up, with all that it has
+  pub up_now : is_down history ≡ false → IsFoundUp begun new leaf (length history)
+  up_now up =
+      let all = whole leaf history old new called range still_held in
+      record {
+        seen_by_then = subst (λ (h : List Entry). length history ≤ length h) (sym all) (omega arith);
+        up = ap (λ (h : List Entry). is_down (take (length history) h)) all
+            ∙ ap is_down (take_all (length history) history (omega arith)) ∙ up;
+        noted = noted_now (length history) refl;
       }
 
 -- ---- who holds the range still does

@@ -1,12 +1,12 @@
 -- How a recovery ended, and what its caller has then.
-use Rattle.std.specs.Prelude.{◌≡◌, ◌+◌, ℕ, List, [], ◌∷◌, ◌++◌, length, map, Option, Some, None, Result, Ok, Err}
-use Rattle.std.specs.Prelude.{Contains}
+use Rattle.std.specs.Prelude.{◌≡◌, ◌≤◌, ◌+◌, ℕ, false, List, [], ◌∷◌, ◌++◌, length, map, take, Option, Some, None, Result}
+use Rattle.std.specs.Prelude.{Ok, Err, Contains}
 use Rattle.history_book.specs.Histories.{AreFronts}
 use Rattle.history_book.specs.declared.views.LengthNote.{LengthNote}
 use Rattle.know.specs.Knowledge.{Knowledge, stopped_count}
 use Rattle.mon_topo.specs.RangeHistories.{acknowledged_rows, serving}
 use Rattle.mon_value.specs.Histories.{leaf_history}
-use Rattle.mon_value.specs.LeafHistories.{IsDownAt, is_opened, replica_rows}
+use Rattle.mon_value.specs.LeafHistories.{IsDownAt, is_down, is_opened, replica_rows}
 use Rattle.mon_value.specs.declared.histories.Entry.{Entry}
 use Rattle.mon_value.specs.declared.histories.Entry.TheVariants as entry
 use Rattle.mon_value.specs.declared.histories.RangeEntry.{RangeEntry}
@@ -66,6 +66,19 @@ after_copying history begun = stopped_count (begun.handed + length (acknowledged
 pub record IsFoundDown (begun know : Knowledge) (leaf : Leaf) (cut : ℕ) : Type 0 where
   pub down : IsDownAt (leaf_history know.seen leaf) cut
   pub noted : IsNotedSince begun know leaf cut
+
+-- a leaf was up at a length that was noted since
+pub record IsFoundUp (begun know : Knowledge) (leaf : Leaf) (cut : ℕ) : Type 0 where
+  pub seen_by_then : cut ≤ length (leaf_history know.seen leaf)
+  pub up : is_down (take cut (leaf_history know.seen leaf)) ≡ false
+  pub noted : IsNotedSince begun know leaf cut
+
+-- the leaf of one of these replicas was found up
+pub record HasSource (begun know : Knowledge) (replicas : List SlotLeaf) : Type 0 where
+  pub source : SlotLeaf
+  pub among : Contains replicas source
+  pub cut : ℕ
+  pub found : IsFoundUp begun know source.leaf cut
 
 -- the leaves of these replicas were found down, in their order
 pub record AreFoundDown (begun know : Knowledge) (replicas : List SlotLeaf) (founds : List FoundDown) : Type 0 where
@@ -128,9 +141,10 @@ module _ (leaves : ℕ) (range : Range) (leaf : Leaf) (history : List RangeEntry
 
 module _ (leaves : ℕ) (range : Range) (leaf : Leaf) (history : List RangeEntry) (pass : ℕ) (begun after : Knowledge)
   where
-    -- the caller had the rows, and then came to the leaf
+    -- the caller had the rows of a replica whose leaf was up, and then came to the leaf
     pub record HasCarried (end : Knowledge → Type 0) : Type 0 where
       pub mid : Knowledge
+      pub source : HasSource begun mid (serving history)
       pub looking : IsLooking range (after_copying history begun) begun mid
       pub ends : end mid
 

@@ -15,7 +15,7 @@ ghost use Rattle.owners.specs.Puts.{pass_of};
 ghost use Rattle.range_cell.specs.Calls.{HasBegun, HasEntered, HasMetRange, MayEnter};
 ghost use Rattle.range_cell.specs.Copying.{IsHolding};
 ghost use Rattle.range_cell.specs.Recoveries.{HasEndedSo, HasEndedThere, HasNotCopied, HasRecovered, IsDeniedAs};
-ghost use Rattle.range_cell.specs.Recoveries.{IsLooking, after_copying};
+ghost use Rattle.range_cell.specs.Recoveries.{HasSource, IsLooking, after_copying};
 ghost use Rattle.range_cell.specs.Rest.{HaveJust, IsRangeAtRest, IsRangeHeld};
 ghost use Rattle.write_core.specs.CopySteps.{next_slot};
 ghost use Rattle.write_core.specs.Recovering.{denial_of};
@@ -134,6 +134,7 @@ impl<N: Names> RangeDesk<N> {
         requires just { HaveJust know.old.seen range self.now.replay.history }
         ensures rows { IfOk result (λ rows. rows ≡ acknowledged_rows self.now.replay.history) }
         ensures some { OnOk result (0 < length sources.now) }
+        ensures source { OnOk result (HasSource know.old know.new (serving self.now.replay.history)) }
         ensures copied { OnOk result
             (IsLooking range (after_copying self.now.replay.history know.old) know.old know.new) }
         ensures refused { IfErr result (HasNotCopied range self.now.replay.history know.old know.new) }

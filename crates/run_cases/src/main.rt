@@ -5,7 +5,7 @@ mod files;
 mod gates;
 mod say;
 
-use crate::gates::run_held;
+use crate::gates::{a_feed_waits_for_a_query, a_query_waits_for_a_feed};
 use crate::say::say;
 use std::alloc::Global;
 use std::io;
@@ -29,9 +29,9 @@ fn main(rt: HostRuntime) -> ExitCode {
 
 // Runs all scenarios. Whether each held.
 fn run_all<R: Print + Threads + Wait + Sync>(rt: &R, alloc: Global) -> io::Result<bool> {
-    let query = run_held(rt, alloc, 4, 2)?;
+    let query = a_query_waits_for_a_feed(rt, alloc)?;
     let query = say(rt, "gates::a_query_waits_for_a_feed", query)?;
-    let feed = run_held(rt, alloc, 2, 4)?;
+    let feed = a_feed_waits_for_a_query(rt, alloc)?;
     let feed = say(rt, "gates::a_feed_waits_for_a_query", feed)?;
     Ok(query & feed)
 }

@@ -2,7 +2,7 @@
 use Rattle.std.proofs.Common.{◌≡◌, ℕ, zero, suc, ◌+◌, ◌<◌, ◌≤◌, nat_eq, nat_le, ◌&&◌, ◌||◌, Bool, true, false, List}
 use Rattle.std.proofs.Common.{[], ◌∷◌, ◌++◌, length, take, drop, slice_get, Some, refl, ap, ◌∙◌, arith}
 use Rattle.std.proofs.Common.{subst, sym}
-use Rattle.std.specs.Prelude.{ℤ}
+use Rattle.std.specs.Prelude.{ℤ, map, Contains}
 use Rattle.std.specs.List.{AllByRecursion, count_by, list_any}
 use Rattle.std.proofs.lemmas.Bool.{and_from, and_parts, false≢true}
 use Rattle.std.proofs.lemmas.List.{take_all}
@@ -24,9 +24,10 @@ use Rattle.mon_value.specs.declared.histories.RangeEntry.TheVariants as range_en
 use Rattle.mon_value.specs.declared.positions.FoundDown.{FoundDown}
 use Rattle.mon_value.specs.declared.positions.Leaf.{Leaf}
 use Rattle.mon_value.specs.declared.positions.Range.{Range}
+use Rattle.mon_value.specs.declared.positions.SlotLeaf.{SlotLeaf}
 use Rattle.mon_value.specs.declared.rows.Row.{Row}
-use Rattle.mql_types.specs.Meaning.{load}
-use Rattle.mql_types.specs.Nodes.{TypedTree}
+use Rattle.typed_trees.specs.Meaning.{load}
+use Rattle.typed_trees.specs.Nodes.{TypedTree}
 use Rattle.query_core.specs.Courses.{IsFoundBetween}
 use Rattle.query_core.specs.Traces.{AreWider, IsBetween, IsTraceBetween, Lengths, found_leaves, source_of}
 use Rattle.query_core.specs.declared.answers.Trace.{Trace}
@@ -38,8 +39,8 @@ use Rattle.run_theory.proofs.Lists.{first_place_behind, last_end_within}
 use Rattle.run_traces.specs.LineCauses.{HasCause, HasNoSource, HasNoTarget, HasNoneUp, HasRowCause, HasSwitchedEnough}
 use Rattle.run_traces.specs.LineCauses.{IsCaused, IsDenied, IsLeftWithout, IsOverLimit, IsRefusedByRange, IsUnwritten, LineIsCaused}
 use Rattle.run_traces.specs.LineCauses.{WasAlready}
-use Rattle.run_traces.specs.LineCauses.{RowHasCause, RowsHaveCauses, fed, rows_before}
-use Rattle.run_traces.specs.LineClaims.{HasFound, Makes, RowFound, RowsFound, marked}
+use Rattle.run_traces.specs.LineCauses.{RowHasCause, RowIsTaken, RowsAreTaken, RowsHaveCauses, WereMissed, fed, rows_before}
+use Rattle.run_traces.specs.LineClaims.{AllTakenFound, FoundAmid, HasFound, Makes, RowFound, RowsFound, TakenFound, marked}
 use Rattle.run_traces.specs.LineSwitches.{first_length, high, highs, is_entry_of, is_fed, is_row, is_traced, low, lows}
 use Rattle.run_traces.specs.LineTables.{moment_of, text_of}
 use Rattle.run_traces.specs.RanLines.{RanLine}
@@ -161,6 +162,7 @@ module _ (widen : (typed : TypedTree) (moment : ℤ) (from to earlier later : Le
       type_is = left.type_is;
       zone = left.zone;
       zoned = left.zoned;
+      named = left.named;
       none_up = none_wider range founds left.none_up;
     }
 
@@ -241,6 +243,8 @@ module _ (widen : (typed : TypedTree) (moment : ℤ) (from to earlier later : Le
       recovery = has.recovery;
       asked = has.asked;
       none_up = none_wider has.recovery.range founds has.none_up;
+      those = has.those ∙ ap (λ w. map (λ (replica : SlotLeaf). replica.leaf) (serving w))
+          (front_stays has.recovery.range has.none_up.found has.none_up.between);
       free = ap (λ w. denial_of w has.recovery.leaf)
           (sym (front_stays has.recovery.range has.none_up.found has.none_up.between)) ∙ has.free;
     }
@@ -254,6 +258,14 @@ module _ (widen : (typed : TypedTree) (moment : ℤ) (from to earlier later : Le
       between = length_wider has.recovery.range has.found has.between;
       free = ap (λ w. denial_of w has.recovery.leaf) (sym (front_stays has.recovery.range has.found has.between))
           ∙ has.free;
+      source = record {
+        source = has.source.source;
+        serves = subst (λ w. Contains (serving w) has.source.source)
+            (front_stays has.recovery.range has.found has.between) has.source.serves;
+        cut = has.source.cut;
+        between = cut_wider has.source.source.leaf has.source.cut has.source.between;
+        up = ap is_down (sym (leaf_front_stays has.source.source.leaf has.source.cut has.source.between)) ∙ has.source.up;
+      };
       down = find from to first last seen more (record { leaf = has.recovery.leaf; cut = cut }) wide has.down;
     }
 
@@ -296,6 +308,8 @@ module _ (widen : (typed : TypedTree) (moment : ℤ) (from to earlier later : Le
     write_wider row (unwritten.Unavailable range founds) cause = record {
       in_range = cause.in_range;
       none_up = none_wider range founds cause.none_up;
+      those = cause.those ∙ ap (λ w. map (λ (replica : SlotLeaf). replica.leaf) (serving w))
+          (front_stays range cause.none_up.found cause.none_up.between);
       free = ap (λ w. refusal config.range_points w row)
           (sym (front_stays range cause.none_up.found cause.none_up.between)) ∙ cause.free;
     }
@@ -318,14 +332,11 @@ module _ (widen : (typed : TypedTree) (moment : ℤ) (from to earlier later : Le
         → is_fed pass accepted e ≡ true → (place.from h ≤ k) × (k < place.to h)
     there h k e at fed_is = place.ran.found.1 h k e at (ap (λ (trace : LineTrace). is_traced line.what trace h k e) is ∙ fed_is)
 
-    module _ (reads : List RowRead) (others : ℕ) (refusal : RowRefusal)
-        (found : RowFound config ended place.from place.to reads pass accepted others refusal) where
-      abbrev front : List Row
-      front = take (rows_before others refusal) accepted
-
-      abbrev rest : List Row
-      rest = drop (rows_before others refusal) accepted
-
+    -- something was found behind some of its rows and before others
+    module _ (front rest : List Row)
+        (of_front : (w : Row) → list_any (is_row w) front ≡ true → list_any (is_row w) accepted ≡ true)
+        (of_rest : (w : Row) → list_any (is_row w) rest ≡ true → list_any (is_row w) accepted ≡ true)
+        (Is : Lengths → Lengths → Type 0) (found : FoundAmid config ended place.from place.to pass front rest Is) where
       stands_before : (h : History) (k : ℕ) (e : BookEntry) → slice_get (entries ended h) k ≡ Some e
           → list_any (λ other. is_entry_of other h k e) (seen ++ fed line pass front ∷ []) ≡ true → k < found.since h
       stands_before h k e at any = any_split (λ (other : RanLine). is_entry_of other h k e) seen
@@ -338,8 +349,7 @@ module _ (widen : (typed : TypedTree) (moment : ℤ) (from to earlier later : Le
           let p = before.ran.found.1 h k e at its in let b = before.below h in let l = found.low h in omega arith))
           (λ own. or_either (is_fed pass front e) false (k < found.since h) own
           (λ mine.
-          let p = there h k e at (fed_more pass front accepted
-          (λ w. any_front (is_row w) (rows_before others refusal) accepted) e mine) in
+          let p = there h k e at (fed_more pass front accepted of_front e mine) in
           found.before h k (e, at, p.0, p.1, mine))
           (λ never. absurd (false≢true never)))
 
@@ -348,8 +358,7 @@ module _ (widen : (typed : TypedTree) (moment : ℤ) (from to earlier later : Le
       stands_behind h k e at any = or_either (is_fed pass rest e)
           (list_any (λ (other : RanLine). is_entry_of other h k e) later) (found.until h ≤ k) any
           (λ mine.
-          let p = there h k e at (fed_more pass rest accepted
-          (λ w. any_rest (is_row w) (rows_before others refusal) accepted) e mine) in
+          let p = there h k e at (fed_more pass rest accepted of_rest e mine) in
           found.behind h k (e, at, p.0, p.1, mine))
           (λ some. any_at (λ (other : RanLine). is_entry_of other h k e) later (found.until h ≤ k) some
           (λ j other stands its.
@@ -407,14 +416,48 @@ module _ (widen : (typed : TypedTree) (moment : ℤ) (from to earlier later : Le
         ranges = refl;
       }
 
-      row_cause : RowHasCause config ended seen later line pass reads accepted others refusal
-      row_cause = record {
-        read = found.read;
-        read_is = found.read_is;
-        cause = row_wider ended ended (marked found.since) (marked found.until)
-            (lows config.topology ended (seen ++ fed line pass front ∷ []))
-            (highs config.topology ended (fed line pass rest ∷ later)) row_place found.read refusal.fault found.cause;
-      }
+    row_cause : (reads : List RowRead) (others : ℕ) (refusal : RowRefusal)
+        → RowFound config ended place.from place.to reads pass accepted others refusal
+        → RowHasCause config ended seen later line pass reads accepted others refusal
+    row_cause reads others refusal found =
+        let n = rows_before others refusal in
+        let front = take n accepted in
+        let rest = drop n accepted in
+        let amid = found.amid in
+        record {
+          read = found.read;
+          read_is = found.read_is;
+          cause = row_wider ended ended (marked amid.since) (marked amid.until)
+              (lows config.topology ended (seen ++ fed line pass front ∷ []))
+              (highs config.topology ended (fed line pass rest ∷ later))
+              (row_place front rest (λ w. any_front (is_row w) n accepted) (λ w. any_rest (is_row w) n accepted)
+              (λ since until. HasRowCause config ended since until found.read refusal.fault) amid)
+              found.read refusal.fault amid.is;
+        }
+
+    row_taken : (at : ℕ) (row : Row) → TakenFound config ended place.from place.to pass accepted at row
+        → RowIsTaken config ended seen later line pass accepted at row
+    row_taken at row found =
+        let front = take at accepted in
+        let rest = drop (at + 1) accepted in
+        let amid = found.amid in
+        record {
+          range = found.range;
+          ack = found.ack;
+          told = found.told;
+          missed = all_as _ _ (λ miss is. find (marked amid.since) (marked amid.until)
+              (lows config.topology ended (seen ++ fed line pass front ∷ []))
+              (highs config.topology ended (fed line pass rest ∷ later)) ended ended
+              (record { leaf = miss.leaf; cut = miss.cut })
+              (row_place front rest (λ w. any_front (is_row w) at accepted) (λ w. any_rest (is_row w) (at + 1) accepted)
+              (λ since until. WereMissed ended since until found.ack) amid) is) found.ack.missed amid.is;
+        }
+
+    rows_taken : (at : ℕ) (some : List Row)
+        → AllTakenFound config ended place.from place.to pass accepted at some
+        → RowsAreTaken config ended seen later line pass accepted at some
+    rows_taken at [] found = tt
+    rows_taken at (row ∷ some) found = (row_taken at row found.0, rows_taken (at + 1) some found.1)
 
     rows_caused : (reads : List RowRead) (others : ℕ) (some : List RowRefusal)
         → RowsFound config ended place.from place.to reads pass accepted others some
@@ -429,9 +472,11 @@ module _ (widen : (typed : TypedTree) (moment : ℤ) (from to earlier later : Le
       (place : InPlace config ended seen later line) where
     caused_by : (trace : LineTrace) → line.trace ≡ trace → HasFound config ended place.from place.to place.number line trace
         → IsCaused config ended seen later line trace
-    caused_by (came.Fed pass rows refusals) is found =
-        rows_caused ended seen later line place pass rows refusals is (reads_of config.schemas line.content) 0 refusals
-        found.refused
+    caused_by (came.Fed pass rows refusals) is found = (
+      rows_caused ended seen later line place pass rows refusals is (reads_of config.schemas line.content) 0 refusals
+          found.refused,
+      rows_taken ended seen later line place pass rows refusals is 0 rows found.taken,
+    )
     caused_by (came.Asked moment trace) is found = tt
     caused_by (came.Switched cut) is found = tt
     caused_by (came.Recovered slot) is found = tt

@@ -4,6 +4,7 @@ use Rattle.std.proofs.Common.{drop, slice_get, Some, refl, sym, ap, ◌∙◌, s
 use Rattle.std.specs.Prelude.{ℤ}
 use Rattle.std.specs.List.{AllByRecursion}
 use mathlib.Core.List.{IsPrefix}
+use Rattle.history_book.proofs.ListLemmas.{prefix_contains}
 use Rattle.history_book.specs.Histories.{book_entry_pass, entries}
 use Rattle.history_book.specs.declared.views.BookEntry.TheVariants as one
 use Rattle.history_book.specs.declared.views.History.{History}
@@ -15,14 +16,15 @@ use Rattle.mon_topo.specs.HeldHistories.{BeginsWith}
 use Rattle.mon_topo.specs.RangeHistories.{acknowledged_rows}
 use Rattle.mon_value.specs.Histories.{leaf_history, range_history}
 use Rattle.mon_value.specs.declared.histories.Histories.{Histories}
+use Rattle.mon_value.specs.declared.histories.RangeEntry.TheVariants as range_entry
 use Rattle.mon_value.specs.declared.positions.FoundDown.{FoundDown}
 use Rattle.mon_value.specs.declared.positions.Leaf.{Leaf}
 use Rattle.mon_value.specs.declared.positions.Range.{Range}
 use Rattle.mon_value.specs.declared.rows.Row.{Row}
 use Rattle.mon_value.specs.declared.rows.SeriesKey.{SeriesKey}
-use Rattle.mql_types.specs.Meaning.{load}
-use Rattle.mql_types.specs.Nodes.{TypedTree}
-use Rattle.mql_types.specs.declared.plans.Plan.{Plan}
+use Rattle.typed_trees.specs.Meaning.{load}
+use Rattle.typed_trees.specs.Nodes.{TypedTree}
+use Rattle.typed_trees.specs.declared.plans.Plan.{Plan}
 use Rattle.query_core.specs.Courses.{IsFoundBetween}
 use Rattle.query_core.specs.Traces.{AreWider, IsFreshSince, IsReadRightly, IsTraceBetween, Lengths, source_of}
 use Rattle.query_core.specs.declared.answers.Trace.{Trace}
@@ -30,7 +32,8 @@ use Rattle.query_texts.specs.TextTypes.{plan_type}
 use Rattle.run_theory.specs.Parts.{AreBelow, GoesOn, GrowAlong, IsWithin, Part}
 use Rattle.run_theory.proofs.Writings.{one_more}
 use Rattle.run_traces.specs.LineClaims.{AllRan, Finds, HasFound, HasRange, HasWritten, HaveGrown, IsNewIn, Makes}
-use Rattle.run_traces.specs.LineClaims.{RowFound, RowsFound, StandsAmong, marked}
+use Rattle.run_traces.specs.LineCauses.{HasRowCause, WereMissed}
+use Rattle.run_traces.specs.LineClaims.{AllTakenFound, FoundAmid, RowFound, RowsFound, StandsAmong, TakenFound, marked}
 use Rattle.run_traces.specs.LineSwitches.{first_length, is_row}
 use Rattle.run_traces.specs.RanLines.{RanLine}
 use Rattle.run_traces.specs.declared.traces.LineTrace.{LineTrace}
@@ -151,23 +154,56 @@ module _ (widen : (typed : TypedTree) (moment : ℤ) (from to earlier later : Le
             stands.4,
           )
 
+      amid_still : (pass : ℕ) (front rest : List Row) (Is Is' : Lengths → Lengths → Type 0)
+          → ((since until : Lengths) → AreWider since until since until seen more → Is since until → Is' since until)
+          → FoundAmid config seen from to pass front rest Is → FoundAmid config more from to pass front rest Is'
+      amid_still pass front rest Is Is' stays found = record {
+        since = found.since;
+        until = found.until;
+        low = found.low;
+        forth = found.forth;
+        high = found.high;
+        before = λ h k stands. found.before h k (stood pass front h k stands);
+        behind = λ h k stands. found.behind h k (stood pass rest h k stands);
+        is = stays (marked found.since) (marked found.until)
+            (same_marks found.since found.until found.forth found.high) found.is;
+      }
+
+      range_goes_on : (range : Range) → IsPrefix (range_history seen range) (range_history more range)
+      range_goes_on range =
+          front_of (range_history seen range) (range_history more range) (grown.within.ranges range)
+
       row_still : (reads : List RowRead) (pass : ℕ) (accepted : List Row) (others : ℕ) (refusal : RowRefusal)
           → RowFound config seen from to reads pass accepted others refusal
           → RowFound config more from to reads pass accepted others refusal
       row_still reads pass accepted others refusal found = record {
         read = found.read;
         read_is = found.read_is;
-        since = found.since;
-        until = found.until;
-        low = found.low;
-        forth = found.forth;
-        high = found.high;
-        before = λ h k stands. found.before h k (stood pass _ h k stands);
-        behind = λ h k stands. found.behind h k (stood pass _ h k stands);
-        cause = row_wider widen find rows config seen more (marked found.since) (marked found.until)
-            (marked found.since) (marked found.until) (same_marks found.since found.until found.forth found.high)
-            found.read refusal.fault found.cause;
+        amid = amid_still pass _ _ (λ since until. HasRowCause config seen since until found.read refusal.fault)
+            (λ since until. HasRowCause config more since until found.read refusal.fault)
+            (λ since until wider. row_wider widen find rows config seen more since until since until wider found.read
+            refusal.fault) found.amid;
       }
+
+      taken_still : (pass : ℕ) (accepted : List Row) (place : ℕ) (row : Row)
+          → TakenFound config seen from to pass accepted place row → TakenFound config more from to pass accepted place row
+      taken_still pass accepted place row found = record {
+        range = found.range;
+        ack = found.ack;
+        told = prefix_contains (range_history seen found.range) (range_history more found.range)
+            (range_entry.Acked pass row found.ack) (range_goes_on found.range) found.told;
+        amid = amid_still pass _ _ (λ since until. WereMissed seen since until found.ack)
+            (λ since until. WereMissed more since until found.ack)
+            (λ since until wider. all_as _ _ (λ miss is. find since until since until seen more
+            (record { leaf = miss.leaf; cut = miss.cut }) wider is) found.ack.missed) found.amid;
+      }
+
+      all_taken_still : (pass : ℕ) (accepted : List Row) (place : ℕ) (some : List Row)
+          → AllTakenFound config seen from to pass accepted place some
+          → AllTakenFound config more from to pass accepted place some
+      all_taken_still pass accepted place [] found = tt
+      all_taken_still pass accepted place (row ∷ some) found =
+          (taken_still pass accepted place row found.0, all_taken_still pass accepted (place + 1) some found.1)
 
       rows_still : (reads : List RowRead) (pass : ℕ) (accepted : List Row) (others : ℕ) (refusals : List RowRefusal)
           → RowsFound config seen from to reads pass accepted others refusals
@@ -183,10 +219,6 @@ module _ (widen : (typed : TypedTree) (moment : ℤ) (from to earlier later : Le
       leaf_goes_on : (leaf : Leaf) → IsPrefix (leaf_history seen leaf) (leaf_history more leaf)
       leaf_goes_on leaf = front_of (leaf_history seen leaf) (leaf_history more leaf) (grown.within.leaves leaf)
 
-      range_goes_on : (range : Range) → IsPrefix (range_history seen range) (range_history more range)
-      range_goes_on range =
-          front_of (range_history seen range) (range_history more range) (grown.within.ranges range)
-
       found_still : (number : ℕ) (trace : LineTrace) → HasFound config seen from to number line trace
           → HasFound config more from to number line trace
       found_still number (came.Fed pass accepted refusals) found = record {
@@ -195,6 +227,7 @@ module _ (widen : (typed : TypedTree) (moment : ℤ) (from to earlier later : Le
         new = λ range. all_as (IsNewIn config seen from to range) (IsNewIn config more from to range) (new_still range)
             accepted (found.new range);
         refused = rows_still _ pass accepted 0 refusals found.refused;
+        taken = all_taken_still pass accepted 0 accepted found.taken;
       }
       found_still number (came.Asked moment trace) found = record {
         typed = found.typed;

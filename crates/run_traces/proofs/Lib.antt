@@ -5,6 +5,7 @@ pub mod Growth
 pub mod Kept
 pub mod ListFacts
 pub mod Owners
+pub mod Paired
 pub mod Rising
 pub mod RowFacts
 pub mod RunFacts

@@ -20,9 +20,9 @@ use Rattle.mon_value.specs.declared.positions.Leaf.{Leaf}
 use Rattle.mon_value.specs.declared.positions.Range.{Range}
 use Rattle.mon_value.specs.declared.rows.Row.{Row}
 use Rattle.mon_value.specs.declared.rows.SeriesKey.{SeriesKey}
-use Rattle.mql_types.specs.Meaning.{meaning}
-use Rattle.mql_types.specs.Nodes.{TypedTree, columns_of}
-use Rattle.mql_types.specs.declared.plans.Plan.{Plan}
+use Rattle.typed_trees.specs.Meaning.{meaning}
+use Rattle.typed_trees.specs.Nodes.{TypedTree, columns_of}
+use Rattle.typed_trees.specs.declared.plans.Plan.{Plan}
 use Rattle.query_core.specs.Courses.{IsFoundBetween}
 use Rattle.query_core.specs.Traces.{AreWider, IsBetween, IsFreshSince, IsReadRightly, IsTraceBetween, Lengths}
 use Rattle.query_core.specs.Traces.{source_of}
@@ -31,7 +31,9 @@ use Rattle.query_texts.specs.TextTypes.{text_type}
 use Rattle.query_texts.specs.declared.faults.TextFault.{TextFault}
 use Rattle.run_theory.specs.Parts.{AreBelow, IsWithin}
 use Rattle.run_theory.proofs.Callers.{none_between, none_passes}
-use Rattle.run_traces.specs.LineClaims.{Finds, HasFound, HaveGrown, Makes, RowsFound, StandsAmong}
+use Rattle.run_traces.specs.LineCauses.{HasRowCause, WereMissed}
+use Rattle.run_traces.specs.LineClaims.{AllTakenFound, Finds, FoundAmid, HasFound, HaveGrown, Makes, RowsFound}
+use Rattle.run_traces.specs.LineClaims.{StandsAmong}
 use Rattle.run_traces.specs.LineClaims.{marked}
 use Rattle.run_traces.specs.LineTables.{cuts_named, text_of}
 use Rattle.run_traces.specs.LineSwitches.{first_length}
@@ -136,6 +138,19 @@ module _ (widen : (typed : TypedTree) (moment : ℤ) (from to earlier later : Le
         below_by (suc n) (suc m) never =
             let rest = below_by n m (λ le. never (omega arith)) in omega arith
 
+    amid_raised : (pass : ℕ) (front rest : List Row) (Is : Lengths → Lengths → Type 0) → HasNoneUnder pass
+        → FoundAmid config more from to pass front rest Is → FoundAmid config more from later pass front rest Is
+    amid_raised pass front rest Is none found = record {
+      since = found.since;
+      until = found.until;
+      low = found.low;
+      forth = found.forth;
+      high = λ h. let a = found.high h in let b = up h in omega arith;
+      before = λ h k stands. found.before h k (lower pass front h k none stands);
+      behind = λ h k stands. found.behind h k (lower pass rest h k none stands);
+      is = found.is;
+    }
+
     rows_raised : (reads : List RowRead) (pass : ℕ) (accepted : List Row) (others : ℕ) (refusals : List RowRefusal)
         → HasNoneUnder pass → RowsFound config more from to reads pass accepted others refusals
         → RowsFound config more from later reads pass accepted others refusals
@@ -144,16 +159,24 @@ module _ (widen : (typed : TypedTree) (moment : ℤ) (from to earlier later : Le
       record {
         read = found.0.read;
         read_is = found.0.read_is;
-        since = found.0.since;
-        until = found.0.until;
-        low = found.0.low;
-        forth = found.0.forth;
-        high = λ h. let a = found.0.high h in let b = up h in omega arith;
-        before = λ h k stands. found.0.before h k (lower pass _ h k none stands);
-        behind = λ h k stands. found.0.behind h k (lower pass _ h k none stands);
-        cause = found.0.cause;
+        amid = amid_raised pass _ _ (λ since until. HasRowCause config more since until found.0.read refusal.fault) none
+            found.0.amid;
       },
       rows_raised reads pass accepted (others + 1) refusals none found.1,
+    )
+
+    all_taken_raised : (pass : ℕ) (accepted : List Row) (place : ℕ) (some : List Row) → HasNoneUnder pass
+        → AllTakenFound config more from to pass accepted place some
+        → AllTakenFound config more from later pass accepted place some
+    all_taken_raised pass accepted place [] none found = tt
+    all_taken_raised pass accepted place (row ∷ some) none found = (
+      record {
+        range = found.0.range;
+        ack = found.0.ack;
+        told = found.0.told;
+        amid = amid_raised pass _ _ (λ since until. WereMissed more since until found.0.ack) none found.0.amid;
+      },
+      all_taken_raised pass accepted (place + 1) some none found.1,
     )
 
     leaf_itself : (leaf : Leaf) → IsPrefix (leaf_history more leaf) (leaf_history more leaf)
@@ -170,6 +193,7 @@ module _ (widen : (typed : TypedTree) (moment : ℤ) (from to earlier later : Le
           accepted found.ranged;
       new = λ range. all_as _ _ (λ row new. new) accepted (found.new range);
       refused = rows_raised _ pass accepted 0 refusals (subst HasNoneUnder (sym makes.0) none) found.refused;
+      taken = all_taken_raised pass accepted 0 accepted (subst HasNoneUnder (sym makes.0) none) found.taken;
     }
     found_raised number made (came.Asked moment trace) none makes found = record {
       typed = found.typed;

@@ -16,7 +16,7 @@ use Rattle.mon_value.specs.declared.positions.FoundDown.{FoundDown}
 use Rattle.mon_value.specs.declared.positions.Leaf.{Leaf}
 use Rattle.mon_value.specs.declared.positions.Range.{Range}
 use Rattle.mon_value.specs.declared.rows.Row.{Row}
-use Rattle.mql_types.specs.Nodes.{TypedTree}
+use Rattle.typed_trees.specs.Nodes.{TypedTree}
 use Rattle.query_core.specs.Courses.{IsFoundBetween}
 use Rattle.query_core.specs.Traces.{AreWider, IsBetween, IsTraceBetween, Lengths, source_of}
 use Rattle.query_core.specs.declared.answers.Trace.{Trace}

@@ -7,7 +7,7 @@ use Rattle.mon_config.specs.declared.config.Config.{Config}
 use Rattle.mon_topo.specs.HeldHistories.{first_histories, AreHeld}
 use Rattle.mon_value.specs.declared.histories.Histories.{Histories}
 use Rattle.mon_value.specs.declared.positions.FoundDown.{FoundDown}
-use Rattle.mql_types.specs.Nodes.{TypedTree}
+use Rattle.typed_trees.specs.Nodes.{TypedTree}
 use Rattle.query_core.specs.Courses.{IsFoundBetween}
 use Rattle.query_core.specs.Traces.{AreWider, IsTraceBetween, Lengths, source_of}
 use Rattle.query_core.specs.declared.answers.Trace.{Trace}
@@ -19,7 +19,7 @@ use Rattle.run_traces.specs.Headline.{RunHolds}
 use Rattle.run_traces.specs.LineCauses.{LineIsCaused}
 use Rattle.run_traces.specs.LineClaims.{AllRan, Finds, Makes}
 use Rattle.run_traces.specs.LineSwitches.{LineIsControlled, LineStands, first_length, is_entry_of}
-use Rattle.run_traces.specs.LineFeeds.{LineIsTold}
+use Rattle.run_traces.specs.LineFeeds.{LineIsPaired, LineIsTold}
 use Rattle.run_traces.specs.LineForms.{LineSuits}
 use Rattle.run_traces.specs.LineTables.{LineIsFresh, LineIsPlaced, LineIsRead, LineIsTabled}
 use Rattle.run_traces.specs.RanLines.{RanLine}
@@ -28,6 +28,7 @@ use Rattle.run_traces.proofs.Causes.{is_caused}
 use Rattle.run_traces.proofs.Controlled.{is_controlled}
 use Rattle.run_traces.proofs.ListFacts.{all_as}
 use Rattle.run_traces.proofs.Owners.{are_distinct, are_not_first, are_theirs, are_under}
+use Rattle.run_traces.proofs.Paired.{is_paired}
 use Rattle.run_traces.proofs.RunFacts.{InPlace, each_as, is_fresh, is_placed, is_read, is_tabled, stands}
 use Rattle.mon_value.proofs.PlainLemmas.{get_within}
 
@@ -88,6 +89,8 @@ module _ (widen : (typed : TypedTree) (moment : ℤ) (from to earlier later : Le
           (first_length config.topology ended) end (are_under config ended whole fronts held) (are_distinct config ended whole fronts held)
           (are_not_first config ended begun whole fronts held) (λ h. refl) parts ran;
     };
+    paired = each_as (InPlace config ended) (LineIsPaired ended)
+        (λ seen later line place. is_paired config ended seen later line place) [] parts places;
     causes = each_as (InPlace config ended) (LineIsCaused config ended)
         (λ seen later line place. is_caused widen find rows config ended seen later line place) [] parts places;
     controls = each_as (InPlace config ended) (LineIsControlled config ended)

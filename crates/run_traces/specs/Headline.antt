@@ -7,7 +7,7 @@ use Rattle.run_theory.specs.Parts.{Each, Part, all_lines}
 use Rattle.run_traces.specs.LineCauses.{LineIsCaused}
 use Rattle.run_traces.specs.LineSwitches.{LineIsControlled, LineStands}
 use Rattle.run_traces.specs.LineDues.{AreDue, asked_parts}
-use Rattle.run_traces.specs.LineFeeds.{AreAcknowledged, AreOfLines, LineIsTold, ShareNoEntry}
+use Rattle.run_traces.specs.LineFeeds.{AreAcknowledged, AreOfLines, LineIsPaired, LineIsTold, ShareNoEntry}
 use Rattle.run_traces.specs.LineForms.{LineSuits}
 use Rattle.run_traces.specs.LineTables.{LineIsFresh, LineIsPlaced, LineIsRead, LineIsTabled}
 use Rattle.run_traces.specs.RanLines.{RanLine, parts_of, ran_lines}
@@ -17,8 +17,8 @@ use Rattle.standing.specs.DueLists.{standing_state}
 
 -- Each line came to what a line of its form comes to; each table stands on replicas and cuts in its place, on all that
 -- had been accepted before, and on every leaf that the query wants; each accepted row is acknowledged once, under its
--- line's number; nothing else was made; and whatever was refused has its cause in its place, and each leaf that was switched
--- and replica that was opened stands in its place
+-- line's number, and each put is of such a row; nothing else was made; and whatever was refused has its cause in its place,
+-- as has each leaf that missed a row, and each leaf that was switched and replica that was opened stands in its place
 pub record RunHolds (config : Config) (ended : Histories) (parts : List (Part RanLine)) : Type 0 where
   pub suits : AllByRecursion LineSuits (all_lines parts)
   pub tables : Each (LineIsTabled config ended) [] parts
@@ -29,6 +29,7 @@ pub record RunHolds (config : Config) (ended : Histories) (parts : List (Part Ra
   pub acknowledged : AreAcknowledged config ended (all_lines parts)
   pub made : AreOfLines config ended (all_lines parts)
   pub apart : ShareNoEntry ended parts
+  pub paired : Each (LineIsPaired ended) [] parts
   pub causes : Each (LineIsCaused config ended) [] parts
   pub controls : Each (LineIsControlled config ended) [] parts
   pub stands : Each (LineStands config ended) [] parts

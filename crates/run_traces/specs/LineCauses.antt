@@ -1,6 +1,6 @@
 -- Why lines and rows were refused: each has its cause in the histories at the end, at lengths in its place.
 use Rattle.std.specs.Prelude.{◌≡◌, ◌<◌, ◌+◌, ◌-◌, ◌∷◌, ◌++◌, ℕ, ℤ, Bool, true, false, not, List, [], take, drop}
-use Rattle.std.specs.Prelude.{slice_get, Some, None, Ok, Err, length, ◌≤◌}
+use Rattle.std.specs.Prelude.{slice_get, Some, None, Ok, Err, length, ◌≤◌, map, Contains}
 use Rattle.std.specs.List.{AllByRecursion, count_by}
 use Rattle.mon_config.specs.Configs.{range_of_key}
 use Rattle.mon_config.specs.declared.config.Config.{Config}
@@ -12,15 +12,20 @@ use Rattle.mon_topo.specs.Zones.{range_zones}
 use Rattle.mon_value.specs.Histories.{leaf_history, range_history}
 use Rattle.mon_value.specs.LeafHistories.{is_down, is_switch}
 use Rattle.mon_value.specs.declared.limits.TheConstants.{MOST_SWITCHES}
+use Rattle.mon_value.specs.declared.histories.Ack.{Ack}
 use Rattle.mon_value.specs.declared.histories.Histories.{Histories}
+use Rattle.mon_value.specs.declared.histories.Miss.{Miss}
+use Rattle.mon_value.specs.declared.histories.RangeEntry.TheVariants as range_entry
 use Rattle.mon_value.specs.declared.positions.FoundDown.{FoundDown}
 use Rattle.mon_value.specs.declared.positions.Leaf.{Leaf}
 use Rattle.mon_value.specs.declared.positions.Range.{Range}
+use Rattle.mon_value.specs.declared.positions.SlotLeaf.{SlotLeaf}
 use Rattle.mon_value.specs.declared.positions.Zone.{Zone}
 use Rattle.mon_value.specs.declared.rows.Row.{Row}
-use Rattle.mql_types.specs.Meaning.{load}
-use Rattle.mql_types.specs.Nodes.{TypedTree}
+use Rattle.typed_trees.specs.Meaning.{load}
+use Rattle.typed_trees.specs.Nodes.{TypedTree}
 use Rattle.query_core.specs.Courses.{IsFoundBetween}
+use Rattle.query_core.specs.Rounds.{area_of, has_leaf}
 use Rattle.query_core.specs.Traces.{IsBetween, IsTraceBetween, Lengths, cut_of, found_leaves, source_of}
 use Rattle.query_core.specs.declared.answers.Trace.{Trace}
 use Rattle.query_texts.specs.TextTypes.{text_type}
@@ -57,12 +62,19 @@ module _ (config : Config) (ended : Histories) (from to : Lengths) where
     pub all_down : AllByRecursion (λ replica. is_avoided (found_leaves founds) replica ≡ true)
         (serving (take found (range_history ended range)))
 
-  -- a text that has a type finds no replica of a range of some zone
+  -- each replica that served then is on one of these leaves, in the order of slots
+  abbrev pub AreThoseServing : (range : Range) (founds : List FoundDown) → HasNoneUp range founds → Type 0
+  AreThoseServing range founds none =
+      found_leaves founds ≡ map (λ (replica : SlotLeaf). replica.leaf)
+      (serving (take none.found (range_history ended range)))
+
+  -- a text that has a type finds no replica of a range of some zone; the leaves that are named are the zone's
   pub record IsLeftWithout (text : List ℕ) (range : Range) (founds : List FoundDown) : Type 0 where
     pub typed : TypedTree
     pub type_is : text_type config.schemas text ≡ Ok typed
     pub zone : Zone
     pub zoned : slice_get (range_zones config.topology) range.0 ≡ Some zone
+    pub named : AllByRecursion (λ (found : FoundDown). has_leaf (area_of config.topology zone.0) found.leaf ≡ true) founds
     pub none_up : HasNoneUp range founds
 
   -- the load over the rows of what was looked at is above the limit
@@ -101,20 +113,30 @@ module _ (config : Config) (ended : Histories) (from to : Lengths) where
     pub between : IsBetween (from.ranges recovery.range) (to.ranges recovery.range) found
     pub denied : denial_of (take found (range_history ended recovery.range)) recovery.leaf ≡ Some told
 
-  -- no replica of the range was up from which rows could be copied
+  -- at a length of the range's history between them a replica of it served on a leaf that was up between them
+  pub record HasSource (range : Range) (found : ℕ) : Type 0 where
+    pub source : SlotLeaf
+    pub serves : Contains (serving (take found (range_history ended range))) source
+    pub cut : ℕ
+    pub between : IsBetween (from.leaves source.leaf) (to.leaves source.leaf) cut
+    pub up : is_down (take cut (leaf_history ended source.leaf)) ≡ false
+
+  -- no replica of the range was up from which rows could be copied, though it may open one on the leaf
   pub record HasNoSource (what : LineForm) (founds : List FoundDown) : Type 0 where
     pub recovery : Recovery
     pub asked : recovery_of what ≡ Some recovery
     pub none_up : HasNoneUp recovery.range founds
+    pub those : AreThoseServing recovery.range founds none_up
     pub free : denial_of (take none_up.found (range_history ended recovery.range)) recovery.leaf ≡ None
 
-  -- the leaf was found down
+  -- the leaf was found down, though the range may open a replica on it and has one from which rows could be copied
   pub record HasNoTarget (what : LineForm) (cut : ℕ) : Type 0 where
     pub recovery : Recovery
     pub asked : recovery_of what ≡ Some recovery
     pub found : ℕ
     pub between : IsBetween (from.ranges recovery.range) (to.ranges recovery.range) found
     pub free : denial_of (take found (range_history ended recovery.range)) recovery.leaf ≡ None
+    pub source : HasSource recovery.range found
     pub down : IsFoundBetween from to ended (record { leaf = recovery.leaf; cut = cut })
 
   -- why a line is refused; that a query isn't to stand, or a moment isn't taken, is told by the queries that stand
@@ -143,10 +165,11 @@ module _ (config : Config) (ended : Histories) (from to : Lengths) where
     pub between : IsBetween (from.ranges range) (to.ranges range) found
     pub refused : refusal config.range_points (take found (range_history ended range)) row ≡ Some told
 
-  -- no replica of the row's range was up
+  -- no replica of the row's range was up, though the range had a place for it
   pub record IsUnavailable (row : Row) (range : Range) (founds : List FoundDown) : Type 0 where
     pub in_range : range_of_key config row.key ≡ Some range
     pub none_up : HasNoneUp range founds
+    pub those : AreThoseServing range founds none_up
     pub free : refusal config.range_points (take none_up.found (range_history ended range)) row ≡ None
 
   abbrev pub IsUnwritten : Row → WriteFault → Type 0
@@ -188,13 +211,37 @@ module _ (config : Config) (ended : Histories) (seen later : List RanLine) (line
   RowsHaveCauses reads accepted others (refusal ∷ refusals) =
       RowHasCause reads accepted others refusal × RowsHaveCauses reads accepted (others + 1) refusals
 
+-- ---- rows that were taken, in their places
+
+-- the leaves that an acknowledgement names as having missed the row were found down between two moments
+abbrev pub WereMissed : Histories → Lengths → Lengths → Ack → Type 0
+WereMissed ended from to ack = AllByRecursion
+    (λ (miss : Miss). IsFoundBetween from to ended (record { leaf = miss.leaf; cut = miss.cut })) ack.missed
+
+module _ (config : Config) (ended : Histories) (seen later : List RanLine) (line : RanLine) (pass : ℕ)
+    (accepted : List Row) where
+  -- the row at a place of those that a feed accepted is acknowledged, and each leaf that is named as having missed it was
+  -- found down behind the rows before it and before those behind it
+  pub record RowIsTaken (place : ℕ) (row : Row) : Type 0 where
+    pub range : Range
+    pub ack : Ack
+    pub told : Contains (range_history ended range) (range_entry.Acked pass row ack)
+    pub missed : WereMissed ended (lows config.topology ended (seen ++ fed line pass (take place accepted) ∷ []))
+        (highs config.topology ended (fed line pass (drop (place + 1) accepted) ∷ later)) ack
+
+  abbrev pub RowsAreTaken : ℕ → List Row → Type 0
+  RowsAreTaken place [] = Unit {0}
+  RowsAreTaken place (row ∷ rows) = RowIsTaken place row × RowsAreTaken (place + 1) rows
+
 -- ---- of each line
 
 module _ (config : Config) (ended : Histories) where
-  -- a refused line has its cause in its place, and so has each record of a feed that was refused
+  -- a refused line has its cause in its place, and so has each record of a feed that was refused, and each leaf that missed
+  -- a row of it
   abbrev pub IsCaused : List RanLine → List RanLine → RanLine → LineTrace → Type 0
   IsCaused seen later line (came.Fed pass accepted refusals) =
       RowsHaveCauses config ended seen later line pass (reads_of config.schemas line.content) accepted 0 refusals
+      × RowsAreTaken config ended seen later line pass accepted 0 accepted
   IsCaused seen later line (came.Asked moment trace) = Unit {0}
   IsCaused seen later line (came.Ticked dues) = Unit {0}
   IsCaused seen later line (came.Switched cut) = Unit {0}

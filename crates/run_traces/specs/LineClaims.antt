@@ -1,7 +1,7 @@
 -- What a run owes of each line as the line ends: which entries it made, and what it found between two lengths of each
 -- history. The rest follows for all lines together.
 use Rattle.std.specs.Prelude.{◌≡◌, ◌<◌, ◌≤◌, ◌+◌, ◌-◌, ◌∷◌, ℕ, ℤ, true, false, List, [], Ok, Some, filter, length}
-use Rattle.std.specs.Prelude.{take, drop, slice_get}
+use Rattle.std.specs.Prelude.{take, drop, slice_get, Contains}
 use Rattle.std.specs.List.{AllByRecursion, flat_map}
 use Rattle.history_book.specs.Histories.{book_entry_pass, entries}
 use Rattle.history_book.specs.declared.views.BookEntry.{BookEntry}
@@ -12,14 +12,16 @@ use Rattle.mon_config.specs.declared.config.Config.{Config}
 use Rattle.mon_topo.specs.RangeHistories.{acked_row, acknowledged_rows}
 use Rattle.mon_topo.specs.HeldHistories.{AreWithin}
 use Rattle.mon_value.specs.Histories.{range_history}
+use Rattle.mon_value.specs.declared.histories.Ack.{Ack}
 use Rattle.mon_value.specs.declared.histories.Histories.{Histories}
+use Rattle.mon_value.specs.declared.histories.RangeEntry.TheVariants as range_entry
 use Rattle.mon_value.specs.declared.positions.Leaf.{Leaf}
 use Rattle.mon_value.specs.declared.positions.Range.{Range}
 use Rattle.mon_value.specs.declared.positions.Slot.{Slot}
 use Rattle.mon_value.specs.declared.rows.Row.{Row}
 use Rattle.mon_script.specs.declared.forms.LineForm.{LineForm}
-use Rattle.mql_types.specs.Nodes.{TypedTree}
-use Rattle.mql_types.specs.Meaning.{load}
+use Rattle.typed_trees.specs.Nodes.{TypedTree}
+use Rattle.typed_trees.specs.Meaning.{load}
 use Rattle.query_core.specs.Courses.{IsFoundBetween}
 use Rattle.query_core.specs.Traces.{IsBetween, IsFreshSince, IsTraceBetween, Lengths, source_of}
 use Rattle.query_core.specs.declared.answers.Trace.{Trace}
@@ -28,8 +30,8 @@ use Rattle.mon_points.specs.Records.{reads_of}
 use Rattle.mon_points.specs.declared.records.RowRead.{RowRead}
 use Rattle.run_theory.specs.Parts.{AreBelow, PartsRan, Part}
 use Rattle.run_theory.specs.Writings.{PartWrote}
-use Rattle.run_traces.specs.LineCauses.{HasCause, HasRowCause, rows_before}
-use Rattle.run_traces.specs.LineFeeds.{IsTold, lies_in}
+use Rattle.run_traces.specs.LineCauses.{HasCause, HasRowCause, WereMissed, rows_before}
+use Rattle.run_traces.specs.LineFeeds.{HasItsAck, IsTold, lies_in}
 use Rattle.run_traces.specs.LineForms.{LineSuits}
 use Rattle.run_traces.specs.LineTables.{cuts_named, IsReadByPlan, text_of}
 use Rattle.run_traces.specs.LineSwitches.{first_length, is_fed, is_row, IsRecoveredBetween, IsSwitchedBetween, recovers}
@@ -62,6 +64,7 @@ module _ (config : Config) where
     pub own : (history : History) → AllByRecursion (λ e. is_fed pass accepted e ≡ true) (made history)
     pub puts : (leaf : Leaf) → flat_map book_row (made (of.Leaf leaf)) ≡ []
     pub acks : (range : Range) → flat_map book_row (made (of.Range range)) ≡ filter (lies_in config range) accepted
+    pub paired : (history : History) → AllByRecursion (HasItsAck made) (made history)
 
   -- a switch made one entry at most, the one that is asked for
   pub record SwitchMade (what : LineForm) (made : History → List BookEntry) : Type 0 where
@@ -105,31 +108,48 @@ module _ (config : Config) (seen : Histories) (from to : History → ℕ) where
   StandsAmong pass rows history place = (e : BookEntry) × (slice_get (entries seen history) place ≡ Some e)
       × (from history ≤ place) × (place < to history) × (is_fed pass rows e ≡ true)
 
-  -- a record was refused, behind all entries of the rows that were accepted before it and before those of the others
-  pub record RowFound (reads : List RowRead) (pass : ℕ) (accepted : List Row) (others : ℕ) (refusal : RowRefusal)
-      : Type 0 where
-    pub read : RowRead
-    pub read_is : slice_get reads (refusal.number - 1) ≡ Some read
+  -- so much was so behind all entries of some rows of a feed and before those of others
+  pub record FoundAmid (pass : ℕ) (front rest : List Row) (Is : Lengths → Lengths → Type 0) : Type 0 where
     pub since : History → ℕ
     pub until : History → ℕ
     pub low : AreBelow from since
     pub forth : AreBelow since until
     pub high : AreBelow until to
-    pub before : (history : History) (place : ℕ)
-        → StandsAmong pass (take (rows_before others refusal) accepted) history place → place < since history
-    pub behind : (history : History) (place : ℕ)
-        → StandsAmong pass (drop (rows_before others refusal) accepted) history place → until history ≤ place
-    pub cause : HasRowCause config seen (marked since) (marked until) read refusal.fault
+    pub before : (history : History) (place : ℕ) → StandsAmong pass front history place → place < since history
+    pub behind : (history : History) (place : ℕ) → StandsAmong pass rest history place → until history ≤ place
+    pub is : Is (marked since) (marked until)
+
+  -- a record was refused, behind all entries of the rows that were accepted before it and before those of the others
+  pub record RowFound (reads : List RowRead) (pass : ℕ) (accepted : List Row) (others : ℕ) (refusal : RowRefusal)
+      : Type 0 where
+    pub read : RowRead
+    pub read_is : slice_get reads (refusal.number - 1) ≡ Some read
+    pub amid : FoundAmid pass (take (rows_before others refusal) accepted) (drop (rows_before others refusal) accepted)
+        (λ since until. HasRowCause config seen since until read refusal.fault)
 
   abbrev pub RowsFound : List RowRead → ℕ → List Row → ℕ → List RowRefusal → Type 0
   RowsFound reads pass accepted others [] = Unit {0}
   RowsFound reads pass accepted others (refusal ∷ refusals) =
       RowFound reads pass accepted others refusal × RowsFound reads pass accepted (others + 1) refusals
 
+  -- a row is acknowledged, and each leaf that missed it was found down behind the rows that were accepted before it
+  pub record TakenFound (pass : ℕ) (accepted : List Row) (place : ℕ) (row : Row) : Type 0 where
+    pub range : Range
+    pub ack : Ack
+    pub told : Contains (range_history seen range) (range_entry.Acked pass row ack)
+    pub amid : FoundAmid pass (take place accepted) (drop (place + 1) accepted)
+        (λ since until. WereMissed seen since until ack)
+
+  abbrev pub AllTakenFound : ℕ → List Row → ℕ → List Row → Type 0
+  AllTakenFound pass accepted place [] = Unit {0}
+  AllTakenFound pass accepted place (row ∷ rows) =
+      TakenFound pass accepted place row × AllTakenFound pass accepted (place + 1) rows
+
   pub record FeedFound (content : List ℕ) (pass : ℕ) (accepted : List Row) (refusals : List RowRefusal) : Type 0 where
     pub ranged : AllByRecursion HasRange accepted
     pub new : (range : Range) → AllByRecursion (IsNewIn range) accepted
     pub refused : RowsFound (reads_of config.schemas content) pass accepted 0 refusals
+    pub taken : AllTakenFound pass accepted 0 accepted
 
   -- what was looked at for a table
   pub record LookFound (text : List ℕ) (moment : ℤ) (trace : Trace) : Type 0 where

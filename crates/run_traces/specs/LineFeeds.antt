@@ -1,11 +1,13 @@
 -- What feeds made: each accepted row is acknowledged once, under its line's number and in the line's order; each record
 -- of a file is accepted or refused; and no entry of a history was made by no line, or by two.
 use Rattle.std.specs.Prelude.{◌≡◌, ◌≤◌, ◌+◌, ◌∷◌, ◌⊎◌, ℕ, nat_eq, Bool, true, false, List, [], filter, slice_get}
-use Rattle.std.specs.Prelude.{Option, Some, None, if◌then◌else◌}
+use Rattle.std.specs.Prelude.{Option, Some, None, Contains, if◌then◌else◌}
 use Rattle.std.specs.List.{AllByRecursion, flat_map, list_any}
 use Rattle.history_book.specs.Histories.{AreFronts, entries}
 use Rattle.history_book.specs.declared.views.BookEntry.{BookEntry}
+use Rattle.history_book.specs.declared.views.BookEntry.TheVariants as one
 use Rattle.history_book.specs.declared.views.History.{History}
+use Rattle.history_book.specs.declared.views.History.TheVariants as of
 use Rattle.mon_config.specs.Configs.{range_of_key}
 use Rattle.mon_config.specs.declared.config.Config.{Config}
 use Rattle.mon_points.specs.Records.{reads_of}
@@ -13,10 +15,13 @@ use Rattle.mon_points.specs.declared.records.RowRead.{RowRead}
 use Rattle.mon_points.specs.declared.records.RowRead.TheVariants as read
 use Rattle.mon_topo.specs.HeldHistories.{first_histories}
 use Rattle.mon_value.specs.Histories.{range_history, same_range}
+use Rattle.mon_value.specs.declared.histories.Ack.{Ack}
+use Rattle.mon_value.specs.declared.histories.Entry.TheVariants as entry
 use Rattle.mon_value.specs.declared.histories.Histories.{Histories}
 use Rattle.mon_value.specs.declared.histories.RangeEntry.{RangeEntry}
 use Rattle.mon_value.specs.declared.histories.RangeEntry.TheVariants as range_entry
 use Rattle.mon_value.specs.declared.positions.Range.{Range}
+use Rattle.mon_value.specs.declared.positions.Slot.{Slot}
 use Rattle.mon_value.specs.declared.rows.Row.{Row}
 use Rattle.range_cell.specs.declared.answers.WriteFault.{WriteFault}
 use Rattle.run_theory.specs.Parts.{Each, Part, lines_of}
@@ -98,6 +103,29 @@ module _ (config : Config) where
     pub made : (history : History) (place : ℕ) (e : BookEntry) → slice_get (entries ended history) place ≡ Some e
         → first_length config.topology ended history ≤ place
         → list_any (λ line. is_entry_of line history place e) lines ≡ true
+
+-- ---- puts
+
+-- among entries of a range's history one acknowledges a row, and a slot is among those that took it
+pub record IsPaired (made : History → List BookEntry) (pass : ℕ) (range : Range) (slot : Slot) (row : Row) : Type 0
+  where
+    pub ack : Ack
+    pub told : Contains (made (of.Range range)) (one.Range (range_entry.Acked pass row ack))
+    pub took : Contains ack.took slot
+
+-- the row of a put is acknowledged under its number, as one that its slot took
+abbrev pub HasItsAck : (History → List BookEntry) → BookEntry → Type 0
+HasItsAck made (one.Leaf (entry.Opened pass range slot rows)) = Unit {0}
+HasItsAck made (one.Leaf (entry.Put pass range slot row)) = IsPaired made pass range slot row
+HasItsAck made (one.Leaf (entry.Down pass)) = Unit {0}
+HasItsAck made (one.Leaf (entry.Up pass)) = Unit {0}
+HasItsAck made (one.Range e) = Unit {0}
+
+-- each put of a line, at the end of the run
+abbrev pub LineIsPaired : Histories → List RanLine → List RanLine → RanLine → Type 0
+LineIsPaired ended seen later line = (history : History) (place : ℕ) (e : BookEntry)
+    → slice_get (entries ended history) place ≡ Some e → is_entry_of line history place e ≡ true
+    → HasItsAck (entries ended) e
 
 -- no two lines share an entry, neither one that ran before the other nor two that ran beside each other
 pub record ShareNoEntry (ended : Histories) (parts : List (Part RanLine)) : Type 0 where

@@ -4,10 +4,10 @@ use Rattle.std.specs.Prelude.{None, if◌then◌else◌}
 use Rattle.std.specs.List.{AllByRecursion, flat_map}
 use Rattle.mon_config.specs.declared.config.Config.{Config}
 use Rattle.mon_value.specs.declared.histories.Histories.{Histories}
-use Rattle.mql_types.specs.Nodes.{TypedTree}
+use Rattle.typed_trees.specs.Nodes.{TypedTree}
 use Rattle.query_core.specs.Courses.{IsFoundBetween}
 use Rattle.query_core.specs.Traces.{IsBetween, IsTraceBetween, cut_of, source_of, IsReadRightly}
-use Rattle.mql_types.specs.Meaning.{load}
+use Rattle.typed_trees.specs.Meaning.{load}
 use Rattle.query_core.specs.declared.answers.Trace.{Trace}
 use Rattle.query_texts.specs.TextTypes.{text_type, IsPlanOver, plan_type}
 use Rattle.mon_script.specs.declared.forms.LineForm.{LineForm}
@@ -18,7 +18,7 @@ use Rattle.mon_value.specs.declared.positions.Leaf.{Leaf}
 use Rattle.range_cell.specs.declared.answers.WriteFault.{WriteFault}
 use Rattle.range_cell.specs.declared.answers.WriteFault.TheVariants as unwritten
 use Rattle.leaf_store.specs.LeafStates.{key_buckets}
-use Rattle.mql_types.specs.declared.plans.Plan.{Plan}
+use Rattle.typed_trees.specs.declared.plans.Plan.{Plan}
 use Rattle.run_traces.specs.LineSwitches.{highs, lows}
 use Rattle.run_traces.specs.RanLines.{RanLine, accepted_rows}
 use Rattle.run_traces.specs.declared.traces.LineTrace.{LineTrace}

@@ -6,20 +6,20 @@ use Rattle.std.specs.List.{flat_map}
 use Rattle.mon_config.specs.declared.config.Config.{Config}
 use Rattle.mon_points.specs.Records.{row_fault_text}
 use Rattle.mon_table.specs.Tables.{newline, table_text}
-use Rattle.mon_topo.specs.Zones.{down_text, founds_text, leaf_text, range_text, leaves_in}
+use Rattle.mon_topo.specs.Zones.{down_text, leaves_in}
 use Rattle.mon_topo.specs.declared.zones.ZoneSpec.{ZoneSpec}
 use Rattle.mon_value.specs.Tables.{column_names}
 use Rattle.mon_value.specs.declared.histories.Histories.{Histories}
 use Rattle.mql_parse.specs.Faults.{parse_fault_text}
-use Rattle.mql_types.specs.Plans.{op_levels}
-use Rattle.mql_types.specs.Faults.{limit_text, type_fault_text}
-use Rattle.mql_types.specs.Meaning.{meaning}
-use Rattle.mql_types.specs.Nodes.{TypedTree, columns_of}
-use Rattle.mql_types.specs.declared.explanations.OpLevel.{OpLevel}
-use Rattle.mql_types.specs.declared.explanations.OpWord.{OpWord}
-use Rattle.mql_types.specs.declared.explanations.OpWord.TheVariants as word
-use Rattle.mql_types.specs.declared.levels.Level.{Level}
-use Rattle.mql_types.specs.declared.levels.Level.TheVariants as level
+use Rattle.typed_trees.specs.Plans.{op_levels}
+use Rattle.typed_trees.specs.Faults.{limit_text, type_fault_text}
+use Rattle.typed_trees.specs.Meaning.{meaning}
+use Rattle.typed_trees.specs.Nodes.{TypedTree, columns_of}
+use Rattle.typed_trees.specs.declared.explanations.OpLevel.{OpLevel}
+use Rattle.typed_trees.specs.declared.explanations.OpWord.{OpWord}
+use Rattle.typed_trees.specs.declared.explanations.OpWord.TheVariants as word
+use Rattle.typed_trees.specs.declared.levels.Level.{Level}
+use Rattle.typed_trees.specs.declared.levels.Level.TheVariants as level
 use Rattle.query_core.specs.Traces.{source_of}
 use Rattle.query_core.specs.declared.answers.Trace.{Trace}
 use Rattle.query_texts.specs.TextTypes.{text_type}
@@ -40,6 +40,8 @@ use Rattle.run_traces.specs.declared.traces.LineTrace.TheVariants as came
 use Rattle.run_traces.specs.declared.traces.RowRefusal.{RowRefusal}
 use Rattle.run_traces.specs.declared.traces.RowRefused.{RowRefused}
 use Rattle.run_traces.specs.declared.traces.RowRefused.TheVariants as refused
+use Rattle.mon_script.specs.Controls.{control_refusal_text, recovered_text, source_down_text, switched_text}
+use Rattle.mon_script.specs.declared.control_texts.ControlRefusal.TheVariants as control
 use Rattle.mon_script.specs.declared.forms.LineForm.{LineForm}
 use Rattle.mon_script.specs.declared.forms.LineForm.TheVariants as form
 use Rattle.standing.specs.declared.dues.Due.{Due}
@@ -123,21 +125,15 @@ explanation zones typed trace = flat_map op_line (op_levels typed) ++ leaf_lines
 
 -- ---- leaves that are switched, and replicas that are opened
 
-abbrev pub way_text : Bool → List ℕ
-way_text down = if down then codes "down" else codes "up"
-
 -- the leaf that went down, or came up
 abbrev pub switch_text : List ZoneSpec → Option Switch → List ℕ
 switch_text zones None = []
-switch_text zones (Some switch) =
-    way_text switch.down ++ (codes " " ++ (leaf_text zones switch.leaf ++ (codes ": done" ++ newline)))
+switch_text zones (Some switch) = switched_text zones switch.leaf switch.down
 
 -- the range and the leaf, and the slot that was opened
 abbrev pub recovery_text : List ZoneSpec → Option Recovery → Slot → List ℕ
 recovery_text zones None slot = []
-recovery_text zones (Some recovery) slot =
-    codes "recover " ++ (range_text zones recovery.range ++ (codes " " ++ (leaf_text zones recovery.leaf
-    ++ (codes ": slot " ++ (decimal slot.0 ++ newline)))))
+recovery_text zones (Some recovery) slot = recovered_text zones recovery.range recovery.leaf slot
 
 -- ---- standing queries
 
@@ -166,14 +162,14 @@ line_fault_text zones (why.Parse fault) = codes "Parse " ++ parse_fault_text fau
 line_fault_text zones (why.Typing fault) = codes "Typing " ++ type_fault_text fault
 line_fault_text zones (why.NoReplica range founds) = codes "NoReplica " ++ down_text zones range founds
 line_fault_text zones (why.StepLimit limit trace) = limit_text limit
-line_fault_text zones (why.AlreadyDown cut) = codes "AlreadyDown " ++ decimal cut
-line_fault_text zones (why.AlreadyUp cut) = codes "AlreadyUp " ++ decimal cut
-line_fault_text zones (why.SwitchesSpent count) = codes "SwitchesSpent " ++ decimal count
-line_fault_text zones (why.Serving slot) = codes "Serving " ++ decimal slot.0
-line_fault_text zones why.ThreeServing = codes "ThreeServing"
-line_fault_text zones (why.SlotsSpent count) = codes "SlotsSpent " ++ decimal count
-line_fault_text zones (why.SourceDown founds) = codes "SourceDown:" ++ founds_text zones founds
-line_fault_text zones (why.TargetDown cut) = codes "TargetDown " ++ decimal cut
+line_fault_text zones (why.AlreadyDown cut) = control_refusal_text (control.AlreadyDown cut)
+line_fault_text zones (why.AlreadyUp cut) = control_refusal_text (control.AlreadyUp cut)
+line_fault_text zones (why.SwitchesSpent count) = control_refusal_text (control.SwitchesSpent count)
+line_fault_text zones (why.Serving slot) = control_refusal_text (control.Serving slot)
+line_fault_text zones why.ThreeServing = control_refusal_text control.ThreeServing
+line_fault_text zones (why.SlotsSpent count) = control_refusal_text (control.SlotsSpent count)
+line_fault_text zones (why.SourceDown founds) = source_down_text zones founds
+line_fault_text zones (why.TargetDown cut) = control_refusal_text (control.TargetDown cut)
 line_fault_text zones why.NameTaken = codes "NameTaken"
 line_fault_text zones (why.TooManyDue most) = codes "TooManyDue " ++ decimal most
 line_fault_text zones (why.Backwards last) = codes "Backwards " ++ signed_decimal last

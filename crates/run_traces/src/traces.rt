@@ -3,10 +3,10 @@ use crate::fed_rows::FedRows;
 use mon_points::RowFault;
 use mon_value::{Founds, ListOf, Range, Slot};
 use mql_parse::ParseFault;
-use mql_types::TypeFault;
 use query_core::Trace;
 use range_cell::WriteFault;
 use standing::Due;
+use typed_trees::TypeFault;
 
 /// Why a record of a file was refused.
 #[derive(Drop)]

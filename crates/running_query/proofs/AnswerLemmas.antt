@@ -36,7 +36,7 @@ use Rattle.mon_value.specs.declared.positions.RangeSlot.{RangeSlot}
 use Rattle.mon_value.specs.declared.positions.SlotLeaf.{SlotLeaf}
 use Rattle.mon_value.specs.declared.positions.Zone.{Zone}
 use Rattle.mon_value.specs.declared.rows.Row.{Row}
-use Rattle.mql_types.specs.Nodes.{typed_tree}
+use Rattle.typed_trees.specs.Nodes.{typed_tree}
 use Rattle.owners.specs.Calls.{HasLooked}
 use Rattle.plan_split.proofs.PlanBuckets.{next_below}
 use Rattle.plan_split.specs.Meeting.{is_plan_met}

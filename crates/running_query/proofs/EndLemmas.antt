@@ -1,51 +1,55 @@
 -- How a query begins, and how it ends.
-use Rattle.std.proofs.Common.{◌≡◌, ◌∙◌, ◌≤ℤ◌, inl, inr, ℕ, ℤ, true, pos, List, [], ◌∷◌, ◌++◌, refl, sym, ap}
+use Rattle.std.proofs.Common.{◌≡◌, ◌∙◌, ◌<◌, ◌≤ℤ◌, inl, inr, ℕ, ℤ, true, pos, List, [], ◌∷◌, ◌++◌, refl, sym, ap}
 use Rattle.std.proofs.Common.{subst, arith, Ok, Err, None, append_assoc, length}
 use Rattle.std.specs.Prelude.{Result}
 use Rattle.std.specs.List.{AllByRecursion as All, Contains, sum}
-use Rattle.std.proofs.lemmas.Bool.{or_cases}
 use Rattle.std.proofs.lemmas.List.{append-nil}
 use Rattle.history_book.specs.Seats.{length_note}
 use Rattle.history_book.specs.declared.views.LengthNote.{LengthNote}
 use Rattle.know.specs.Knowledge.{Knowledge}
 use Rattle.mon_topo.proofs.HeldLemmas.{seen_within_itself}
 use Rattle.mon_topo.proofs.RangeHistoryLemmas.{all_at, all_on}
+use Rattle.mon_topo.specs.HeldHistories.{AreWithin}
 use Rattle.mon_topo.specs.RangeHistories.{serving, first_serving, is_avoided}
 use Rattle.mon_topo.specs.Settings.{Setting}
 use Rattle.mon_topo.specs.Views.{IsSound, View}
-use Rattle.mon_value.specs.Histories.{range_history, same_leaf}
+use Rattle.mon_value.specs.Histories.{range_history}
 use Rattle.mon_value.specs.declared.histories.Histories.{Histories}
 use Rattle.mon_value.specs.declared.positions.FoundDown.{FoundDown}
 use Rattle.mon_value.specs.declared.positions.Leaf.{Leaf}
 use Rattle.mon_value.specs.declared.positions.Range.{Range}
 use Rattle.mon_value.specs.declared.positions.SlotLeaf.{SlotLeaf}
+use Rattle.query_core.proofs.NamedDowns.{named_so, names_all, serve_on_named}
 use Rattle.query_core.specs.Askings.{IsAskedOf}
 use Rattle.query_core.specs.Answers.{IsAnsweredRightly, IsStoppedRightly}
 use Rattle.query_core.specs.Courses.{HasNoReplica}
 use Rattle.query_core.specs.Machine.{EndsSo, Query, new_query}
+use Rattle.query_core.specs.Orders.{ComeInOrder, ComeWholeInOrder, events_told, words_loaded}
 use Rattle.query_core.specs.Program.{ask_of}
 use Rattle.query_core.specs.SentTold.{sent_told}
 use Rattle.query_core.specs.Sessions as session
 use Rattle.query_core.specs.Rounds.{QuerySetting}
-use Rattle.query_core.specs.ToldDowns.{EndNames, downs_told}
+use Rattle.query_core.specs.ToldDowns.{EndNames, NamesAll, downs_told}
 use Rattle.query_core.specs.Traces.{found_leaves}
 use Rattle.query_core.specs.declared.answers.Answer.{Answer}
 use Rattle.query_core.specs.declared.answers.RoundFault.{RoundFault}
 use Rattle.query_core.specs.declared.answers.RoundFault.TheVariants as fault
 use Rattle.query_core.specs.declared.answers.Trace.{Trace}
+use Rattle.query_core.specs.declared.asks.Ask.{Ask}
 use Rattle.query_core.specs.declared.asks.Ask.TheVariants as ask
 use Rattle.query_core.specs.declared.stages.Stage.{Stage}
 use Rattle.query_core.specs.declared.stages.Stage.TheVariants as at
 use Rattle.raise_table.specs.Tables.{RaiseIdentity}
-use Rattle.running_query.proofs.FoundLemmas.{IsNotedDown, avoided_told, downs_noted}
+use Rattle.running_query.proofs.FoundLemmas.{IsNotedDown, avoided_told, downs_are_noted, each_noted, seen_since}
 use Rattle.running_query.proofs.GoingLemmas.{same_goes}
 use Rattle.running_query.proofs.LastLemmas.{all_avoided, last_without}
+use Rattle.running_query.proofs.OrderLemmas.{bits_loaded, noted_as}
 use Rattle.running_query.specs.Asking.{IsAskedHere, IsUnderWay}
-use Rattle.running_query.specs.Ends.{EndsRightly, IsFoundDown, IsLeftWithout}
+use Rattle.running_query.specs.Ends.{EndsRightly, IsLeftWithout, NamesAllFound}
 use Rattle.running_query.specs.Ends.{WasFoundDown, WereFoundDown}
+use Rattle.running_query.specs.InOrder.{ComeSo, LooksInOrder}
 use Rattle.running_query.specs.Looks.{view_of}
-use Rattle.running_query.specs.Notes.{IsHanded, lengths_told, range_number}
-use Rattle.query_core.proofs.LeafLemmas.{same_leaves}
+use Rattle.running_query.specs.Notes.{IsHanded, lengths_told, range_number, words_told}
 
 module _ (store : Setting) (raise : RaiseIdentity) (setting : QuerySetting) (moment : ℤ) (entry : Knowledge)
     (here : IsAskedHere store raise setting moment entry) where
@@ -90,20 +94,17 @@ module _ (store : Setting) (setting : QuerySetting) (moment : ℤ) where
     pub counted : (view : View) (events : Session) (answer : Answer) → IsAskedOf store setting → pos 0 ≤ℤ moment
         → IsSound store view → Ends view events (Ok answer) → answer.trace.down ≡ []
         → sum answer.trace.sent ≡ sent_told store setting moment events
+    pub ordered : (view : View) (events : Session) → 0 < length setting.plan.buckets
+        → session.IsLicensed store setting moment view (new_query setting) events
+        → ComeInOrder setting (words_loaded store setting moment events)
+        (events_told store setting moment (new_query setting) events)
+    pub whole : (view : View) (events : Session) (answer : Answer) → 0 < length setting.plan.buckets
+        → Ends view events (Ok answer)
+        → ComeWholeInOrder setting (words_loaded store setting moment events)
+        (events_told store setting moment (new_query setting) events)
 
 abbrev FirstNone : Range → List Leaf → Histories → Type 0
 FirstNone range avoided seen = first_serving avoided (range_history seen range) ≡ None
-
--- one of some leaves is the leaf of a replica
-found_among : (Is : FoundDown → Type 0) (founds : List FoundDown) → All Is founds → (replica : SlotLeaf)
-    → is_avoided (found_leaves founds) replica ≡ true
-    → (found : FoundDown) × Is found × (replica.leaf ≡ found.leaf)
-found_among Is [] all replica avoided = absurd cc
-found_among Is (found ∷ founds) all replica avoided =
-    elim (or_cases (same_leaf replica.leaf found.leaf) (is_avoided (found_leaves founds) replica) avoided) [
-      | inl first ↦ (found, all.0, same_leaves replica.leaf found.leaf first)
-      | inr more ↦ found_among Is founds all.1 replica more
-    ]
 
 module _ (store : Setting) (raise : RaiseIdentity) (setting : QuerySetting) (moment : ℤ) (entry now : Knowledge)
     (query : Query) (is : IsUnderWay store raise setting moment entry now query)
@@ -129,7 +130,7 @@ module _ (store : Setting) (raise : RaiseIdentity) (setting : QuerySetting) (mom
   all_noted : All (IsNotedDown noted entry.seen now.seen) downs
   all_noted =
       now_by (λ seen. All (IsNotedDown noted entry.seen seen) downs)
-      (downs_noted store setting moment entry.seen is.events first (new_query setting) (seen_within_itself entry.seen)
+      (each_noted store setting moment entry.seen is.events first (new_query setting) (seen_within_itself entry.seen)
       is.licensed)
 
   was_found : (found : FoundDown) → IsNotedDown noted entry.seen now.seen found
@@ -153,6 +154,44 @@ module _ (store : Setting) (raise : RaiseIdentity) (setting : QuerySetting) (mom
       (λ found there. all_at (λ (one : FoundDown). WasFoundDown entry now one.leaf one.cut) downs found all_found there)
       founds all
 
+  -- ---- all of them
+
+  since : AreWithin entry.seen now.seen
+  since = now_by (λ seen. AreWithin entry.seen seen) (seen_since store setting moment is.events first (new_query setting)
+      is.licensed)
+
+  all_named : (end : Result Answer RoundFault) → query.stage ≡ at.Ended end → NamesAllFound store entry now end
+  all_named end e = record {
+    more = noted;
+    notes = is.lengths;
+    named = subst (λ (founds : List FoundDown). NamesAll store.zones founds end)
+        (sym (downs_are_noted store setting moment now.seen is.goes.sound.held.all_leaves is.events first
+        (new_query setting) is.licensed (now_by (λ seen. AreWithin seen now.seen) (seen_within_itself now.seen))))
+        (names_all store setting moment first is.events end is.here.asked is.here.sound is.licensed (ended_at end e));
+  }
+
+  -- ---- their order
+
+  abbrev asked : List Ask
+  asked = events_told store setting moment (new_query setting) is.events
+
+  in_order : (end : Result Answer RoundFault) → query.stage ≡ at.Ended end → LooksInOrder store setting entry now end
+  in_order end e = record {
+    asks = asked;
+    words = words_told store setting moment (new_query setting) is.events;
+    words_are = is.words;
+    lengths = noted;
+    lengths_are = is.lengths;
+    noted = noted_as store setting moment is.events first (new_query setting) is.licensed;
+    in_order = λ some. subst (λ (words : List ℕ). ComeSo setting end words asked)
+        (sym (bits_loaded store setting moment is.events first (new_query setting) is.licensed)) (come_so end e some);
+  }
+    where
+      come_so : (end : Result Answer RoundFault) → query.stage ≡ at.Ended end → 0 < length setting.plan.buckets
+          → ComeSo setting end (words_loaded store setting moment is.events) asked
+      come_so (Ok answer) e some = laws.whole first is.events answer some (is.licensed, ended_at (Ok answer) e)
+      come_so (Err why) e some = laws.ordered first is.events some is.licensed
+
   -- ---- the last that was found of a range
 
   module _ (range : Range) (named : List FoundDown)
@@ -161,10 +200,11 @@ module _ (store : Setting) (raise : RaiseIdentity) (setting : QuerySetting) (mom
     avoided_now =
         ap (λ (q : Query). q.avoided) (sym is.query_is) ∙ avoided_told store setting moment is.events (new_query setting)
 
-    left_without : IsLeftWithout store entry now range
+    left_without : IsLeftWithout store entry now range named
     left_without =
+        let ended = ended_at (Err (fault.NoReplica range named)) e in
         let last = last_without store setting moment range named first is.events (new_query setting) (λ h. absurd cc)
-        is.licensed (ended_at (Err (fault.NoReplica range named)) e) in
+        is.licensed ended in
         let here_none = subst (λ (q : Query). FirstNone range q.avoided now.seen) is.query_is
         (now_by (λ seen. FirstNone range (session.query_after store setting moment (new_query setting) is.events).avoided seen)
         last.none) in
@@ -175,21 +215,13 @@ module _ (store : Setting) (raise : RaiseIdentity) (setting : QuerySetting) (mom
               (length (range_history seen range)) ∷ []) last.lengths)
               ∙ sym (append_assoc entry.purse.notes last.more
               (length_note (range_number store range) (length (range_history now.seen range)) ∷ []));
-          all_down = λ replica there. found_down_on replica
-              (all_at (λ (one : SlotLeaf). is_avoided query.avoided one ≡ true) (serving (range_history now.seen range))
-              replica (all_avoided query.avoided (serving (range_history now.seen range)) here_none) there);
+          all_down = serve_on_named store setting is.here.asked entry.seen now.seen is.goes.sound.held since range downs
+              named (named_so store setting moment first is.events range named is.here.asked is.here.sound is.licensed
+              ended)
+              (subst (λ (leaves : List Leaf). All (λ (one : SlotLeaf). is_avoided leaves one ≡ true)
+              (serving (range_history now.seen range))) avoided_now
+              (all_avoided query.avoided (serving (range_history now.seen range)) here_none));
         }
-      where
-        found_down_on : (replica : SlotLeaf) → is_avoided query.avoided replica ≡ true
-            → IsFoundDown entry now replica.leaf
-        found_down_on replica avoided =
-            let one = found_among (λ (found : FoundDown). WasFoundDown entry now found.leaf found.cut) downs all_found
-            replica
-            (subst (λ (leaves : List Leaf). is_avoided leaves replica ≡ true) avoided_now avoided) in
-            record {
-              cut = one.0.cut;
-              was = subst (λ (leaf : Leaf). WasFoundDown entry now leaf one.0.cut) (sym one.2) one.1;
-            }
 
   -- ---- the ends
 
@@ -201,6 +233,8 @@ module _ (store : Setting) (raise : RaiseIdentity) (setting : QuerySetting) (mom
         (is.licensed, ended_at (Ok answer) e));
     down = among_found answer.trace.down
         (laws.named_told first is.events (Ok answer) (is.licensed, ended_at (Ok answer) e));
+    found = all_named (Ok answer) e;
+    order = in_order (Ok answer) e;
     handed = λ none. subst (λ (n : ℕ). IsHanded entry.handed n now.handed)
         (sym (laws.counted first is.events answer is.here.asked is.here.from is.here.sound
         (is.licensed, ended_at (Ok answer) e) none)) is.handed;
@@ -212,6 +246,8 @@ module _ (store : Setting) (raise : RaiseIdentity) (setting : QuerySetting) (mom
     down = among_found trace.down
         (laws.named_told first is.events (Err (fault.StepLimit limit trace))
         (is.licensed, ended_at (Err (fault.StepLimit limit trace)) e));
+    found = all_named (Err (fault.StepLimit limit trace)) e;
+    order = in_order (Err (fault.StepLimit limit trace)) e;
   }
   end_right (Err (fault.NoReplica range named)) e = record {
     rightly = now_by (λ seen. HasNoReplica store.zones entry.seen seen range named)
@@ -220,6 +256,8 @@ module _ (store : Setting) (raise : RaiseIdentity) (setting : QuerySetting) (mom
     down = among_found named
         (laws.named_told first is.events (Err (fault.NoReplica range named))
         (is.licensed, ended_at (Err (fault.NoReplica range named)) e));
+    found = all_named (Err (fault.NoReplica range named)) e;
+    order = in_order (Err (fault.NoReplica range named)) e;
     last = left_without range named e;
   }
 

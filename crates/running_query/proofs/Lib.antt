@@ -4,6 +4,7 @@ pub mod FoundLemmas
 pub mod FunctionLemmas
 pub mod GoingLemmas
 pub mod LastLemmas
+pub mod OrderLemmas
 pub mod StepLemmas
 pub mod TellingLemmas
 pub mod ViewLemmas

@@ -13,7 +13,7 @@ use Rattle.leaf_eval.specs.declared.visits.Visit.TheVariants as visit
 use Rattle.mon_topo.specs.Settings.{Setting}
 use Rattle.mon_value.specs.declared.positions.Leaf.{Leaf}
 use Rattle.mon_value.specs.declared.positions.RangeSlot.{RangeSlot}
-use Rattle.mql_types.specs.declared.plans.Plan.{Plan}
+use Rattle.typed_trees.specs.declared.plans.Plan.{Plan}
 use Rattle.owners.specs.Calls.{HasLooked}
 use Rattle.query_core.specs.declared.asks.Told.{Told}
 use Rattle.running_query.proofs.GoingLemmas.{called_goes}

@@ -15,7 +15,7 @@ use know::{Know, Names, Tables};
 use mon_value::OutOfMemory;
 use query_core::{
     Answer, QueryMachine, RoundFault, ends_name_what_was_told, find_next, sessions_answer_rightly,
-    traces_count_what_was_sent,
+    sessions_keep_the_order, traces_count_what_was_sent,
 };
 use std::alloc::Global;
 use std::sync::Wait;
@@ -47,6 +47,7 @@ pub fn looked_up<R: Wait, N: Names, C: QueryCells<N>>(
             sessions_answer_rightly();
             ends_name_what_was_told();
             traces_count_what_was_sent();
+            sessions_keep_the_order();
             return Ok(machine.finish());
         }
         match step(&mut side, know, &mut machine, moment) {

@@ -9,15 +9,15 @@ ghost use Rattle.mon_meaning.specs.ReadableSlots.{CanBeRead};
 ghost use Rattle.mon_topo.specs.Zones.{leaves_in, ranges_in};
 ghost use Rattle.mon_value.specs.Histories.{leaf_history};
 ghost use Rattle.mon_value.specs.declared.limits.TheConstants.{ROW_BITS};
-ghost use Rattle.mql_types.specs.Nodes.{typed_tree};
+ghost use Rattle.typed_trees.specs.Nodes.{typed_tree};
 ghost use Rattle.owners.specs.Calls.{HasLooked};
 ghost use Rattle.range_cell.specs.Calls.{HasResolved};
 
 use know::{Know, Names};
 use leaf_cell::{VisitFault, Visited};
 use mon_value::{Leaf, Leaves, Range, RangeSlots, SlotLeaf};
-use mql_types::Plan;
 use std::alloc::Global;
+use typed_trees::Plan;
 
 /// The locked leaves and ranges of a store, by number.
 pub trait QueryCells<N: Names> {

@@ -7,7 +7,7 @@ ghost use Rattle.mon_meaning.specs.ReadableSlots.{CanBeRead};
 ghost use Rattle.mon_topo.specs.Zones.{leaves_in, ranges_in};
 ghost use Rattle.mon_value.specs.Histories.{leaf_history};
 ghost use Rattle.mon_value.specs.declared.limits.TheConstants.{ROW_BITS};
-ghost use Rattle.mql_types.specs.Nodes.{typed_tree};
+ghost use Rattle.typed_trees.specs.Nodes.{typed_tree};
 ghost use Rattle.owners.specs.Calls.{HasLooked};
 ghost use Rattle.raise_table.specs.Tables.{HasWord};
 ghost use Rattle.running_query.specs.Looks.{GoesOn};
@@ -19,9 +19,9 @@ use know::{Know, Names, Tables};
 use leaf_cell::{VisitFault, Visited};
 use mon_hints::Place;
 use mon_value::{Leaf, Leaves, OutOfMemory, Range, RangeSlots, SlotLeaf};
-use mql_types::Plan;
 use query_core::{QueryMachine, QuerySide, Seen, Told};
 use std::alloc::{AllocError, Global};
+use typed_trees::Plan;
 
 /// A store as its queries look at it: the hint words, and the locked leaves and ranges.
 #[derive(Drop)]

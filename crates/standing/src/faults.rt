@@ -1,6 +1,6 @@
 // Why a standing query isn't taken, and why a moment isn't.
 use mql_parse::ParseFault;
-use mql_types::TypeFault;
+use typed_trees::TypeFault;
 
 /// Why a standing query is not taken.
 #[derive(Clone, Copy, PartialEq, Eq)]

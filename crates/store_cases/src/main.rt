@@ -1,31 +1,21 @@
 //! Runs scenarios over a store that threads share, and prints of each whether it held.
 #![tactic(auto)]
 
-mod asking;
-mod callers;
-mod configs;
-mod explanations;
-mod gates;
 mod memory;
 mod places;
 mod readers;
-mod refusals;
-mod say;
 mod scenarios;
-mod switches;
-mod worked;
+mod trouble;
 mod writers;
 
-use crate::say::say;
 use crate::scenarios::{SCENARIOS, Scenario, holds};
-use case_tables::Trouble;
 use std::alloc::Global;
 use std::process::ExitCode;
 use std::sync::Wait;
 use std::thread::Threads;
 use std::{env, io};
 
-/// The status where memory ran out or the output failed.
+/// The status where memory ran out, the output failed or a call was refused that isn't to be.
 const FAILED: u8 = 2;
 
 fn main(rt: HostRuntime) -> ExitCode {
@@ -35,10 +25,11 @@ fn main(rt: HostRuntime) -> ExitCode {
     }
 }
 
-fn status_of(ended: Result<(), Trouble>) -> ExitCode {
-    match ended {
-        Ok(()) => ExitCode::SUCCESS,
-        Err(_trouble) => ExitCode::from(FAILED),
+fn status_of(ended: bool) -> ExitCode {
+    if ended {
+        ExitCode::SUCCESS
+    } else {
+        ExitCode::from(FAILED)
     }
 }
 
@@ -58,18 +49,15 @@ fn names_once(rt: &HostRuntime) -> io::Result<Vec<String>> {
     Ok(names)
 }
 
-// Runs the scenarios that are named, or all where none is.
-fn run_named<R: Print + Threads + Wait + Sync>(
-    rt: &R,
-    alloc: Global,
-    names: &[String],
-) -> Result<(), Trouble> {
+// Runs the scenarios that are named, or all where none is. Whether each came to an end and was printed.
+fn run_named<R: Print + Threads + Wait + Sync>(rt: &R, alloc: Global, names: &[String]) -> bool {
+    let mut ended = true;
     for scenario in SCENARIOS {
         if names.is_empty() || is_among(scenario.name(), names) {
-            run_one(rt, alloc, *scenario)?;
+            ended &= run_one(rt, alloc, *scenario);
         }
     }
-    Ok(())
+    ended
 }
 
 fn is_among(name: &str, names: &[String]) -> bool {
@@ -77,14 +65,14 @@ fn is_among(name: &str, names: &[String]) -> bool {
 }
 
 // Runs a scenario, and prints whether it held.
-fn run_one<R: Print + Threads + Wait + Sync>(
-    rt: &R,
-    alloc: Global,
-    scenario: Scenario,
-) -> Result<(), Trouble> {
-    let held = holds(rt, alloc, scenario)?;
-    match say(rt, scenario.name(), held) {
-        Ok(()) => Ok(()),
-        Err(_fault) => Err(Trouble::Misspelled),
+fn run_one<R: Print + Threads + Wait + Sync>(rt: &R, alloc: Global, scenario: Scenario) -> bool {
+    match holds(rt, alloc, scenario) {
+        Ok(held) => say(rt, scenario.name(), held).is_ok(),
+        Err(_trouble) => false,
     }
+}
+
+fn say(rt: &impl Print, name: &str, held: bool) -> io::Result<()> {
+    let ended = if held { "held" } else { "differs" };
+    println!(rt; "{name}: {ended}")
 }

@@ -1,69 +1,158 @@
-// A row that memory may be wanting for.
-use crate::callers::stands_on;
+// Calls that memory may be wanting for.
 use crate::places::Place;
-use case_tables::Trouble;
+use crate::trouble::Trouble;
 use know::Names;
-use mon_store::Pass;
-use mon_value::Row;
+use mon_store::{Pass, RecoverFault};
+use mon_topo::ranges_have_replicas;
+use mon_value::{Range, Slot};
 use std::sync::Wait;
 
-/// A row is written to two replicas. Where memory is wanting for that, no replica has it, and it can be written then.
-/// It is found and gathered then, at the second time where memory is wanting for that.
-pub(crate) fn nothing_is_half_written<N: Names, R: Wait>(
-    rt: &R,
-    place: &Place<N>,
-    first: &mut Pass<N>,
-) -> Result<bool, Trouble> {
-    let rows = place.rows("T,/m,10,10,1,a,e\n")?;
-    let held = are_written(rt, place, first, rows.as_slice());
-    drop(rows);
-    Ok(held? & is_found(rt, place, first)?)
+/// The one range.
+const RANGE: Range = Range(0);
+
+/// The leaf of its first replica.
+const FIRST: &str = "e1";
+
+/// A step of the scenario.
+#[derive(Clone, Copy)]
+enum Step {
+    /// A row is written.
+    Write(&'static str),
+    /// The first leaf goes down, or comes up.
+    Down,
+    Up,
+    /// The range is recovered onto its first leaf, in this slot.
+    Recover(u32),
 }
 
-fn are_written<N: Names, R: Wait>(
+/// What is found behind a step: so many rows, and leaves whose histories are so long.
+#[derive(Clone, Copy)]
+struct Stage(usize, [u64; 3]);
+
+/// Each replica of the range is opened.
+const START: Stage = Stage(0, [1, 1, 1]);
+
+/// A row that all take, one that the first leaf misses, and one that all take again.
+const STEPS: &[(Step, Stage)] = &[
+    (Step::Write("T,/m,10,10,1,a,e\n"), Stage(1, [2, 2, 2])),
+    (Step::Down, Stage(1, [3, 2, 2])),
+    (Step::Write("T,/m,11,11,2,a,e\n"), Stage(2, [3, 3, 3])),
+    (Step::Up, Stage(2, [4, 3, 3])),
+    (Step::Recover(3), Stage(2, [5, 3, 3])),
+    (Step::Write("T,/m,12,12,3,a,e\n"), Stage(3, [6, 4, 4])),
+];
+
+/// Rows are written to three replicas, one of which misses one and is recovered. Where memory is wanting for a step no
+/// replica has a part of it, and it can be done then.
+pub(crate) fn nothing_is_half_done<N: Names, R: Wait>(
     rt: &R,
     place: &Place<N>,
     first: &mut Pass<N>,
-    rows: &[Row],
 ) -> Result<bool, Trouble> {
     let mut held = true;
-    for row in rows {
-        held &= is_written(rt, place, first, row)?;
+    let mut before = START;
+    for (step, after) in STEPS {
+        held &= is_done(rt, place, first, *step, before)?;
+        held &= is_at(rt, place, first, *after)?;
+        before = *after;
     }
     Ok(held)
 }
 
-fn is_written<N: Names, R: Wait>(
+// Does a step, at the second time where memory is wanting; nothing has changed then.
+fn is_done<N: Names, R: Wait>(
     rt: &R,
     place: &Place<N>,
     first: &mut Pass<N>,
-    row: &Row,
+    step: Step,
+    before: Stage,
 ) -> Result<bool, Trouble> {
-    match place.takes(rt, first, row) {
-        Ok(taken) => Ok(taken),
-        Err(Trouble::OutOfMemory) => is_written_then(rt, place, first, row),
-        Err(Trouble::Misspelled) => Err(Trouble::Misspelled),
+    match perform(rt, place, first, step) {
+        Err(Trouble::OutOfMemory) => {
+            let same = is_at(rt, place, first, before)?;
+            Ok(same & perform(rt, place, first, step)?)
+        }
+        ended => ended,
     }
 }
 
-fn is_written_then<N: Names, R: Wait>(
+// Whether a query finds a stage, at the second time where memory is wanting.
+fn is_at<N: Names, R: Wait>(
     rt: &R,
     place: &Place<N>,
     first: &mut Pass<N>,
-    row: &Row,
+    stage: Stage,
 ) -> Result<bool, Trouble> {
-    let none = stands_on(rt, place, first, 0, &[1, 1, 0])?;
-    Ok(none & place.takes(rt, first, row)?)
+    match place.stands_on(rt, first, stage.0, &stage.1) {
+        Err(Trouble::OutOfMemory) => place.stands_on(rt, first, stage.0, &stage.1),
+        ended => ended,
+    }
 }
 
-fn is_found<N: Names, R: Wait>(
+fn perform<N: Names, R: Wait>(
     rt: &R,
     place: &Place<N>,
     first: &mut Pass<N>,
+    step: Step,
 ) -> Result<bool, Trouble> {
-    match stands_on(rt, place, first, 1, &[2, 2, 0]) {
-        Ok(held) => Ok(held),
-        Err(Trouble::OutOfMemory) => stands_on(rt, place, first, 1, &[2, 2, 0]),
-        Err(Trouble::Misspelled) => Err(Trouble::Misspelled),
+    match step {
+        Step::Write(point) => write(rt, place, first, point),
+        Step::Down => Ok(switch(rt, place, first, true)),
+        Step::Up => Ok(switch(rt, place, first, false)),
+        Step::Recover(slot) => recover(rt, place, first, slot),
+    }
+}
+
+// Writes the row of a text of one point.
+fn write<N: Names, R: Wait>(
+    rt: &R,
+    place: &Place<N>,
+    first: &mut Pass<N>,
+    point: &str,
+) -> Result<bool, Trouble> {
+    let rows = place.rows(point)?;
+    let written = match rows.as_slice().first() {
+        Some(row) => place.takes(rt, first, row),
+        None => Ok(false),
+    };
+    drop(rows);
+    written
+}
+
+// Takes the first leaf down, or up. No memory is taken.
+fn switch<N: Names, R: Wait>(rt: &R, place: &Place<N>, first: &mut Pass<N>, down: bool) -> bool {
+    let store = &place.store;
+    let Some(leaf) = store.config().topology.leaf_named(FIRST.as_bytes()) else {
+        return false;
+    };
+    if down {
+        store.leaf_down(rt, first, leaf).is_ok()
+    } else {
+        store.leaf_up(rt, first, leaf).is_ok()
+    }
+}
+
+// Recovers the range onto its first leaf, and says whether that came to be in the slot.
+fn recover<N: Names, R: Wait>(
+    rt: &R,
+    place: &Place<N>,
+    first: &mut Pass<N>,
+    slot: u32,
+) -> Result<bool, Trouble> {
+    let topology = &place.store.config().topology;
+    ranges_have_replicas(topology);
+    if topology.ranges() == 0 {
+        return Ok(false);
+    }
+    let Some((leaf, _others)) = topology.first_replicas(RANGE).as_slice().split_first() else {
+        return Ok(false);
+    };
+    match place.store.recover(rt, place.alloc, first, RANGE, *leaf) {
+        Ok(opened) => Ok(opened == Slot(slot)),
+        Err(RecoverFault::OutOfMemory) => Err(Trouble::OutOfMemory),
+        Err(fault) => {
+            drop(fault);
+            Ok(false)
+        }
     }
 }

@@ -1,10 +1,8 @@
 // One thread writes, and another asks all the time.
-use crate::asking::Found;
 use crate::places::Place;
-use case_tables::Trouble;
+use crate::trouble::Trouble;
 use know::Names;
 use mon_store::Pass;
-use mon_table::print;
 use mon_value::{Row, RowList};
 use std::sync::Wait;
 use std::thread::{Threads, join};
@@ -18,13 +16,8 @@ const ROWS: u32 = 100;
 /// So often it is asked in a round.
 const QUERIES: u32 = 3;
 
-/// When and what it asks.
-const MOMENT: i64 = 1000;
-
-const SUMS: &str = "fetch T::/m | group_by [], sum(v)";
-
-/// One thread writes 1,000 rows of a range while another asks. Each table is what the gathered rows of its trace mean
-/// in one place, and these have each row that was acknowledged to a caller that the asking one had met.
+/// One thread writes 1,000 rows of a range while another asks. The rows that each answer stands on are a front of these,
+/// in their order, with each row that was acknowledged to a caller that the asking one had met.
 pub(crate) fn one_writes_and_one_asks<N: Names + Send + Sync, R: Threads + Wait + Sync>(
     rt: &R,
     place: &Place<N>,
@@ -72,11 +65,23 @@ fn write_and_ask<N: Names + Send + Sync, R: Threads + Wait + Sync>(
     let mut writer = place.another(asker)?;
     let (written, asked) = join(
         rt,
-        || place.takes_all(rt, &mut writer, rows),
+        || take_all(rt, place, &mut writer, rows),
         || ask_round(rt, place, asker, round),
     );
     place.store.meet(asker, writer);
     Ok(written? & asked?)
+}
+
+fn take_all<N: Names, R: Wait>(
+    rt: &R,
+    place: &Place<N>,
+    writer: &mut Pass<N>,
+    rows: &[Row],
+) -> Result<bool, Trouble> {
+    for row in rows {
+        place.takes(rt, writer, row)?;
+    }
+    Ok(true)
 }
 
 fn ask_round<N: Names, R: Wait>(
@@ -94,8 +99,7 @@ fn ask_round<N: Names, R: Wait>(
     Ok(held)
 }
 
-// Asks once. Whether the table is what the gathered rows mean, and these are a front of what is written that has all
-// that was met.
+// Asks once. Whether the rows that the answer stands on are a front of what is written that has all that was met.
 fn has_met<N: Names, R: Wait>(
     rt: &R,
     place: &Place<N>,
@@ -103,18 +107,11 @@ fn has_met<N: Names, R: Wait>(
     met: usize,
     most: usize,
 ) -> Result<bool, Trouble> {
-    let found = place.find(rt, asker, MOMENT, SUMS)?;
+    let found = place.find(rt, asker)?;
     let count = found.rows.len();
     let front = (met <= count) & (count <= most) & are_in_turn(found.rows.as_slice());
-    let same = is_meant(place, &found);
     drop(found);
-    Ok(front & same?)
-}
-
-fn is_meant<N: Names>(place: &Place<N>, found: &Found) -> Result<bool, Trouble> {
-    let table = print(place.alloc, &found.answer.table)?;
-    let meant = place.meant(MOMENT, SUMS, &found.rows)?;
-    Ok(table == meant)
+    Ok(front)
 }
 
 // Whether rows end at 0, 1, 2 and so on, each once.

@@ -3,12 +3,10 @@ ghost use Rattle.std.specs.Prelude.{IfOk};
 ghost use Rattle.mon_config.specs.Configs.{IsLimited};
 ghost use Rattle.mon_store.specs.Blanks.{IsNamed};
 
-use crate::configs::{FOUR_RANGES, ONE_LEAF, ONE_POINT, ONE_RANGE, TASKS, TEN_STEPS};
 use crate::places::Place;
-use crate::worked::{JOINED, NO_TRIGRAM, PATTERN, READ, UNREAD, prints};
+use crate::trouble::Trouble;
 use crate::writers::{IN_FOUR, IN_ONE, four_write};
-use crate::{callers, gates, memory, readers, refusals, switches};
-use case_tables::Trouble;
+use crate::{memory, readers};
 use know::Names;
 use mon_config::{Config, read_config};
 use mon_store::{Pass, Store, StoreBlank};
@@ -21,92 +19,59 @@ use std::thread::Threads;
 /// A scenario.
 #[derive(Clone, Copy)]
 pub(crate) enum Scenario {
-    EmptyStock,
-    Met,
     FourInOne,
     FourInFour,
-    Read,
-    Unread,
-    Joined,
-    Pattern,
-    NoTrigram,
-    NoZone,
-    OldPoint,
-    RangeFull,
-    StepLimit,
-    Recovered,
-    SlotsSpent,
-    SwitchesSpent,
     WritesAndAsks,
-    AskingHeld,
-    WritingHeld,
     WantingMemory,
 }
 
 /// All of them.
 pub(crate) const SCENARIOS: &[Scenario] = &[
-    Scenario::EmptyStock,
-    Scenario::Met,
     Scenario::FourInOne,
     Scenario::FourInFour,
-    Scenario::Read,
-    Scenario::Unread,
-    Scenario::Joined,
-    Scenario::Pattern,
-    Scenario::NoTrigram,
-    Scenario::NoZone,
-    Scenario::OldPoint,
-    Scenario::RangeFull,
-    Scenario::StepLimit,
-    Scenario::Recovered,
-    Scenario::SlotsSpent,
-    Scenario::SwitchesSpent,
     Scenario::WritesAndAsks,
-    Scenario::AskingHeld,
-    Scenario::WritingHeld,
     Scenario::WantingMemory,
 ];
+
+/// Three leaves, and one range with replicas on the first two.
+const ONE_RANGE: &str =
+    r#"{"targets":[{"name":"T","fields":[{"name":"u","type":"text"},{"name":"z","type":"text","location":true}]}],
+"metrics":[{"name":"/m","kind":"gauge","type":"int","column":"v"}],
+"zones":[{"name":"east","locations":["e"],"leaves":["e1","e2","e3"],"ranges":[{"from":[],"leaves":["e1","e2"]}]}]}"#;
+
+/// The same with a replica on each leaf.
+const THREE_REPLICAS: &str =
+    r#"{"targets":[{"name":"T","fields":[{"name":"u","type":"text"},{"name":"z","type":"text","location":true}]}],
+"metrics":[{"name":"/m","kind":"gauge","type":"int","column":"v"}],
+"zones":[{"name":"east","locations":["e"],"leaves":["e1","e2","e3"],
+"ranges":[{"from":[],"leaves":["e1","e2","e3"]}]}]}"#;
+
+/// Two zones of two leaves, and two ranges in each, with replicas on both leaves.
+const FOUR_RANGES: &str =
+    r#"{"targets":[{"name":"T","fields":[{"name":"u","type":"text"},{"name":"z","type":"text","location":true}]}],
+"metrics":[{"name":"/m","kind":"gauge","type":"int","column":"v"}],
+"zones":[{"name":"east","locations":["e"],"leaves":["e1","e2"],
+"ranges":[{"from":[],"leaves":["e1","e2"]},{"from":["T","m"],"leaves":["e2","e1"]}]},
+{"name":"west","locations":["w"],"leaves":["w1","w2"],
+"ranges":[{"from":[],"leaves":["w1","w2"]},{"from":["T","m"],"leaves":["w2","w1"]}]}]}"#;
 
 impl Scenario {
     /// The name that is printed.
     pub(crate) fn name(self) -> &'static str {
         match self {
-            Scenario::EmptyStock => "callers::a_stock_is_empty",
-            Scenario::Met => "callers::who_met_has_seen_both",
             Scenario::FourInOne => "writers::four_write, one range",
             Scenario::FourInFour => "writers::four_write, four ranges",
-            Scenario::Read => "worked::prints, a leaf that is read",
-            Scenario::Unread => "worked::prints, a leaf that is unread by its formula",
-            Scenario::Joined => "worked::prints, a join over two zones",
-            Scenario::Pattern => "worked::prints, a pattern",
-            Scenario::NoTrigram => "worked::prints, a pattern without a trigram",
-            Scenario::NoZone => "refusals::no_zone",
-            Scenario::OldPoint => "refusals::old_point",
-            Scenario::RangeFull => "refusals::range_full",
-            Scenario::StepLimit => "refusals::step_limit",
-            Scenario::Recovered => "switches::a_leaf_is_recovered",
-            Scenario::SlotsSpent => "switches::slots_are_spent",
-            Scenario::SwitchesSpent => "switches::switches_are_spent",
             Scenario::WritesAndAsks => "readers::one_writes_and_one_asks",
-            Scenario::AskingHeld => "gates::who_asks_is_held",
-            Scenario::WritingHeld => "gates::who_writes_is_held",
-            Scenario::WantingMemory => "memory::nothing_is_half_written",
+            Scenario::WantingMemory => "memory::nothing_is_half_done",
         }
     }
 
     // What its store is set up with.
     fn config(self) -> &'static str {
         match self {
-            Scenario::FourInOne => ONE_RANGE,
             Scenario::FourInFour => FOUR_RANGES,
-            Scenario::Joined => TASKS,
-            Scenario::RangeFull => ONE_POINT,
-            Scenario::StepLimit => TEN_STEPS,
-            Scenario::Recovered => ONE_RANGE,
-            Scenario::SlotsSpent => ONE_RANGE,
-            Scenario::WritesAndAsks => ONE_RANGE,
-            Scenario::WantingMemory => ONE_RANGE,
-            _ => ONE_LEAF,
+            Scenario::WantingMemory => THREE_REPLICAS,
+            _ => ONE_RANGE,
         }
     }
 }
@@ -118,9 +83,8 @@ pub(crate) fn holds<R: Threads + Wait + Sync>(
     scenario: Scenario,
 ) -> Result<bool, Trouble> {
     match holds_once(rt, alloc, scenario) {
-        Ok(held) => Ok(held),
         Err(Trouble::OutOfMemory) => holds_once(rt, alloc, scenario),
-        Err(Trouble::Misspelled) => Err(Trouble::Misspelled),
+        ended => ended,
     }
 }
 
@@ -140,7 +104,7 @@ fn config_of(alloc: Global, text: &str) -> Result<Config, Trouble>
 {
     match read_config(alloc, text.as_bytes()) {
         Ok(config) => Ok(config),
-        Err(Refusal::Fault(_fault)) => Err(Trouble::Misspelled),
+        Err(Refusal::Fault(_fault)) => Err(Trouble::Refused),
         Err(Refusal::OutOfMemory) => Err(Trouble::OutOfMemory),
     }
 }
@@ -169,58 +133,9 @@ fn run<N: Names + Send + Sync, R: Threads + Wait + Sync>(
     scenario: Scenario,
 ) -> Result<bool, Trouble> {
     match scenario {
-        Scenario::EmptyStock => callers::a_stock_is_empty(place, first),
-        Scenario::Met => callers::who_met_has_seen_both(rt, place, first),
-        Scenario::NoZone => refusals::no_zone(rt, place, first),
-        Scenario::OldPoint => refusals::old_point(rt, place, first),
-        Scenario::RangeFull => refusals::range_full(rt, place, first),
-        Scenario::StepLimit => refusals::step_limit(rt, place, first),
-        _ => run_with_threads(rt, place, first, scenario),
-    }
-}
-
-fn run_with_threads<N: Names + Send + Sync, R: Threads + Wait + Sync>(
-    rt: &R,
-    place: &Place<N>,
-    first: &mut Pass<N>,
-    scenario: Scenario,
-) -> Result<bool, Trouble> {
-    match scenario {
         Scenario::FourInOne => four_write(rt, place, first, IN_ONE),
         Scenario::FourInFour => four_write(rt, place, first, IN_FOUR),
         Scenario::WritesAndAsks => readers::one_writes_and_one_asks(rt, place, first),
-        Scenario::AskingHeld => gates::who_asks_is_held(rt, place, first),
-        Scenario::WritingHeld => gates::who_writes_is_held(rt, place, first),
-        _ => run_worked(rt, place, first, scenario),
-    }
-}
-
-fn run_worked<N: Names, R: Wait>(
-    rt: &R,
-    place: &Place<N>,
-    first: &mut Pass<N>,
-    scenario: Scenario,
-) -> Result<bool, Trouble> {
-    match scenario {
-        Scenario::Read => prints(rt, place, first, &READ),
-        Scenario::Unread => prints(rt, place, first, &UNREAD),
-        Scenario::Joined => prints(rt, place, first, &JOINED),
-        Scenario::Pattern => prints(rt, place, first, &PATTERN),
-        Scenario::NoTrigram => prints(rt, place, first, &NO_TRIGRAM),
-        _ => run_switched(rt, place, first, scenario),
-    }
-}
-
-fn run_switched<N: Names, R: Wait>(
-    rt: &R,
-    place: &Place<N>,
-    first: &mut Pass<N>,
-    scenario: Scenario,
-) -> Result<bool, Trouble> {
-    match scenario {
-        Scenario::Recovered => switches::a_leaf_is_recovered(rt, place, first),
-        Scenario::SlotsSpent => switches::slots_are_spent(rt, place, first),
-        Scenario::SwitchesSpent => switches::switches_are_spent(rt, place, first),
-        _ => memory::nothing_is_half_written(rt, place, first),
+        Scenario::WantingMemory => memory::nothing_is_half_done(rt, place, first),
     }
 }

@@ -1,7 +1,6 @@
 // Four threads that write at once.
-use crate::asking::ALL;
-use crate::places::{Place, refused};
-use case_tables::Trouble;
+use crate::places::Place;
+use crate::trouble::Trouble;
 use know::Names;
 use mon_store::Pass;
 use mon_value::{Ack, Range, Row, RowList, Slot};
@@ -13,9 +12,6 @@ const THREADS: usize = 4;
 
 /// So many rows each of them writes.
 const ROWS: u32 = 250;
-
-/// A moment behind all rows.
-const MOMENT: i64 = 250;
 
 /// The target that one thread writes rows of, and the range that it lies in.
 #[derive(Clone, Copy)]
@@ -155,7 +151,7 @@ impl<N: Names> Writer<N> {
 
     fn works<R: Wait>(&mut self, rt: &R, place: &Place<N>) -> Result<bool, Trouble> {
         let written = self.write(rt, place)?;
-        let found = place.find(rt, &mut self.pass, MOMENT, ALL)?;
+        let found = place.find(rt, &mut self.pass)?;
         let held = has_series(found.rows.as_slice(), self.rows.as_slice());
         drop(found);
         Ok(written & held)
@@ -178,10 +174,8 @@ fn both_take<N: Names, R: Wait>(
     row: &Row,
     range: Range,
 ) -> Result<bool, Trouble> {
-    match place.write(rt, pass, row) {
-        Ok(ack) => Ok(took_both(ack, range)),
-        Err(fault) => refused(fault),
-    }
+    let ack = place.write(rt, pass, row)?;
+    Ok(took_both(ack, range))
 }
 
 fn took_both(ack: Ack, range: Range) -> bool {
@@ -245,7 +239,7 @@ fn stands_on_all<N: Names, R: Wait>(
     all: &[RowList],
     lengths: &[u64],
 ) -> Result<bool, Trouble> {
-    let found = place.find(rt, first, MOMENT, ALL)?;
+    let found = place.find(rt, first)?;
     let held = found.is_of(1000, lengths) & has_rows(found.rows.as_slice(), all);
     drop(found);
     Ok(held)

@@ -1,2 +1,1 @@
-mod CallerLemmas
 mod HistoryLemmas

@@ -11,32 +11,32 @@ use Rattle.weave_core.specs.ActorSteps.{ActorSteps, HasStepped, IsIn, IsSomewher
 use Rattle.weave_core.specs.ActorSteps.{SwitchedSo, WrittenSo}
 use Rattle.core_theory.specs.Core.{Core, Reader}
 use Rattle.weave_core.specs.QueryTurns.{IsAskedSomewhere, IsAsking, QueriesSo}
-use Rattle.weave_core.specs.RecoverTurns.{IsOpening, IsOpeningSomewhere, RecoversSo}
+use Rattle.core_store.specs.RecoverTurns.{IsOpening, IsOpeningSomewhere, RecoversSo}
 use Rattle.weave_core.specs.States.{Asking, Dismissed, Eventless, Recovering, Role, State, Switching, Undeclared}
 use Rattle.weave_core.specs.States.{Writing}
 use Rattle.weave_core.specs.States.{role_fault}
-use Rattle.weave_core.specs.States.{store_of}
+use Rattle.core_store.specs.Agreements.{store_of}
 use Rattle.weave_core.specs.Steps.{StepsIn, with_role}
-use Rattle.weave_core.specs.Switches.{IsSeatedToSwitch, SwitchesAt}
-use Rattle.weave_core.specs.WriteTurns.{IsAtWork, WritesSo}
+use Rattle.core_store.specs.Switches.{IsSeatedToSwitch, SwitchesAt}
+use Rattle.core_store.specs.WriteTurns.{IsAtWork, WritesSo}
 use Rattle.weave_core.specs.declared.actors.Actor.{Actor}
 use Rattle.weave_core.specs.declared.actors.Task.{Task}
 use Rattle.weave_core.specs.declared.actors.Task.TheVariants as task
-use Rattle.weave_core.specs.declared.calls.Stepped.{Stepped}
-use Rattle.weave_core.specs.declared.calls.Stepped.TheVariants as stepped
+use Rattle.weave_core.specs.declared.stepped.Stepped.{Stepped}
+use Rattle.weave_core.specs.declared.stepped.Stepped.TheVariants as stepped
 use Rattle.weave_core.specs.declared.queries.QueryTurn.{QueryTurn}
 use Rattle.weave_core.specs.declared.queries.QueryTurn.TheVariants as query_turn
 use Rattle.weave_core.specs.declared.queries.Querying.{Querying}
-use Rattle.weave_core.specs.declared.recoveries.RecoverTurn.{RecoverTurn}
-use Rattle.weave_core.specs.declared.recoveries.RecoverTurn.TheVariants as recover_turn
-use Rattle.weave_core.specs.declared.recoveries.Recovering.{Recovering as Recover}
+use Rattle.core_store.specs.declared.recoveries.RecoverTurn.{RecoverTurn}
+use Rattle.core_store.specs.declared.recoveries.RecoverTurn.TheVariants as recover_turn
+use Rattle.core_store.specs.declared.recoveries.Recovering.{Recovering as Recover}
 use Rattle.mon_topo.specs.declared.sights.Sight.{Sight}
-use Rattle.weave_core.specs.declared.store.Store.{Store}
-use Rattle.weave_core.specs.declared.switches.Switched.{Switched}
-use Rattle.weave_core.specs.declared.switches.Switching.{Switching as Switch}
-use Rattle.weave_core.specs.declared.writes.WriteTurn.{WriteTurn}
-use Rattle.weave_core.specs.declared.writes.WriteTurn.TheVariants as write_turn
-use Rattle.weave_core.specs.declared.writes.Writing.{Writing as Write}
+use Rattle.core_store.specs.declared.store.Store.{Store}
+use Rattle.core_store.specs.declared.switches.Switched.{Switched}
+use Rattle.core_store.specs.declared.switches.Switching.{Switching as Switch}
+use Rattle.core_store.specs.declared.writes.WriteTurn.{WriteTurn}
+use Rattle.core_store.specs.declared.writes.WriteTurn.TheVariants as write_turn
+use Rattle.core_store.specs.declared.writes.Writing.{Writing as Write}
 use Rattle.write_core.proofs.KeepsLemmas.{changed_same}
 use Rattle.write_core.specs.World.{Actor as Doer, World}
 

@@ -13,16 +13,17 @@ use Rattle.query_core.specs.declared.asks.Ask.{Ask}
 use Rattle.query_core.specs.declared.asks.Told.{Told}
 use Rattle.core_theory.proofs.ReaderAnswers.{reader_may, reader_there}
 use Rattle.query_core.proofs.SeenLemmas.{seen_told}
-use Rattle.weave_core.specs.Agreements.{AreShared}
+use Rattle.core_store.specs.Agreements.{AreShared}
 use Rattle.core_theory.specs.Core.{Core, IsTold, Reader, asked_now, query_now, view_then, world_then}
 use Rattle.core_theory.specs.Licensed.{IsReader}
 use Rattle.query_core.specs.SeenSights.{seen_of}
 use Rattle.weave_core.specs.QueryTurns.{IsAnswered, IsAsking, QueryWaits}
 use Rattle.mon_topo.specs.Sights.{sight_of}
-use Rattle.weave_core.specs.States.{holder_for_query, store_of}
+use Rattle.weave_core.specs.States.{holder_for_query}
+use Rattle.core_store.specs.Agreements.{store_of}
 use Rattle.weave_core.specs.declared.queries.Querying.{Querying}
 use Rattle.mon_topo.specs.declared.sights.Sight.{Sight}
-use Rattle.weave_core.specs.declared.store.Store.{Store}
+use Rattle.core_store.specs.declared.store.Store.{Store}
 use Rattle.write_core.specs.Invariant.{IsKept}
 use Rattle.write_core.specs.World.{Actor, Stander, Stands, World}
 

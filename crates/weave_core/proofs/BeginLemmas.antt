@@ -25,9 +25,9 @@ use Rattle.mon_value.specs.declared.positions.Range.{Range}
 use Rattle.mon_value.specs.declared.positions.Slot.{Slot}
 use Rattle.mon_value.specs.declared.positions.SlotLeaf.{SlotLeaf}
 use Rattle.mon_value.specs.declared.rows.Row.{Row}
-use Rattle.mql_types.specs.declared.levels.Level.TheVariants as level
-use Rattle.mql_types.specs.declared.nodes.Node.TheVariants as node
-use Rattle.mql_types.specs.declared.plans.Plan.{Plan}
+use Rattle.typed_trees.specs.declared.levels.Level.TheVariants as level
+use Rattle.typed_trees.specs.declared.nodes.Node.TheVariants as node
+use Rattle.typed_trees.specs.declared.plans.Plan.{Plan}
 use Rattle.query_core.specs.Machine.{new_query}
 use Rattle.query_core.specs.Rounds.{QuerySetting}
 use Rattle.write_core.specs.Deeds.{IsUnused, acks_by, puts_by}
@@ -37,16 +37,17 @@ use Rattle.core_theory.proofs.CoreLemmas.{new_woven}
 use Rattle.mon_topo.proofs.FirstLemmas as begun
 use Rattle.mon_topo.proofs.FirstLemmas.{HasNoRow, opened_count}
 use Rattle.weave_core.specs.ActorAgreements.{IsActorSo, actor_numbered}
-use Rattle.weave_core.specs.Agreements.{AreShared, IsServed, first_view}
+use Rattle.core_store.specs.Agreements.{AreShared, IsServed, first_view}
 use Rattle.core_theory.specs.Core.{Reader}
 use Rattle.mon_topo.specs.HeldHistories.{first_histories, opened_here, opened_of, opening, openings_from, slot_numbered}
 use Rattle.core_theory.specs.Licensed.{IsNewCore}
-use Rattle.weave_core.specs.Openings.{first_world}
+use Rattle.core_store.specs.Openings.{first_world}
 use Rattle.weave_core.specs.Schedules.{IsFirstState}
-use Rattle.weave_core.specs.States.{State, Undeclared, store_of}
+use Rattle.weave_core.specs.States.{State, Undeclared}
+use Rattle.core_store.specs.Agreements.{store_of}
 use Rattle.weave_core.specs.WeaveCalls.{BeginsSo}
 use Rattle.weave_core.specs.declared.actors.Actor.{Actor}
-use Rattle.weave_core.specs.declared.limits.TheConstants.{LAST_ACTOR}
+use Rattle.schedule_lines.specs.declared.limits.TheConstants.{LAST_ACTOR}
 use Rattle.weave_core.specs.declared.weave.Weave.{Weave}
 
 -- ---- entries without rows

@@ -12,7 +12,7 @@ use Rattle.mon_topo.specs.Zones.{leaves_in, ranges_in}
 use Rattle.mon_value.specs.declared.positions.Leaf.{Leaf}
 use Rattle.mon_value.specs.declared.positions.Range.{Range}
 use Rattle.mon_value.specs.declared.rows.Row.{Row}
-use Rattle.mql_types.specs.Nodes.{TypedTree}
+use Rattle.typed_trees.specs.Nodes.{TypedTree}
 use Rattle.query_core.specs.Machine.{Query, new_query}
 use Rattle.query_core.specs.Program as query
 use Rattle.query_core.specs.Rounds.{QuerySetting}
@@ -20,42 +20,45 @@ use Rattle.query_core.specs.declared.asks.Ask.TheVariants as query_ask
 use Rattle.query_core.specs.declared.stages.Stage.{Stage}
 use Rattle.query_texts.specs.declared.faults.TextFault.{TextFault}
 use Rattle.core_theory.proofs.CoreLemmas.{stays_woven}
-use Rattle.core_theory.proofs.HolderLemmas.{holders_changed}
+use Rattle.core_store.proofs.HolderLemmas.{holders_changed}
 use Rattle.weave_core.proofs.NumberLemmas.{agrees_at, set_apart, set_at, shared_beside}
 use Rattle.weave_core.proofs.ReachedLemmas.{fresh_reader, part_of}
 use Rattle.weave_core.proofs.StepLemmas.{Leaves}
 use Rattle.weave_core.specs.ActorAgreements.{Agrees, HasWrittenNothing, IsActorSo, IsQuerying, IsRecovering, IsWriting}
 use Rattle.weave_core.specs.ActorAgreements.{actor_numbered, flat}
-use Rattle.weave_core.specs.Agreements.{AreShared, IsServed, first_view}
+use Rattle.core_store.specs.Agreements.{AreShared, IsServed, first_view}
 use Rattle.core_theory.specs.Core.{CanCome, Happens, Reader}
 use Rattle.weave_core.specs.Declarations.{Declares, QueryBegins, WriteBegins, new_reader, with_reader}
 use Rattle.weave_core.specs.EndTexts.{no_plan_line, no_zone_line}
-use Rattle.core_theory.specs.Holders.{AreHolders, HoldsLeaf, HoldsRange}
-use Rattle.weave_core.specs.LawfulLines.{IsLawfulCall, IsRecoverable}
+use Rattle.core_store.specs.Holders.{AreHolders, HoldsLeaf, HoldsRange}
+use Rattle.mon_script.specs.Controls.{IsRecoverable}
+use Rattle.schedule_lines.specs.LawfulLines.{IsLawfulCall}
 use Rattle.core_theory.specs.Licensed.{IsReader}
 use Rattle.weave_core.specs.NewActors.{BeginsToWrite, IsTaskOf, IsDeclaredActor}
 use Rattle.weave_core.specs.QueryPlans.{BeginsToAsk}
 use Rattle.mon_topo.specs.Sights.{sight_of}
 use Rattle.weave_core.specs.States.{Asking, Dismissed, Eventless, Recovering, Role, State, Switching, Undeclared}
 use Rattle.weave_core.specs.States.{Writing}
-use Rattle.weave_core.specs.States.{declared_in, recovers_begun}
-use Rattle.weave_core.specs.States.{store_of, writes_begun}
+use Rattle.weave_core.specs.States.{declared_in}
+use Rattle.core_store.specs.NextAsks.{recovers_begun}
+use Rattle.core_store.specs.Agreements.{store_of}
+use Rattle.core_store.specs.NextAsks.{writes_begun}
 use Rattle.weave_core.specs.Steps.{with_event, with_role}
 use Rattle.weave_core.specs.WeaveCalls.{DeclaresSo, IsWeaveKept, MayDeclare}
 use Rattle.weave_core.specs.declared.actors.Actor.{Actor}
 use Rattle.weave_core.specs.declared.actors.Task.{Task}
 use Rattle.weave_core.specs.declared.actors.Task.TheVariants as task
-use Rattle.weave_core.specs.declared.calls.Call.{Call}
-use Rattle.weave_core.specs.declared.calls.Call.TheVariants as call
-use Rattle.weave_core.specs.declared.calls.WeaveFault.TheVariants as fault
-use Rattle.weave_core.specs.declared.limits.TheConstants.{LAST_ACTOR}
+use Rattle.schedule_lines.specs.declared.calls.Call.{Call}
+use Rattle.schedule_lines.specs.declared.calls.Call.TheVariants as call
+use Rattle.schedule_lines.specs.declared.calls.WeaveFault.TheVariants as fault
+use Rattle.schedule_lines.specs.declared.limits.TheConstants.{LAST_ACTOR}
 use Rattle.weave_core.specs.declared.queries.Querying.{Querying}
-use Rattle.weave_core.specs.declared.recoveries.Recovering.{Recovering as Recover}
+use Rattle.core_store.specs.declared.recoveries.Recovering.{Recovering as Recover}
 use Rattle.mon_topo.specs.declared.sights.Sight.{Sight}
-use Rattle.weave_core.specs.declared.store.Store.{Store}
-use Rattle.weave_core.specs.declared.switches.Switching.{Switching as Switch}
+use Rattle.core_store.specs.declared.store.Store.{Store}
+use Rattle.core_store.specs.declared.switches.Switching.{Switching as Switch}
 use Rattle.weave_core.specs.declared.weave.Weave.{Weave}
-use Rattle.weave_core.specs.declared.writes.Writing.{Writing as Write}
+use Rattle.core_store.specs.declared.writes.Writing.{Writing as Write}
 use Rattle.write_core.proofs.KeepsLemmas.{changed_by, changed_other, changed_same}
 use Rattle.write_core.specs.Events.{Aims, Begins, CanAim, CanBegin, new_recovery, new_writer}
 use Rattle.write_core.specs.Program.{Locking, new_write}

@@ -16,46 +16,49 @@ use Rattle.query_core.specs.Sessions.{query_after}
 use Rattle.core_theory.proofs.CoreLemmas.{stays_woven}
 use Rattle.weave_core.proofs.TaskLemmas.{begun_there, is_declared, over_there}
 use Rattle.weave_core.proofs.DeclareLemmas.{stander, stands_so}
-use Rattle.core_theory.proofs.HolderLemmas.{holders_changed}
+use Rattle.core_store.proofs.HolderLemmas.{holders_changed}
 use Rattle.weave_core.proofs.NumberLemmas.{agrees_at, set_apart, set_at, shared_beside}
 use Rattle.weave_core.proofs.ReachedLemmas.{part_of}
-use Rattle.weave_core.proofs.SeatLemmas.{parts_alike}
+use Rattle.core_store.proofs.SeatLemmas.{parts_alike}
 use Rattle.mon_topo.proofs.SightLemmas.{joined_seen}
 use Rattle.weave_core.proofs.StepLemmas.{Leaves}
 use Rattle.weave_core.proofs.WeaveLemmas.{numbered_there}
 use Rattle.weave_core.specs.ActorAgreements.{Agrees, IsActorSo, IsRecovering, IsTaskSo, IsQuerying, IsSwitching}
 use Rattle.weave_core.specs.ActorAgreements.{IsWithoutEvent}
 use Rattle.weave_core.specs.ActorAgreements.{IsWriting, actor_numbered, flat}
-use Rattle.weave_core.specs.Agreements.{AreShared}
+use Rattle.core_store.specs.Agreements.{AreShared}
 use Rattle.core_theory.specs.Core.{CanCome, Happens, Hears, Reader, begun_with}
 use Rattle.weave_core.specs.Tasks.{is_over}
 use Rattle.weave_core.specs.Declarations.{hearing, hearing_in}
-use Rattle.core_theory.specs.Holders.{HoldsLeaf, HoldsRange}
+use Rattle.core_store.specs.Holders.{HoldsLeaf, HoldsRange}
 use Rattle.core_theory.specs.Licensed.{IsWoven}
 use Rattle.weave_core.specs.NewActors.{hearing_of}
 use Rattle.weave_core.specs.Schedules.{meet_fault}
 use Rattle.mon_topo.specs.Sights.{AreAlike, joined_sight, sight_of}
 use Rattle.weave_core.specs.States as spec
-use Rattle.weave_core.specs.Recoverers.{recovery_of}
+use Rattle.core_store.specs.Recoverers.{recovery_of}
 use Rattle.weave_core.specs.States.{Asking, Dismissed, Eventless, Recovering, Role, State, Switching, Undeclared}
 use Rattle.weave_core.specs.States.{Writing}
-use Rattle.weave_core.specs.States.{begun_in, is_copy_past_lock, recovers_begun}
+use Rattle.weave_core.specs.States.{begun_in}
+use Rattle.core_store.specs.NextAsks.{is_copy_past_lock, recovers_begun}
 use Rattle.mon_value.specs.Parts.{is_any}
-use Rattle.weave_core.specs.States.{declared_in, is_past_lock, store_of, view_at, view_in, writes_begun}
+use Rattle.weave_core.specs.States.{declared_in, view_at, view_in}
+use Rattle.core_store.specs.NextAsks.{is_past_lock, writes_begun}
+use Rattle.core_store.specs.Agreements.{store_of}
 use Rattle.weave_core.specs.Steps.{with_event}
 use Rattle.weave_core.specs.WeaveCalls.{IsWeaveKept, MeetsSo}
-use Rattle.weave_core.specs.Writers.{writer_of}
+use Rattle.core_store.specs.Writers.{writer_of}
 use Rattle.weave_core.specs.declared.actors.Actor.{Actor}
 use Rattle.weave_core.specs.declared.actors.Task.{Task}
 use Rattle.weave_core.specs.declared.actors.Task.TheVariants as task
-use Rattle.weave_core.specs.declared.calls.WeaveFault.TheVariants as fault
+use Rattle.schedule_lines.specs.declared.calls.WeaveFault.TheVariants as fault
 use Rattle.weave_core.specs.declared.queries.Querying.{Querying}
-use Rattle.weave_core.specs.declared.recoveries.Recovering.{Recovering as Recover}
+use Rattle.core_store.specs.declared.recoveries.Recovering.{Recovering as Recover}
 use Rattle.mon_topo.specs.declared.sights.Sight.{Sight}
-use Rattle.weave_core.specs.declared.store.Store.{Store}
-use Rattle.weave_core.specs.declared.switches.Switching.{Switching as Switch}
+use Rattle.core_store.specs.declared.store.Store.{Store}
+use Rattle.core_store.specs.declared.switches.Switching.{Switching as Switch}
 use Rattle.weave_core.specs.declared.weave.Weave.{Weave}
-use Rattle.weave_core.specs.declared.writes.Writing.{Writing as Write}
+use Rattle.core_store.specs.declared.writes.Writing.{Writing as Write}
 use Rattle.write_core.proofs.KeepsLemmas.{changed_other, changed_same}
 use Rattle.write_core.proofs.ViewLemmas.{joined_first}
 use Rattle.mon_value.proofs.PlainLemmas.{get_within, or_true}

@@ -21,28 +21,29 @@ use Rattle.query_core.specs.declared.asks.Ask.{Ask}
 use Rattle.query_core.specs.declared.asks.Ask.TheVariants as ask
 use Rattle.query_core.specs.declared.asks.Told.{Told}
 use Rattle.query_core.specs.declared.stages.Stage.TheVariants as at
-use Rattle.core_theory.proofs.MeetingLemmas.{leaf_met}
+use Rattle.core_store.proofs.MeetingLemmas.{leaf_met}
 use Rattle.weave_core.proofs.QuerySeats.{same_world, shared_leaf, visited_same}
 use Rattle.core_theory.proofs.ReaderAnswers.{reader_reads}
-use Rattle.weave_core.proofs.SeatLemmas.{parts_alike}
-use Rattle.weave_core.specs.Agreements.{IsLeafSo}
+use Rattle.core_store.proofs.SeatLemmas.{parts_alike}
+use Rattle.core_store.specs.Agreements.{IsLeafSo}
 use Rattle.core_theory.specs.Core.{Core, IsLookedAt, IsTold, Reader, query_now}
-use Rattle.core_theory.specs.Holders.{HoldsLeaf}
-use Rattle.core_theory.specs.Meetings.{sight_at_leaf}
-use Rattle.weave_core.specs.QueryLooks.{IsHeldFrom, IsSeatedForLeaf, Looks, LooksAt, visit_told}
+use Rattle.core_store.specs.Holders.{HoldsLeaf}
+use Rattle.core_store.specs.Meetings.{sight_at_leaf}
+use Rattle.core_store.specs.WriteEvents.{IsHeldFrom}
+use Rattle.weave_core.specs.QueryLooks.{IsSeatedForLeaf, Looks, LooksAt, visit_told}
 use Rattle.weave_core.specs.QueryTurns.{AnswersSo, IsAnswered, IsAsking, QueryWaits}
 use Rattle.mon_topo.specs.Sights.{AreAlike, sight_of}
-use Rattle.weave_core.specs.States.{store_of}
-use Rattle.weave_core.specs.WriteEvents.{ChangesLeaf}
-use Rattle.weave_core.specs.declared.leaves.LeafSeat.{LeafSeat}
+use Rattle.core_store.specs.Agreements.{store_of}
+use Rattle.core_store.specs.WriteEvents.{ChangesLeaf}
+use Rattle.core_store.specs.declared.leaves.LeafSeat.{LeafSeat}
 use Rattle.weave_core.specs.declared.queries.Querying.{Querying}
 use Rattle.mon_topo.specs.declared.sights.Sight.{Sight}
-use Rattle.weave_core.specs.declared.store.Store.{Store}
+use Rattle.core_store.specs.declared.store.Store.{Store}
 use Rattle.write_core.proofs.KeepsLemmas.{changed_same}
 use Rattle.mon_topo.specs.Views.{View, joined_view, of_leaf}
 use Rattle.write_core.specs.World.{World}
 use Rattle.weave_core.proofs.AskingLemmas.{answered, asked_of, asks_then, from, not_mine, there_at, waits}
-use Rattle.weave_core.proofs.WriteTurnLemmas.{some_of}
+use Rattle.core_store.proofs.WriteTurnLemmas.{some_of}
 
 module _ (config : Config) (core : Core (store_of config)) (k : ℕ) (store : Store) (querying : Querying) (sight : Sight)
     (asking : IsAsking config core k store querying sight) where

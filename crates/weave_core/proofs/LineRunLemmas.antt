@@ -8,18 +8,19 @@ use Rattle.mon_script.specs.Lines.{is_remark, lines_of}
 use Rattle.mon_value.specs.declared.refusals.Refusal.{Refusal}
 use Rattle.mon_value.specs.declared.refusals.Refusal.TheVariants as refusal
 use Rattle.weave_core.specs.ActorAgreements.{Agrees}
-use Rattle.weave_core.specs.ScheduleLines.{schedule_form}
+use Rattle.schedule_lines.specs.ScheduleLines.{schedule_form}
 use Rattle.weave_core.specs.ScheduleTurns.{HasRun, HasStopped, HavePrinted, IsDone, IsLineRefused, LineBy, LinesSo}
 use Rattle.weave_core.specs.ScheduleTurns.{NumberedSo}
 use Rattle.weave_core.specs.Schedules.{DoneThen, DoneUnless, IsFirstState, Numbered, Printed, Prints}
 use Rattle.weave_core.specs.Schedules.{RunsFrom, ScheduleLineRuns}
 use Rattle.weave_core.specs.Schedules.{RunsUnless, line_fault, refused_at, said_before, unfinished_text}
-use Rattle.weave_core.specs.States.{State, store_of}
-use Rattle.weave_core.specs.declared.calls.ScheduleFault.{ScheduleFault}
-use Rattle.weave_core.specs.declared.calls.WeaveFault.{WeaveFault}
-use Rattle.weave_core.specs.declared.calls.WeaveFault.TheVariants as fault
-use Rattle.weave_core.specs.declared.limits.TheConstants.{MOST_LINES}
-use Rattle.weave_core.specs.declared.lines.LineForm.{LineForm}
+use Rattle.weave_core.specs.States.{State}
+use Rattle.core_store.specs.Agreements.{store_of}
+use Rattle.schedule_lines.specs.declared.calls.ScheduleFault.{ScheduleFault}
+use Rattle.schedule_lines.specs.declared.calls.WeaveFault.{WeaveFault}
+use Rattle.schedule_lines.specs.declared.calls.WeaveFault.TheVariants as fault
+use Rattle.schedule_lines.specs.declared.limits.TheConstants.{MOST_LINES}
+use Rattle.schedule_lines.specs.declared.lines.LineForm.{LineForm}
 use Rattle.weave_core.specs.declared.weave.Weave.{Weave}
 
 abbrev pub stopped_by : ScheduleFault → Printed

@@ -5,14 +5,15 @@ use Rattle.std.specs.Prelude.{slice_get}
 use Rattle.std.proofs.lemmas.Bool.{cases_eq}
 use Rattle.mon_config.specs.declared.config.Config.{Config}
 use Rattle.weave_core.proofs.QuerySeats.{Any, IsSameBut, leaf_stays, range_stays}
-use Rattle.weave_core.proofs.SeatLemmas.{words_stay}
+use Rattle.core_store.proofs.SeatLemmas.{words_stay}
 use Rattle.weave_core.proofs.StepLemmas.{Leaves}
 use Rattle.weave_core.specs.ActorAgreements.{Agrees, IsActorSo, actor_numbered}
-use Rattle.weave_core.specs.Agreements.{AreShared}
+use Rattle.core_store.specs.Agreements.{AreShared}
 use Rattle.core_theory.specs.Core.{Reader}
-use Rattle.weave_core.specs.States.{Role, State, store_of}
+use Rattle.weave_core.specs.States.{Role, State}
+use Rattle.core_store.specs.Agreements.{store_of}
 use Rattle.weave_core.specs.declared.actors.Actor.{Actor}
-use Rattle.weave_core.specs.declared.store.Store.{Store}
+use Rattle.core_store.specs.declared.store.Store.{Store}
 use Rattle.weave_core.specs.declared.weave.Weave.{Weave}
 use Rattle.write_core.specs.World.{Actor as Doer, World}
 

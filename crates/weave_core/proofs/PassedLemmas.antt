@@ -6,12 +6,13 @@ use Rattle.mon_value.specs.declared.refusals.Refusal.{Refusal}
 use Rattle.mon_value.specs.declared.refusals.Refusal.TheVariants as refusal
 use Rattle.weave_core.specs.ScheduleTurns.{FormSo, GoesSo, LineBy}
 use Rattle.weave_core.specs.Schedules.{line_fault}
-use Rattle.weave_core.specs.States.{State, step_fault, store_of}
+use Rattle.weave_core.specs.States.{State, step_fault}
+use Rattle.core_store.specs.Agreements.{store_of}
 use Rattle.weave_core.specs.WeaveCalls.{IsStepped}
-use Rattle.weave_core.specs.declared.events.Event.{Event}
-use Rattle.weave_core.specs.declared.calls.WeaveFault.{WeaveFault}
-use Rattle.weave_core.specs.declared.lines.LineForm.{LineForm}
-use Rattle.weave_core.specs.declared.lines.LineForm.TheVariants as form
+use Rattle.schedule_lines.specs.declared.events.Event.{Event}
+use Rattle.schedule_lines.specs.declared.calls.WeaveFault.{WeaveFault}
+use Rattle.schedule_lines.specs.declared.lines.LineForm.{LineForm}
+use Rattle.schedule_lines.specs.declared.lines.LineForm.TheVariants as form
 use Rattle.weave_core.specs.declared.weave.Weave.{Weave}
 
 -- what is claimed of a refusal is claimed of the answer that passes it on

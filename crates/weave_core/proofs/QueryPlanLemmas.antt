@@ -1,11 +1,11 @@
 -- The plan of a text is asked of a configuration's store.
 use Rattle.std.proofs.Common.{◌≡◌, ℕ, List, Ok, sym, subst, refl}
 use Rattle.mon_config.specs.declared.config.Config.{Config}
-use Rattle.mql_types.specs.declared.plans.Plan.{Plan}
+use Rattle.typed_trees.specs.declared.plans.Plan.{Plan}
 use Rattle.query_core.specs.Rounds.{areas_of, QuerySetting}
 use Rattle.query_core.specs.Machine.{Query, new_query}
 use Rattle.query_texts.specs.TextTypes.{IsPlanOver, plan_type, text_type}
-use Rattle.weave_core.specs.Agreements.{IsServed}
+use Rattle.core_store.specs.Agreements.{IsServed}
 use Rattle.weave_core.specs.QueryPlans.{IsMachineSo}
 use Rattle.leaf_store.proofs.BucketLemmas.{own_buckets}
 

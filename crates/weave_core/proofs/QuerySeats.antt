@@ -6,13 +6,13 @@ use Rattle.mon_config.specs.declared.config.Config.{Config}
 use Rattle.mon_value.specs.Histories.{leaf_numbered, range_numbered}
 use Rattle.mon_value.specs.declared.positions.Leaf.{Leaf}
 use Rattle.mon_value.specs.declared.positions.Range.{Range}
-use Rattle.weave_core.proofs.SeatLemmas.{set_each, words_stay}
-use Rattle.weave_core.specs.Agreements.{AreShared, IsLeafSo, IsRangeSo}
+use Rattle.core_store.proofs.SeatLemmas.{set_each, words_stay}
+use Rattle.core_store.specs.Agreements.{AreShared, IsLeafSo, IsRangeSo}
 use Rattle.mon_topo.specs.Sights.{sight_of}
-use Rattle.weave_core.specs.WriteEvents.{ChangesLeaf, ChangesRange}
-use Rattle.weave_core.specs.declared.leaves.LeafSeat.{LeafSeat}
-use Rattle.weave_core.specs.declared.ranges.RangeSeat.{RangeSeat}
-use Rattle.weave_core.specs.declared.store.Store.{Store}
+use Rattle.core_store.specs.WriteEvents.{ChangesLeaf, ChangesRange}
+use Rattle.core_store.specs.declared.leaves.LeafSeat.{LeafSeat}
+use Rattle.core_store.specs.declared.ranges.RangeSeat.{RangeSeat}
+use Rattle.core_store.specs.declared.store.Store.{Store}
 use Rattle.write_core.proofs.KeepsLemmas.{changed_other}
 use Rattle.write_core.specs.Events.{after_resolving, after_visit}
 use Rattle.mon_topo.specs.Views.{View, of_leaf, of_range}

@@ -11,13 +11,13 @@ use Rattle.query_core.specs.Sides.{word_asked}
 use Rattle.query_core.specs.declared.asks.Told.{Told}
 use Rattle.core_theory.specs.Core.{Core}
 use Rattle.weave_core.proofs.WordAnswers.{root_answered, root_word_there, zone_answered, zone_there}
-use Rattle.weave_core.specs.HintWords.{HasWord, hint_word_at}
+use Rattle.core_store.specs.HintWords.{HasWord, hint_word_at}
 use Rattle.weave_core.specs.QueryLooks.{word_told}
 use Rattle.weave_core.specs.QuerySides.{IsAskedThere, TellsThere, querying_of}
 use Rattle.weave_core.specs.QueryTurns.{AnswersSo, IsAskedSomewhere, IsAsking}
-use Rattle.weave_core.specs.States.{store_of}
+use Rattle.core_store.specs.Agreements.{store_of}
 use Rattle.weave_core.specs.declared.queries.Querying.{Querying}
-use Rattle.weave_core.specs.declared.store.Store.{Store}
+use Rattle.core_store.specs.declared.store.Store.{Store}
 
 -- ---- words
 

@@ -11,28 +11,29 @@ use Rattle.mon_topo.specs.RangeHistories.{first_serving}
 use Rattle.query_core.specs.declared.asks.Ask.{Ask}
 use Rattle.query_core.specs.declared.asks.Ask.TheVariants as ask
 use Rattle.query_core.specs.declared.asks.Told.{Told}
-use Rattle.core_theory.proofs.MeetingLemmas.{range_met}
+use Rattle.core_store.proofs.MeetingLemmas.{range_met}
 use Rattle.weave_core.proofs.QuerySeats.{resolved_same, same_world, shared_range}
-use Rattle.weave_core.proofs.SeatLemmas.{parts_alike}
-use Rattle.weave_core.specs.Agreements.{IsRangeSo}
+use Rattle.core_store.proofs.SeatLemmas.{parts_alike}
+use Rattle.core_store.specs.Agreements.{IsRangeSo}
 use Rattle.core_theory.specs.Core.{Core, IsTold, Reader, query_now}
-use Rattle.core_theory.specs.Holders.{HoldsRange}
-use Rattle.core_theory.specs.Meetings.{sight_at_range}
-use Rattle.weave_core.specs.QueryLooks.{FindsReplica, FindsAt, IsHeldFrom, IsSeatedForRange, slot_told}
+use Rattle.core_store.specs.Holders.{HoldsRange}
+use Rattle.core_store.specs.Meetings.{sight_at_range}
+use Rattle.weave_core.specs.QueryLooks.{FindsReplica, FindsAt, IsSeatedForRange, slot_told}
+use Rattle.core_store.specs.WriteEvents.{IsHeldFrom}
 use Rattle.weave_core.specs.QueryTurns.{AnswersSo, IsAnswered, IsAsking, QueryWaits}
 use Rattle.mon_topo.specs.Sights.{AreAlike, range_sight, sight_of}
-use Rattle.weave_core.specs.States.{store_of}
-use Rattle.weave_core.specs.WriteEvents.{ChangesRange}
+use Rattle.core_store.specs.Agreements.{store_of}
+use Rattle.core_store.specs.WriteEvents.{ChangesRange}
 use Rattle.weave_core.specs.declared.queries.Querying.{Querying}
-use Rattle.weave_core.specs.declared.ranges.RangeSeat.{RangeSeat}
+use Rattle.core_store.specs.declared.ranges.RangeSeat.{RangeSeat}
 use Rattle.mon_topo.specs.declared.sights.Sight.{Sight}
-use Rattle.weave_core.specs.declared.store.Store.{Store}
+use Rattle.core_store.specs.declared.store.Store.{Store}
 use Rattle.write_core.proofs.KeepsLemmas.{changed_same}
 use Rattle.write_core.specs.Replays.{HasAckRoom, Replay}
 use Rattle.mon_topo.specs.Views.{View, joined_view, of_range}
 use Rattle.write_core.specs.World.{World}
 use Rattle.weave_core.proofs.AskingLemmas.{answered, not_mine, there_at, waits}
-use Rattle.weave_core.proofs.WriteTurnLemmas.{some_of}
+use Rattle.core_store.proofs.WriteTurnLemmas.{some_of}
 
 module _ (config : Config) (core : Core (store_of config)) (k : ℕ) (store : Store) (querying : Querying) (sight : Sight)
     (asking : IsAsking config core k store querying sight) where

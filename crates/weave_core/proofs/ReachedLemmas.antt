@@ -7,7 +7,7 @@ use Rattle.mon_topo.specs.Settings.{Setting}
 use Rattle.mon_value.specs.declared.positions.Leaf.{Leaf}
 use Rattle.mon_value.specs.declared.positions.Range.{Range}
 use Rattle.mon_value.specs.declared.rows.Row.{Row}
-use Rattle.mql_types.specs.Nodes.{TypedTree}
+use Rattle.typed_trees.specs.Nodes.{TypedTree}
 use Rattle.query_core.specs.Askings.{IsAskedOf}
 use Rattle.query_core.specs.Machine.{new_query}
 use Rattle.query_core.specs.Rounds.{QuerySetting}
@@ -20,21 +20,22 @@ use Rattle.core_theory.specs.Core.{view_told}
 use Rattle.weave_core.specs.Declarations.{Declares, QueryBegins, RecoveryBegins, WriteBegins, hearing, new_reader}
 use Rattle.weave_core.specs.Declarations.{with_reader}
 use Rattle.weave_core.specs.EndTexts.{no_plan_line, no_zone_line}
-use Rattle.weave_core.specs.LawfulLines.{IsLawfulCall, IsLawfulForm}
+use Rattle.schedule_lines.specs.LawfulLines.{IsLawfulCall, IsLawfulForm}
 use Rattle.core_theory.specs.Licensed.{IsReader, IsWoven}
 use Rattle.weave_core.specs.Reached.{LinesLead}
 use Rattle.weave_core.specs.Schedules.{Does, EndsBy, ActorGoesOn, IsFirstState, Rests, StopsBeforeEvent, Went}
 use Rattle.weave_core.specs.States.{Asking, Dismissed, Eventless, Recovering, Role, State, Switching, Undeclared}
 use Rattle.weave_core.specs.States.{Writing}
-use Rattle.weave_core.specs.States.{actor_at, store_of}
+use Rattle.weave_core.specs.States.{actor_at}
+use Rattle.core_store.specs.Agreements.{store_of}
 use Rattle.weave_core.specs.Steps.{StepsIn, with_event, with_role}
-use Rattle.weave_core.specs.declared.calls.Call.{Call}
-use Rattle.weave_core.specs.declared.calls.Call.TheVariants as call
-use Rattle.weave_core.specs.declared.calls.Stepped.{Stepped}
-use Rattle.weave_core.specs.declared.calls.Stepped.TheVariants as stepped
-use Rattle.weave_core.specs.declared.events.Event.{Event}
-use Rattle.weave_core.specs.declared.lines.LineForm.{LineForm}
-use Rattle.weave_core.specs.declared.lines.LineForm.TheVariants as form
+use Rattle.schedule_lines.specs.declared.calls.Call.{Call}
+use Rattle.schedule_lines.specs.declared.calls.Call.TheVariants as call
+use Rattle.weave_core.specs.declared.stepped.Stepped.{Stepped}
+use Rattle.weave_core.specs.declared.stepped.Stepped.TheVariants as stepped
+use Rattle.schedule_lines.specs.declared.events.Event.{Event}
+use Rattle.schedule_lines.specs.declared.lines.LineForm.{LineForm}
+use Rattle.schedule_lines.specs.declared.lines.LineForm.TheVariants as form
 use Rattle.write_core.proofs.KeepsLemmas.{changed_by}
 use Rattle.write_core.specs.Events.{Aims, Begins, CanRun, Copies, Event as WorldEvent, Goes, Switches, after_events}
 use Rattle.write_core.specs.Invariant.{IsActor, IsNewWorld}

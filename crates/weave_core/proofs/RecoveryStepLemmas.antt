@@ -9,20 +9,22 @@ use Rattle.weave_core.proofs.TaskLemmas.{no_fault}
 use Rattle.weave_core.specs.ActorAgreements.{IsActorSo, IsRecovering, IsTaskSo}
 use Rattle.weave_core.specs.ActorSteps.{ActorSteps, IsIn, RecoveredSo}
 use Rattle.weave_core.specs.EndTexts.{recover_text}
-use Rattle.weave_core.specs.Recoverers.{recovery_of}
-use Rattle.weave_core.specs.RecoverTurns.{IsOpening, RecoversSo}
+use Rattle.core_store.specs.Recoverers.{recovery_of}
+use Rattle.core_store.specs.RecoverTurns.{IsOpening, RecoversSo}
 use Rattle.weave_core.specs.States.{Asking, Dismissed, Eventless, Recovering, Role, State, Switching, Undeclared}
 use Rattle.weave_core.specs.States.{Writing}
-use Rattle.weave_core.specs.States.{copy_asks, holder_in, recovers_begun, store_of}
+use Rattle.core_store.specs.NextAsks.{copy_asks, recovers_begun}
+use Rattle.weave_core.specs.States.{holder_in}
+use Rattle.core_store.specs.Agreements.{store_of}
 use Rattle.weave_core.specs.Steps.{StepsIn, recover_stepped, recovery_stepped, with_event}
 use Rattle.weave_core.specs.declared.actors.Actor.{Actor}
 use Rattle.weave_core.specs.declared.actors.Task.TheVariants as task
-use Rattle.weave_core.specs.declared.calls.Stepped.{Stepped}
-use Rattle.weave_core.specs.declared.calls.Stepped.TheVariants as stepped
-use Rattle.weave_core.specs.declared.recoveries.RecoverTurn.{RecoverTurn}
-use Rattle.weave_core.specs.declared.recoveries.RecoverTurn.TheVariants as turn
-use Rattle.weave_core.specs.declared.recoveries.Recovering.{Recovering as Recover}
-use Rattle.weave_core.specs.declared.store.Store.{Store}
+use Rattle.weave_core.specs.declared.stepped.Stepped.{Stepped}
+use Rattle.weave_core.specs.declared.stepped.Stepped.TheVariants as stepped
+use Rattle.core_store.specs.declared.recoveries.RecoverTurn.{RecoverTurn}
+use Rattle.core_store.specs.declared.recoveries.RecoverTurn.TheVariants as turn
+use Rattle.core_store.specs.declared.recoveries.Recovering.{Recovering as Recover}
+use Rattle.core_store.specs.declared.store.Store.{Store}
 use Rattle.write_core.specs.CopyPhases.{copy_ask_of}
 use Rattle.write_core.specs.Events.{Copies}
 use Rattle.write_core.specs.Recovering.{Beginning, Carrying, CopyStage, Copying, Nearing, Over, Telling, Within}

@@ -8,16 +8,16 @@ use Rattle.query_core.specs.declared.asks.Ask.TheVariants as ask
 use Rattle.query_core.specs.declared.asks.Told.{Told}
 use Rattle.query_core.specs.declared.stages.Stage.{Stage as QueryStage}
 use Rattle.core_theory.proofs.CoreLemmas.{stays_woven}
-use Rattle.core_theory.proofs.CopyHolderLemmas.{copy_held}
-use Rattle.core_theory.proofs.HolderLemmas.{step_held, switch_held}
+use Rattle.core_store.proofs.CopyHolderLemmas.{copy_held}
+use Rattle.core_store.proofs.HolderLemmas.{step_held, switch_held}
 use Rattle.weave_core.proofs.QueryStepLemmas.{actors_stay}
 use Rattle.core_theory.specs.Core.{CanCome, Happens, Tells, asked_now, world_then}
-use Rattle.core_theory.specs.Holders.{AreHolders}
+use Rattle.core_store.specs.Holders.{AreHolders}
 use Rattle.core_theory.specs.Licensed.{IsWoven}
 use Rattle.weave_core.specs.States.{Asking, Dismissed, Eventless, Recovering, Role, State, Switching, Undeclared}
 use Rattle.weave_core.specs.States.{Writing}
 use Rattle.weave_core.specs.Steps.{Steps, StepsIn, with_event, with_role}
-use Rattle.weave_core.specs.declared.calls.Stepped.{Stepped}
+use Rattle.weave_core.specs.declared.stepped.Stepped.{Stepped}
 use Rattle.write_core.proofs.KeepsLemmas.{changed_other}
 use Rattle.write_core.specs.CopySteps.{CanRecover, after_copy_event, copy_at, copy_step}
 use Rattle.write_core.specs.Events.{Copies, Goes, SwitchTold, Switches, switched}

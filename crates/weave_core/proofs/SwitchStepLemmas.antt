@@ -15,36 +15,37 @@ use Rattle.mon_value.specs.Histories.{leaf_history, leaf_numbered}
 use Rattle.mon_value.specs.declared.histories.Entry.{Entry}
 use Rattle.mon_value.specs.declared.positions.Leaf.{Leaf}
 use Rattle.mon_value.specs.declared.positions.Range.{Range}
-use Rattle.core_theory.proofs.MeetingLemmas.{leaf_met}
+use Rattle.core_store.proofs.MeetingLemmas.{leaf_met}
 use Rattle.core_theory.specs.Core.{Happens, Reader}
-use Rattle.core_theory.specs.Holders.{HoldsLeaf}
-use Rattle.core_theory.specs.Meetings.{sight_at_leaf}
+use Rattle.core_store.specs.Holders.{HoldsLeaf}
+use Rattle.core_store.specs.Meetings.{sight_at_leaf}
 use Rattle.weave_core.proofs.DeclareLemmas.{stands_so}
 use Rattle.weave_core.proofs.ReachedLemmas.{part_of}
-use Rattle.weave_core.proofs.SeatLemmas.{leaf_so_then, parts_alike, same_at_leaf, shared_at_leaf}
+use Rattle.core_store.proofs.SeatLemmas.{leaf_so_then, parts_alike, same_at_leaf, shared_at_leaf}
 use Rattle.weave_core.proofs.TaskLemmas.{no_fault}
 use Rattle.weave_core.specs.ActorAgreements.{IsActorSo, IsDismissed, IsSwitching, IsTaskSo}
 use Rattle.weave_core.specs.ActorSteps.{ActorSteps, HasStepped, IsIn, SwitchedSo}
-use Rattle.weave_core.specs.Agreements.{AreShared, IsLeafSo}
+use Rattle.core_store.specs.Agreements.{AreShared, IsLeafSo}
 use Rattle.weave_core.specs.EndTexts.{switch_text}
-use Rattle.weave_core.specs.QueryLooks.{IsHeldFrom}
+use Rattle.core_store.specs.WriteEvents.{IsHeldFrom}
 use Rattle.weave_core.specs.States.{Asking, Dismissed, Eventless, Recovering, Role, State, Switching, Undeclared}
 use Rattle.weave_core.specs.States.{Writing}
-use Rattle.weave_core.specs.States.{holder_in, store_of}
+use Rattle.weave_core.specs.States.{holder_in}
+use Rattle.core_store.specs.Agreements.{store_of}
 use Rattle.weave_core.specs.Steps.{StepsIn, with_event, with_role}
-use Rattle.weave_core.specs.Switches.{IsSeatedToSwitch, SwitchesAt, SwitchesLeaf, history_switched, switch_told}
-use Rattle.weave_core.specs.WriteEvents.{ChangesLeaf}
+use Rattle.core_store.specs.Switches.{IsSeatedToSwitch, SwitchesAt, SwitchesLeaf, history_switched, switch_told}
+use Rattle.core_store.specs.WriteEvents.{ChangesLeaf}
 use Rattle.weave_core.specs.declared.actors.Actor.{Actor}
 use Rattle.weave_core.specs.declared.actors.Task.TheVariants as task
-use Rattle.weave_core.specs.declared.calls.Stepped.{Stepped}
-use Rattle.weave_core.specs.declared.calls.Stepped.TheVariants as stepped
-use Rattle.weave_core.specs.declared.leaves.LeafSeat.{LeafSeat}
-use Rattle.weave_core.specs.declared.store.Store.{Store}
-use Rattle.weave_core.specs.declared.switches.Switched.{Switched}
-use Rattle.weave_core.specs.declared.switches.Switching.{Switching as Switch}
+use Rattle.weave_core.specs.declared.stepped.Stepped.{Stepped}
+use Rattle.weave_core.specs.declared.stepped.Stepped.TheVariants as stepped
+use Rattle.core_store.specs.declared.leaves.LeafSeat.{LeafSeat}
+use Rattle.core_store.specs.declared.store.Store.{Store}
+use Rattle.core_store.specs.declared.switches.Switched.{Switched}
+use Rattle.core_store.specs.declared.switches.Switching.{Switching as Switch}
 use Rattle.write_core.proofs.KeepsLemmas.{changed_same}
 use Rattle.write_core.proofs.ViewLemmas.{joined_whole_leaf}
-use Rattle.weave_core.proofs.WriteTurnLemmas.{some_of}
+use Rattle.core_store.proofs.WriteTurnLemmas.{some_of}
 use Rattle.write_core.specs.Events.{IsToldOfSwitch, MaySwitch, SwitchTold, Switches, SwitchesSpent, WasDownAlready}
 use Rattle.write_core.specs.Events.{WasSwitched, WasUpAlready, after_switch, switch_of, switched, switches_with}
 use Rattle.write_core.specs.Invariant.{IsKept}

@@ -14,22 +14,25 @@ use Rattle.weave_core.specs.ActorAgreements.{actor_numbered}
 use Rattle.weave_core.specs.ActorSteps.{IsIn}
 use Rattle.core_theory.specs.Core.{Reader, asked_now, query_now}
 use Rattle.weave_core.specs.Tasks.{event_of, is_over}
-use Rattle.weave_core.specs.EventNames.{event_of_copy, event_of_query, event_of_write}
+use Rattle.weave_core.specs.AskedEvents.{event_of_copy, event_of_query, event_of_write}
 use Rattle.weave_core.specs.States as spec
 use Rattle.weave_core.specs.States.{Asking, Dismissed, Eventless, Recovering, Role, State, Switching, Undeclared}
 use Rattle.weave_core.specs.States.{Writing}
-use Rattle.weave_core.specs.States.{begun_in, copy_asks}
-use Rattle.weave_core.specs.States.{declared_in, ended_in, role_fault, next_in, step_fault, store_of, write_asks}
+use Rattle.weave_core.specs.States.{begun_in}
+use Rattle.core_store.specs.NextAsks.{copy_asks}
+use Rattle.weave_core.specs.States.{declared_in, ended_in, role_fault, next_in, step_fault}
+use Rattle.core_store.specs.Agreements.{store_of}
+use Rattle.core_store.specs.NextAsks.{write_asks}
 use Rattle.weave_core.specs.declared.actors.Actor.{Actor}
 use Rattle.weave_core.specs.declared.actors.Task.{Task}
 use Rattle.weave_core.specs.declared.actors.Task.TheVariants as task
-use Rattle.weave_core.specs.declared.calls.WeaveFault.TheVariants as fault
+use Rattle.schedule_lines.specs.declared.calls.WeaveFault.TheVariants as fault
 use Rattle.weave_core.specs.declared.queries.Querying.{Querying}
-use Rattle.weave_core.specs.declared.recoveries.Recovering.{Recovering as Recover}
+use Rattle.core_store.specs.declared.recoveries.Recovering.{Recovering as Recover}
 use Rattle.mon_topo.specs.declared.sights.Sight.{Sight}
-use Rattle.weave_core.specs.declared.store.Store.{Store}
+use Rattle.core_store.specs.declared.store.Store.{Store}
 use Rattle.weave_core.specs.declared.weave.Weave.{Weave}
-use Rattle.weave_core.specs.declared.writes.Writing.{Writing as Write}
+use Rattle.core_store.specs.declared.writes.Writing.{Writing as Write}
 use Rattle.write_core.specs.CopyPhases.{copy_ask_of}
 use Rattle.write_core.specs.Program as write
 use Rattle.write_core.specs.World.{Actor as Doer}

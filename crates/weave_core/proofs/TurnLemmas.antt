@@ -14,21 +14,24 @@ use Rattle.weave_core.proofs.TaskLemmas.{unended}
 use Rattle.weave_core.specs.ActorAgreements.{Agrees}
 use Rattle.core_theory.specs.Core.{query_now}
 use Rattle.weave_core.specs.EndTexts.{switch_text}
-use Rattle.weave_core.specs.EventNames.{event_of_copy, event_of_query, event_of_write}
+use Rattle.weave_core.specs.AskedEvents.{event_of_copy, event_of_query, event_of_write}
 use Rattle.weave_core.specs.ScheduleTurns.{GoesSo, HasGone}
 use Rattle.weave_core.specs.Schedules.{IsNextEvent, Went}
 use Rattle.weave_core.specs.States.{Asking, Dismissed, Eventless, Recovering, Role, State, Switching, Undeclared}
 use Rattle.weave_core.specs.States.{Writing}
-use Rattle.weave_core.specs.States.{copy_asks, role_fault, next_in}
-use Rattle.weave_core.specs.States.{step_fault, store_of, write_asks}
+use Rattle.core_store.specs.NextAsks.{copy_asks}
+use Rattle.weave_core.specs.States.{role_fault, next_in}
+use Rattle.weave_core.specs.States.{step_fault}
+use Rattle.core_store.specs.Agreements.{store_of}
+use Rattle.core_store.specs.NextAsks.{write_asks}
 use Rattle.weave_core.specs.Steps.{Steps, StepsIn, query_stepped, recover_stepped, recovery_stepped, write_stepped}
 use Rattle.weave_core.specs.Steps.{writer_stepped}
 use Rattle.weave_core.specs.WeaveCalls as call
-use Rattle.weave_core.specs.declared.calls.Stepped.{Stepped}
-use Rattle.weave_core.specs.declared.calls.Stepped.TheVariants as stepped
-use Rattle.weave_core.specs.declared.calls.WeaveFault.{WeaveFault}
-use Rattle.weave_core.specs.declared.events.Event.{Event}
-use Rattle.weave_core.specs.declared.limits.TheConstants.{MOST_EVENTS}
+use Rattle.weave_core.specs.declared.stepped.Stepped.{Stepped}
+use Rattle.weave_core.specs.declared.stepped.Stepped.TheVariants as stepped
+use Rattle.schedule_lines.specs.declared.calls.WeaveFault.{WeaveFault}
+use Rattle.schedule_lines.specs.declared.events.Event.{Event}
+use Rattle.schedule_lines.specs.declared.limits.TheConstants.{MOST_EVENTS}
 use Rattle.weave_core.specs.declared.weave.Weave.{Weave}
 use Rattle.write_core.specs.Program.{Acking, Ended, Entering, Inside, Locking, Reserving, enter, inside, reserve}
 use Rattle.write_core.specs.Program as write

@@ -9,9 +9,10 @@ use Rattle.weave_core.proofs.StepLemmas.{steps_leave}
 use Rattle.weave_core.specs.ActorAgreements.{Agrees, IsActorSo, actor_numbered, flat}
 use Rattle.weave_core.specs.ActorSteps.{HasStepped, IsIn}
 use Rattle.core_theory.specs.Core.{Reader}
-use Rattle.weave_core.specs.States.{Role, State, store_of}
+use Rattle.weave_core.specs.States.{Role, State}
+use Rattle.core_store.specs.Agreements.{store_of}
 use Rattle.weave_core.specs.declared.actors.Actor.{Actor}
-use Rattle.weave_core.specs.declared.calls.Stepped.{Stepped}
+use Rattle.weave_core.specs.declared.stepped.Stepped.{Stepped}
 use Rattle.weave_core.specs.declared.weave.Weave.{Weave}
 use Rattle.write_core.specs.World.{Actor as Doer}
 

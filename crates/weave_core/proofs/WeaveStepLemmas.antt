@@ -10,14 +10,15 @@ use Rattle.weave_core.proofs.TaskLemmas.{here, no_actor}
 use Rattle.weave_core.proofs.WeaveLemmas.{is_in, numbered_there, stepped_agrees}
 use Rattle.weave_core.specs.ActorAgreements.{Agrees, AreActors, actor_numbered}
 use Rattle.weave_core.specs.ActorSteps.{ActorSteps, HadEnded, HasStepped, IsIn, IsSomewhere}
-use Rattle.weave_core.specs.Agreements.{AreShared}
-use Rattle.weave_core.specs.States.{State, store_of}
+use Rattle.core_store.specs.Agreements.{AreShared}
+use Rattle.weave_core.specs.States.{State}
+use Rattle.core_store.specs.Agreements.{store_of}
 use Rattle.weave_core.specs.WeaveCalls.{IsWeaveKept, IsKeptUnless, IsRefusedSo, IsStepped, StepsSo}
 use Rattle.weave_core.specs.declared.actors.Actor.{Actor}
-use Rattle.weave_core.specs.declared.calls.Stepped.{Stepped}
-use Rattle.weave_core.specs.declared.calls.WeaveFault.{WeaveFault}
-use Rattle.weave_core.specs.declared.calls.WeaveFault.TheVariants as fault
-use Rattle.weave_core.specs.declared.store.Store.{Store}
+use Rattle.weave_core.specs.declared.stepped.Stepped.{Stepped}
+use Rattle.schedule_lines.specs.declared.calls.WeaveFault.{WeaveFault}
+use Rattle.schedule_lines.specs.declared.calls.WeaveFault.TheVariants as fault
+use Rattle.core_store.specs.declared.store.Store.{Store}
 use Rattle.weave_core.specs.declared.weave.Weave.{Weave}
 
 -- ---- places

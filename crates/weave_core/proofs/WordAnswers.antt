@@ -17,16 +17,16 @@ use Rattle.query_core.specs.Rounds.{QuerySetting}
 use Rattle.query_core.specs.declared.asks.Ask.{Ask}
 use Rattle.query_core.specs.declared.asks.Ask.TheVariants as ask
 use Rattle.query_core.specs.declared.stages.Stage.TheVariants as at
-use Rattle.weave_core.proofs.PlaceLemmas.{root_there, zone_word_there}
+use Rattle.core_store.proofs.PlaceLemmas.{root_there, zone_word_there}
 use Rattle.plan_split.proofs.PlanBuckets.{next_below}
 use Rattle.core_theory.specs.Core.{Core}
-use Rattle.weave_core.specs.HintWords.{HasWord, hint_word_at}
+use Rattle.core_store.specs.HintWords.{HasWord, hint_word_at}
 use Rattle.weave_core.specs.QueryLooks.{word_told}
 use Rattle.weave_core.specs.QueryTurns.{IsAnswered, IsAsking}
-use Rattle.weave_core.specs.States.{store_of}
+use Rattle.core_store.specs.Agreements.{store_of}
 use Rattle.weave_core.specs.declared.queries.Querying.{Querying}
 use Rattle.mon_topo.specs.declared.sights.Sight.{Sight}
-use Rattle.weave_core.specs.declared.store.Store.{Store}
+use Rattle.core_store.specs.declared.store.Store.{Store}
 use Rattle.mon_hints.specs.declared.places.Place.TheVariants as word
 use Rattle.write_core.specs.World.{World}
 use Rattle.weave_core.proofs.AskingLemmas.{answered, seen_here, there_at}

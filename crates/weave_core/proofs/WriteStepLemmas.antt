@@ -12,19 +12,21 @@ use Rattle.core_theory.specs.Core.{Happens}
 use Rattle.weave_core.specs.EndTexts.{write_end_text}
 use Rattle.weave_core.specs.States.{Asking, Dismissed, Eventless, Recovering, Role, State, Switching, Undeclared}
 use Rattle.weave_core.specs.States.{Writing}
-use Rattle.weave_core.specs.States.{holder_in, is_past_lock, store_of, write_asks, writes_begun}
+use Rattle.weave_core.specs.States.{holder_in}
+use Rattle.core_store.specs.NextAsks.{is_past_lock, write_asks, writes_begun}
+use Rattle.core_store.specs.Agreements.{store_of}
 use Rattle.weave_core.specs.Steps.{StepsIn, with_event, write_stepped, writer_stepped}
-use Rattle.weave_core.specs.WriteTurns.{IsAtWork, WritesSo}
-use Rattle.weave_core.specs.Writers.{writer_of}
+use Rattle.core_store.specs.WriteTurns.{IsAtWork, WritesSo}
+use Rattle.core_store.specs.Writers.{writer_of}
 use Rattle.weave_core.specs.declared.actors.Actor.{Actor}
 use Rattle.weave_core.specs.declared.actors.Task.TheVariants as task
-use Rattle.weave_core.specs.declared.calls.Stepped.{Stepped}
-use Rattle.weave_core.specs.declared.calls.Stepped.TheVariants as stepped
+use Rattle.weave_core.specs.declared.stepped.Stepped.{Stepped}
+use Rattle.weave_core.specs.declared.stepped.Stepped.TheVariants as stepped
 use Rattle.mon_topo.specs.declared.sights.Sight.{Sight}
-use Rattle.weave_core.specs.declared.store.Store.{Store}
-use Rattle.weave_core.specs.declared.writes.WriteTurn.{WriteTurn}
-use Rattle.weave_core.specs.declared.writes.WriteTurn.TheVariants as turn
-use Rattle.weave_core.specs.declared.writes.Writing.{Writing as Write}
+use Rattle.core_store.specs.declared.store.Store.{Store}
+use Rattle.core_store.specs.declared.writes.WriteTurn.{WriteTurn}
+use Rattle.core_store.specs.declared.writes.WriteTurn.TheVariants as turn
+use Rattle.core_store.specs.declared.writes.Writing.{Writing as Write}
 use Rattle.write_core.specs.Events.{Goes}
 use Rattle.write_core.specs.Program.{Acking, Ended, Entering, Inside, Locking, Marked, Reserving, Stage, after, ask_of}
 use Rattle.write_core.specs.Program.{end_of_verdict, entering, reserving}

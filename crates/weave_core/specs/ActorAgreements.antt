@@ -10,27 +10,29 @@ use Rattle.query_core.specs.Askings.{IsAskedOf}
 use Rattle.query_core.specs.Machine.{new_query}
 use Rattle.query_core.specs.Program as query
 use Rattle.query_core.specs.declared.asks.Ask.TheVariants as query_ask
-use Rattle.weave_core.specs.Agreements.{AreShared, first_view}
+use Rattle.core_store.specs.Agreements.{AreShared, first_view}
 use Rattle.core_theory.specs.Core.{Reader, asked_now, query_now}
-use Rattle.core_theory.specs.Holders.{AreHolders}
+use Rattle.core_store.specs.Holders.{AreHolders}
 use Rattle.core_theory.specs.Licensed.{IsWoven}
 use Rattle.weave_core.specs.PlannedQueries.{IsPlanned}
 use Rattle.mon_topo.specs.Sights.{sight_of}
 use Rattle.mon_value.specs.Parts.{is_any}
-use Rattle.weave_core.specs.Recoverers.{IsRecovererSo}
+use Rattle.core_store.specs.Recoverers.{IsRecovererSo}
 use Rattle.weave_core.specs.States.{Asking, Dismissed, Eventless, Recovering, Role, State, Switching, Undeclared}
-use Rattle.weave_core.specs.States.{Writing, copy_asks, recovers_begun, store_of, write_asks, writes_begun}
-use Rattle.weave_core.specs.Writers.{IsWriterSo}
+use Rattle.weave_core.specs.States.{Writing}
+use Rattle.core_store.specs.NextAsks.{copy_asks, recovers_begun, write_asks, writes_begun}
+use Rattle.core_store.specs.Agreements.{store_of}
+use Rattle.core_store.specs.Writers.{IsWriterSo}
 use Rattle.weave_core.specs.declared.actors.Actor.{Actor}
 use Rattle.weave_core.specs.declared.actors.Task.{Task}
 use Rattle.weave_core.specs.declared.actors.Task.TheVariants as task
-use Rattle.weave_core.specs.declared.limits.TheConstants.{LAST_ACTOR}
+use Rattle.schedule_lines.specs.declared.limits.TheConstants.{LAST_ACTOR}
 use Rattle.weave_core.specs.declared.queries.Querying.{Querying}
-use Rattle.weave_core.specs.declared.recoveries.Recovering.{Recovering as Recovery}
+use Rattle.core_store.specs.declared.recoveries.Recovering.{Recovering as Recovery}
 use Rattle.mon_topo.specs.declared.sights.Sight.{Sight}
-use Rattle.weave_core.specs.declared.switches.Switching.{Switching as Switch}
+use Rattle.core_store.specs.declared.switches.Switching.{Switching as Switch}
 use Rattle.weave_core.specs.declared.weave.Weave.{Weave}
-use Rattle.weave_core.specs.declared.writes.Writing.{Writing as Write}
+use Rattle.core_store.specs.declared.writes.Writing.{Writing as Write}
 use Rattle.write_core.specs.CopyPhases.{copy_ask_of}
 use Rattle.write_core.specs.Program as write
 use Rattle.write_core.specs.World.{Actor as Doer, Stands, view_of}

@@ -3,28 +3,29 @@ use Rattle.std.specs.Prelude.{ℕ, ◌≡◌, true, Bool, List, Option, Some, No
 use Rattle.mon_config.specs.declared.config.Config.{Config}
 use Rattle.mon_topo.specs.declared.zones.ZoneSpec.{ZoneSpec}
 use Rattle.weave_core.specs.ActorAgreements.{IsActorSo}
-use Rattle.weave_core.specs.Agreements.{AreShared}
+use Rattle.core_store.specs.Agreements.{AreShared}
 use Rattle.weave_core.specs.EndTexts.{query_text, recover_text, switch_text, write_end_text}
-use Rattle.core_theory.specs.Holders.{AreHolders}
+use Rattle.core_store.specs.Holders.{AreHolders}
 use Rattle.core_theory.specs.Licensed.{IsWoven}
-use Rattle.weave_core.specs.States.{State, step_fault, store_of}
+use Rattle.weave_core.specs.States.{State, step_fault}
+use Rattle.core_store.specs.Agreements.{store_of}
 use Rattle.weave_core.specs.Steps.{Steps}
 use Rattle.weave_core.specs.declared.actors.Actor.{Actor}
 use Rattle.weave_core.specs.declared.actors.Task.TheVariants as task
-use Rattle.weave_core.specs.declared.calls.Stepped.{Stepped}
-use Rattle.weave_core.specs.declared.calls.Stepped.TheVariants as stepped
-use Rattle.weave_core.specs.declared.calls.WeaveFault.TheVariants.{Finished}
+use Rattle.weave_core.specs.declared.stepped.Stepped.{Stepped}
+use Rattle.weave_core.specs.declared.stepped.Stepped.TheVariants as stepped
+use Rattle.schedule_lines.specs.declared.calls.WeaveFault.TheVariants.{Finished}
 use Rattle.weave_core.specs.declared.queries.QueryTurn.{QueryTurn}
 use Rattle.weave_core.specs.declared.queries.QueryTurn.TheVariants as query_turn
-use Rattle.weave_core.specs.declared.recoveries.RecoverTurn.{RecoverTurn}
-use Rattle.weave_core.specs.declared.recoveries.RecoverTurn.TheVariants as recover_turn
+use Rattle.core_store.specs.declared.recoveries.RecoverTurn.{RecoverTurn}
+use Rattle.core_store.specs.declared.recoveries.RecoverTurn.TheVariants as recover_turn
 use Rattle.mon_topo.specs.declared.sights.Sight.{Sight}
-use Rattle.weave_core.specs.Switches.{switch_told}
-use Rattle.weave_core.specs.declared.store.Store.{Store}
-use Rattle.weave_core.specs.declared.switches.Switched.{Switched}
-use Rattle.weave_core.specs.declared.switches.Switching.{Switching}
-use Rattle.weave_core.specs.declared.writes.WriteTurn.{WriteTurn}
-use Rattle.weave_core.specs.declared.writes.WriteTurn.TheVariants as write_turn
+use Rattle.core_store.specs.Switches.{switch_told}
+use Rattle.core_store.specs.declared.store.Store.{Store}
+use Rattle.core_store.specs.declared.switches.Switched.{Switched}
+use Rattle.core_store.specs.declared.switches.Switching.{Switching}
+use Rattle.core_store.specs.declared.writes.WriteTurn.{WriteTurn}
+use Rattle.core_store.specs.declared.writes.WriteTurn.TheVariants as write_turn
 
 -- ---- an actor and what its step came to, by the turn of its recovery, of its write or of its query
 

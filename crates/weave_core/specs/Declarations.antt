@@ -7,7 +7,7 @@ use Rattle.mon_topo.specs.Settings.{Setting}
 use Rattle.mon_value.specs.declared.positions.Leaf.{Leaf}
 use Rattle.mon_value.specs.declared.positions.Range.{Range}
 use Rattle.mon_value.specs.declared.rows.Row.{Row}
-use Rattle.mql_types.specs.Nodes.{TypedTree}
+use Rattle.typed_trees.specs.Nodes.{TypedTree}
 use Rattle.plan_split.specs.FetchFormulas.{plan_formulas}
 use Rattle.query_core.specs.Askings.{IsAskedOf}
 use Rattle.query_core.specs.Machine.{new_query}
@@ -18,10 +18,11 @@ use Rattle.query_texts.specs.TextTypes.{text_type}
 use Rattle.query_texts.specs.declared.faults.TextFault.{TextFault}
 use Rattle.weave_core.specs.EndTexts.{no_plan_line, no_zone_line}
 use Rattle.weave_core.specs.States.{Asking, Dismissed, Eventless, Recovering, Role, State, Switching, Undeclared}
-use Rattle.weave_core.specs.States.{Writing, actor_at, store_of, view_at}
+use Rattle.weave_core.specs.States.{Writing, actor_at, view_at}
+use Rattle.core_store.specs.Agreements.{store_of}
 use Rattle.weave_core.specs.Steps.{with_event, with_role}
-use Rattle.weave_core.specs.declared.calls.Call.{Call}
-use Rattle.weave_core.specs.declared.calls.Call.TheVariants as call
+use Rattle.schedule_lines.specs.declared.calls.Call.{Call}
+use Rattle.schedule_lines.specs.declared.calls.Call.TheVariants as call
 use Rattle.write_core.specs.Events.{Aims, Begins, Learns}
 use Rattle.mon_topo.specs.Views.{View}
 use Rattle.write_core.specs.World.{with_value_at, view_of}

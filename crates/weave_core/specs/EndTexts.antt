@@ -1,12 +1,14 @@
 -- What an actor prints that ends.
-use Rattle.std.specs.Prelude.{ℕ, Bool, List, ◌++◌, codes, length, Result, Ok, Err, if◌then◌else◌}
+use Rattle.std.specs.Prelude.{ℕ, Bool, List, ◌++◌, codes, length, Result, Ok, Err}
 use Rattle.std.specs.Fmt.{decimal}
+use Rattle.mon_script.specs.Controls.{control_refusal_text, recovered_text, source_down_text, switched_text}
+use Rattle.mon_script.specs.declared.control_texts.ControlRefusal.{ControlRefusal}
+use Rattle.mon_script.specs.declared.control_texts.ControlRefusal.TheVariants as control
 use Rattle.mon_table.specs.Tables.{newline, printed_table}
-use Rattle.mon_topo.specs.Zones.{down_text, founds_text, leaf_text, range_text}
+use Rattle.mon_topo.specs.Zones.{down_text}
 use Rattle.mon_topo.specs.declared.zones.ZoneSpec.{ZoneSpec}
 use Rattle.mon_value.specs.declared.positions.Leaf.{Leaf}
 use Rattle.mon_value.specs.declared.positions.Range.{Range}
-use Rattle.mon_value.specs.declared.positions.Slot.{Slot}
 use Rattle.query_core.specs.FaultTexts.{round_fault_text}
 use Rattle.query_core.specs.declared.answers.Answer.{Answer}
 use Rattle.query_core.specs.declared.answers.RoundFault.{RoundFault}
@@ -37,40 +39,24 @@ write_end_text zones range (end.Unavailable founds) =
     refused_line (codes "Unavailable " ++ down_text zones range founds)
 
 -- a leaf went down, or came up, or why it did not
-abbrev pub switch_word : Bool → List ℕ
-switch_word down = if down then codes "down" else codes "up"
-
-abbrev pub switch_done : List ZoneSpec → Leaf → Bool → List ℕ
-switch_done zones leaf down =
-    switch_word down
-    ++ (codes " " ++ (leaf_text zones leaf ++ (codes ": done" ++ newline)))
-
 abbrev pub switch_text : List ZoneSpec → Leaf → Bool → SwitchTold → List ℕ
-switch_text zones leaf down (WasSwitched cut) = switch_done zones leaf down
-switch_text zones leaf down (WasDownAlready cut) = refused_line (codes "AlreadyDown " ++ decimal cut)
-switch_text zones leaf down (WasUpAlready cut) = refused_line (codes "AlreadyUp " ++ decimal cut)
-switch_text zones leaf down (SwitchesSpent count) = refused_line (codes "SwitchesSpent " ++ decimal count)
+switch_text zones leaf down (WasSwitched cut) = switched_text zones leaf down
+switch_text zones leaf down (WasDownAlready cut) = refused_line (control_refusal_text (control.AlreadyDown cut))
+switch_text zones leaf down (WasUpAlready cut) = refused_line (control_refusal_text (control.AlreadyUp cut))
+switch_text zones leaf down (SwitchesSpent count) = refused_line (control_refusal_text (control.SwitchesSpent count))
 
--- a range was recovered onto a leaf, in this slot
-abbrev pub opened_line : List ZoneSpec → Range → Leaf → Slot → List ℕ
-opened_line zones range leaf slot =
-    codes "recover "
-    ++ (range_text zones range
-    ++ (codes " "
-    ++ (leaf_text zones leaf ++ (codes ": slot " ++ (decimal slot.0 ++ newline)))))
+-- why a range opens no replica on a leaf
+abbrev pub denial_told : Denial → ControlRefusal
+denial_told (ServesThere slot) = control.Serving slot
+denial_told ServesFully = control.ThreeServing
+denial_told (SlotsSpent count) = control.SlotsSpent count
 
--- or the range opens no replica there
-abbrev pub denied_line : Denial → List ℕ
-denied_line (ServesThere slot) = refused_line (codes "Serving " ++ decimal slot.0)
-denied_line ServesFully = refused_line (codes "ThreeServing")
-denied_line (SlotsSpent count) = refused_line (codes "SlotsSpent " ++ decimal count)
-
--- how a recovery came out
+-- how a recovery of a range onto a leaf came out
 abbrev pub recover_text : List ZoneSpec → Range → Leaf → Outcome → List ℕ
-recover_text zones range leaf (Opens slot) = opened_line zones range leaf slot
-recover_text zones range leaf (Denied why) = denied_line why
-recover_text zones range leaf (NoSource founds) = refused_line (codes "SourceDown:" ++ founds_text zones founds)
-recover_text zones range leaf (NoTarget cut) = refused_line (codes "TargetDown " ++ decimal cut)
+recover_text zones range leaf (Opens slot) = recovered_text zones range leaf slot
+recover_text zones range leaf (Denied why) = refused_line (control_refusal_text (denial_told why))
+recover_text zones range leaf (NoSource founds) = refused_line (source_down_text zones founds)
+recover_text zones range leaf (NoTarget cut) = refused_line (control_refusal_text (control.TargetDown cut))
 
 -- a write of a row whose location no zone lists
 abbrev pub no_zone_line : List ℕ

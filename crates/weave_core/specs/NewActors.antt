@@ -12,10 +12,10 @@ use Rattle.mon_topo.specs.Sights.{joined_sight}
 use Rattle.weave_core.specs.declared.actors.Actor.{Actor}
 use Rattle.weave_core.specs.declared.actors.Task.{Task}
 use Rattle.weave_core.specs.declared.actors.Task.TheVariants as task
-use Rattle.weave_core.specs.declared.calls.Call.{Call}
-use Rattle.weave_core.specs.declared.calls.Call.TheVariants as call
+use Rattle.schedule_lines.specs.declared.calls.Call.{Call}
+use Rattle.schedule_lines.specs.declared.calls.Call.TheVariants as call
 use Rattle.mon_topo.specs.declared.sights.Sight.{Sight}
-use Rattle.weave_core.specs.declared.writes.Writing.{Writing}
+use Rattle.core_store.specs.declared.writes.Writing.{Writing}
 use Rattle.write_core.specs.Program.{new_write}
 use Rattle.write_core.specs.Recovering.{Beginning}
 

@@ -9,28 +9,22 @@ use Rattle.mon_value.specs.declared.positions.Leaf.{Leaf}
 use Rattle.mon_value.specs.declared.positions.Range.{Range}
 use Rattle.mon_value.specs.declared.positions.RangeSlot.{RangeSlot}
 use Rattle.mon_value.specs.declared.positions.SlotLeaf.{SlotLeaf}
-use Rattle.mql_types.specs.Nodes.{typed_tree}
-use Rattle.mql_types.specs.declared.plans.Plan.{Plan}
+use Rattle.typed_trees.specs.Nodes.{typed_tree}
+use Rattle.typed_trees.specs.declared.plans.Plan.{Plan}
 use Rattle.query_core.specs.Machine.{slots_of}
 use Rattle.query_core.specs.SeenSights.{seen_of}
 use Rattle.mon_meaning.specs.ReadableSlots.{CanBeRead}
 use Rattle.mon_topo.specs.RangeHistories.{first_serving}
 use Rattle.query_core.specs.declared.asks.Told.{Told}
 use Rattle.query_core.specs.declared.asks.Told.TheVariants as told
-use Rattle.core_theory.specs.Meetings.{sight_at_leaf, sight_at_range}
+use Rattle.core_store.specs.Meetings.{sight_at_leaf, sight_at_range}
 use Rattle.mon_topo.specs.Sights.{AreAlike}
-use Rattle.weave_core.specs.WriteEvents.{ChangesLeaf, ChangesRange, StaysThere}
-use Rattle.weave_core.specs.declared.leaves.LeafSeat.{LeafSeat}
+use Rattle.core_store.specs.WriteEvents.{ChangesLeaf, ChangesRange, IsHeldFrom, StaysThere}
+use Rattle.core_store.specs.declared.leaves.LeafSeat.{LeafSeat}
 use Rattle.weave_core.specs.declared.queries.Querying.{Querying}
-use Rattle.weave_core.specs.declared.ranges.RangeSeat.{RangeSeat}
+use Rattle.core_store.specs.declared.ranges.RangeSeat.{RangeSeat}
 use Rattle.mon_topo.specs.declared.sights.Sight.{Sight}
-use Rattle.weave_core.specs.declared.store.Store.{Store}
-
--- someone holds the seat, so nothing changes
-pub record IsHeldFrom {Seat : Type 0} (holder : Option ℕ) (old new : Seat) (sight sight_after : Sight) : Type 0 where
-  pub held : is_some holder ≡ true
-  pub seat : new ≡ old
-  pub seen : sight_after ≡ sight
+use Rattle.core_store.specs.declared.store.Store.{Store}
 
 -- ---- at a range
 

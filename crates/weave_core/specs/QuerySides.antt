@@ -8,9 +8,9 @@ use Rattle.query_core.specs.declared.asks.Ask.{Ask}
 use Rattle.query_core.specs.declared.asks.Told.{Told}
 use Rattle.core_theory.specs.Core.{Core}
 use Rattle.weave_core.specs.QueryTurns.{AnswersSo, IsAskedSomewhere, IsAsking}
-use Rattle.weave_core.specs.States.{store_of}
+use Rattle.core_store.specs.Agreements.{store_of}
 use Rattle.weave_core.specs.declared.queries.Querying.{Querying}
-use Rattle.weave_core.specs.declared.store.Store.{Store}
+use Rattle.core_store.specs.declared.store.Store.{Store}
 
 abbrev pub querying_of : Query → ℤ → Querying
 querying_of machine moment = record { moment = moment; machine = machine }

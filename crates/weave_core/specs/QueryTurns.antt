@@ -11,19 +11,20 @@ use Rattle.query_core.specs.declared.asks.Told.{Told}
 use Rattle.query_core.specs.declared.stages.Stage.{Stage}
 use Rattle.query_core.specs.declared.stages.Stage.TheVariants as at
 use Rattle.weave_core.specs.ActorAgreements.{IsReaderSo}
-use Rattle.weave_core.specs.Agreements.{AreShared}
+use Rattle.core_store.specs.Agreements.{AreShared}
 use Rattle.core_theory.specs.Core.{CanCome, Core, IsTold, Reader, Tells, asked_now, came, query_now, view_told}
 use Rattle.core_theory.specs.Core.{world_told}
-use Rattle.core_theory.specs.Holders.{AreHolders}
+use Rattle.core_store.specs.Holders.{AreHolders}
 use Rattle.core_theory.specs.Licensed.{IsWoven}
 use Rattle.weave_core.specs.PlannedQueries.{IsPlanned}
 use Rattle.mon_topo.specs.Sights.{sight_of}
-use Rattle.weave_core.specs.States.{holder_for_query, store_of}
+use Rattle.weave_core.specs.States.{holder_for_query}
+use Rattle.core_store.specs.Agreements.{store_of}
 use Rattle.weave_core.specs.declared.queries.QueryTurn.{QueryTurn}
 use Rattle.weave_core.specs.declared.queries.QueryTurn.TheVariants as turn
 use Rattle.weave_core.specs.declared.queries.Querying.{Querying}
 use Rattle.mon_topo.specs.declared.sights.Sight.{Sight}
-use Rattle.weave_core.specs.declared.store.Store.{Store}
+use Rattle.core_store.specs.declared.store.Store.{Store}
 use Rattle.write_core.specs.World.{Stands, view_of}
 
 -- a store and a query that has not ended are as in a core of which all holds that every interleaving keeps

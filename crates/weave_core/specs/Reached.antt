@@ -12,10 +12,11 @@ use Rattle.query_core.specs.declared.answers.RoundFault.TheVariants as fault
 use Rattle.query_core.specs.declared.answers.Trace.{Trace}
 use Rattle.query_core.specs.declared.stages.Stage.TheVariants as at
 use Rattle.core_theory.specs.Core.{Reader, query_now}
-use Rattle.weave_core.specs.LawfulLines.{IsLawfulForm}
+use Rattle.schedule_lines.specs.LawfulLines.{IsLawfulForm}
 use Rattle.weave_core.specs.Schedules.{Does, line_fault}
-use Rattle.weave_core.specs.States.{State, store_of}
-use Rattle.weave_core.specs.declared.lines.LineForm.{LineForm}
+use Rattle.weave_core.specs.States.{State}
+use Rattle.core_store.specs.Agreements.{store_of}
+use Rattle.schedule_lines.specs.declared.lines.LineForm.{LineForm}
 
 module _ (config : Config) where
   -- a line that is not refused leads from one state to another

@@ -5,15 +5,16 @@ use Rattle.mon_script.specs.Lines.{lines_of}
 use Rattle.mon_value.specs.declared.refusals.Refusal.{Refusal}
 use Rattle.mon_value.specs.declared.refusals.Refusal.TheVariants as refusal
 use Rattle.weave_core.specs.ActorAgreements.{Agrees}
-use Rattle.weave_core.specs.ScheduleLines.{schedule_form}
+use Rattle.schedule_lines.specs.ScheduleLines.{schedule_form}
 use Rattle.weave_core.specs.Schedules.{Does, ActorGoesOn, Printed, RunsFrom, line_fault, said_before}
-use Rattle.weave_core.specs.States.{State, step_fault, store_of}
-use Rattle.weave_core.specs.declared.calls.ScheduleFault.{ScheduleFault}
-use Rattle.weave_core.specs.declared.calls.Stepped.{Stepped}
-use Rattle.weave_core.specs.declared.calls.WeaveFault.{WeaveFault}
-use Rattle.weave_core.specs.declared.calls.WeaveFault.TheVariants as fault
-use Rattle.weave_core.specs.declared.events.Event.{Event}
-use Rattle.weave_core.specs.declared.lines.LineForm.{LineForm}
+use Rattle.weave_core.specs.States.{State, step_fault}
+use Rattle.core_store.specs.Agreements.{store_of}
+use Rattle.schedule_lines.specs.declared.calls.ScheduleFault.{ScheduleFault}
+use Rattle.weave_core.specs.declared.stepped.Stepped.{Stepped}
+use Rattle.schedule_lines.specs.declared.calls.WeaveFault.{WeaveFault}
+use Rattle.schedule_lines.specs.declared.calls.WeaveFault.TheVariants as fault
+use Rattle.schedule_lines.specs.declared.events.Event.{Event}
+use Rattle.schedule_lines.specs.declared.lines.LineForm.{LineForm}
 use Rattle.weave_core.specs.declared.weave.Weave.{Weave}
 
 module _ (config : Config) (state : State (store_of config)) where

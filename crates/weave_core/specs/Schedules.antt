@@ -12,33 +12,22 @@ use Rattle.mon_value.specs.declared.refusals.Refusal.TheVariants as refusal
 use Rattle.weave_core.specs.Declarations.{Declares, Meets}
 use Rattle.mon_topo.specs.HeldHistories.{first_histories}
 use Rattle.core_theory.specs.Licensed.{IsNewCore}
-use Rattle.weave_core.specs.ScheduleLines.{schedule_form}
+use Rattle.schedule_lines.specs.ScheduleLines.{schedule_form}
 use Rattle.weave_core.specs.States.{State, Undeclared, has_begun, has_ended, is_declared, next_event, step_fault}
-use Rattle.weave_core.specs.States.{store_of}
+use Rattle.core_store.specs.Agreements.{store_of}
 use Rattle.weave_core.specs.Steps.{Steps}
-use Rattle.weave_core.specs.declared.calls.ScheduleFault.{ScheduleFault}
-use Rattle.weave_core.specs.declared.calls.Stepped.{Stepped}
-use Rattle.weave_core.specs.declared.calls.Stepped.TheVariants as stepped
-use Rattle.weave_core.specs.declared.calls.WeaveFault.{WeaveFault}
-use Rattle.weave_core.specs.declared.calls.WeaveFault.TheVariants as fault
-use Rattle.weave_core.specs.declared.events.Event.{Event}
-use Rattle.weave_core.specs.declared.limits.TheConstants.{LAST_ACTOR, MOST_EVENTS, MOST_LINES}
-use Rattle.weave_core.specs.declared.lines.LineForm.{LineForm}
-use Rattle.weave_core.specs.declared.lines.LineForm.TheVariants as form
+use Rattle.schedule_lines.specs.declared.calls.ScheduleFault.{ScheduleFault}
+use Rattle.weave_core.specs.declared.stepped.Stepped.{Stepped}
+use Rattle.weave_core.specs.declared.stepped.Stepped.TheVariants as stepped
+use Rattle.schedule_lines.specs.declared.calls.WeaveFault.{WeaveFault}
+use Rattle.schedule_lines.specs.declared.calls.WeaveFault.TheVariants as fault
+use Rattle.schedule_lines.specs.declared.events.Event.{Event}
+use Rattle.schedule_lines.specs.declared.limits.TheConstants.{LAST_ACTOR, MOST_EVENTS, MOST_LINES}
+use Rattle.schedule_lines.specs.declared.lines.LineForm.{LineForm}
+use Rattle.schedule_lines.specs.declared.lines.LineForm.TheVariants as form
 use Rattle.write_core.specs.World.{Stands}
 
 -- ---- texts
-
--- why a line is refused
-abbrev pub weave_fault_text : WeaveFault → List ℕ
-weave_fault_text fault.NoActor = codes "NoActor"
-weave_fault_text fault.Finished = codes "Finished"
-weave_fault_text fault.BadLine = codes "BadLine"
-
--- the line that is refused, and why
-abbrev pub schedule_fault_text : ScheduleFault → List ℕ
-schedule_fault_text refused =
-    codes "line " ++ (decimal refused.line ++ (codes ": " ++ weave_fault_text refused.fault))
 
 -- what a line prints whose actor stepped last so
 abbrev pub stepped_text : ℕ → Stepped → List ℕ

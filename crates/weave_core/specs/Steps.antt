@@ -10,8 +10,8 @@ use Rattle.core_theory.specs.Core.{CanCome, CoreEvent, Happens, Tells, came, que
 use Rattle.weave_core.specs.EndTexts.{query_text, recover_text, switch_text, write_end_text}
 use Rattle.weave_core.specs.States.{Asking, Dismissed, Eventless, Recovering, Role, State, Switching, Undeclared}
 use Rattle.weave_core.specs.States.{Writing, holder_at}
-use Rattle.weave_core.specs.declared.calls.Stepped.{Stepped}
-use Rattle.weave_core.specs.declared.calls.Stepped.TheVariants as stepped
+use Rattle.weave_core.specs.declared.stepped.Stepped.{Stepped}
+use Rattle.weave_core.specs.declared.stepped.Stepped.TheVariants as stepped
 use Rattle.write_core.specs.Events.{Copies, Goes, SwitchTold, Switches}
 use Rattle.write_core.specs.Program.{Acking, Ended, Entering, Inside, Locking, Reserving, end_of_verdict}
 use Rattle.write_core.specs.Program as write

@@ -1,11 +1,11 @@
 -- What an actor tells of itself: its next event, and whether it has ended.
 use Rattle.std.specs.Prelude.{Bool, true, false, Option, Some, None}
 use Rattle.query_core.specs.Program as query
-use Rattle.weave_core.specs.EventNames.{event_of_copy, event_of_query, event_of_write}
+use Rattle.weave_core.specs.AskedEvents.{event_of_copy, event_of_query, event_of_write}
 use Rattle.weave_core.specs.declared.actors.Task.{Task}
 use Rattle.weave_core.specs.declared.actors.Task.TheVariants as task
-use Rattle.weave_core.specs.declared.events.Event.{Event}
-use Rattle.weave_core.specs.declared.events.Event.TheVariants as event
+use Rattle.schedule_lines.specs.declared.events.Event.{Event}
+use Rattle.schedule_lines.specs.declared.events.Event.TheVariants as event
 use Rattle.write_core.specs.CopyPhases.{copy_ask_of}
 use Rattle.write_core.specs.Program as write
 

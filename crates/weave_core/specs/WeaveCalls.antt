@@ -5,13 +5,14 @@ use Rattle.mon_value.specs.declared.refusals.Refusal.{Refusal}
 use Rattle.mon_value.specs.declared.refusals.Refusal.TheVariants as refusal
 use Rattle.weave_core.specs.ActorAgreements.{Agrees}
 use Rattle.weave_core.specs.Declarations.{Declares, Meets}
-use Rattle.weave_core.specs.LawfulLines.{IsLawfulCall}
+use Rattle.schedule_lines.specs.LawfulLines.{IsLawfulCall}
 use Rattle.weave_core.specs.Schedules.{IsFirstState, declare_fault}
-use Rattle.weave_core.specs.States.{State, step_fault, store_of}
+use Rattle.weave_core.specs.States.{State, step_fault}
+use Rattle.core_store.specs.Agreements.{store_of}
 use Rattle.weave_core.specs.Steps.{Steps}
-use Rattle.weave_core.specs.declared.calls.Call.{Call}
-use Rattle.weave_core.specs.declared.calls.Stepped.{Stepped}
-use Rattle.weave_core.specs.declared.calls.WeaveFault.{WeaveFault}
+use Rattle.schedule_lines.specs.declared.calls.Call.{Call}
+use Rattle.weave_core.specs.declared.stepped.Stepped.{Stepped}
+use Rattle.schedule_lines.specs.declared.calls.WeaveFault.{WeaveFault}
 use Rattle.weave_core.specs.declared.weave.Weave.{Weave}
 
 -- there is such a core: what every call asks for that is not the first, and leaves unless memory ran out

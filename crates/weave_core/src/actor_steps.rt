@@ -3,17 +3,15 @@ ghost use Rattle.std.specs.Prelude.{◌≡◌, ℕ, IfOk};
 ghost use Rattle.mon_config.specs.declared.config.Config.{Config as ConfigOf};
 ghost use Rattle.weave_core.specs.ActorSteps.{ActorSteps, IsIn, IsSomewhere, QueriedSo, RecoveredSo, SwitchedSo};
 ghost use Rattle.weave_core.specs.ActorSteps.{WrittenSo};
-ghost use Rattle.weave_core.specs.States.{State, store_of};
+ghost use Rattle.weave_core.specs.States.{State};
+ghost use Rattle.core_store.specs.Agreements.{store_of};
 ghost use Rattle.weave_core.specs.declared.actors.Task.TheVariants.{Ended};
 
 use crate::actors::{Actor, Task};
-use crate::calls::Stepped;
-use crate::queries::QueryTurn;
-use crate::recoveries::RecoverTurn;
-use crate::store::Store;
-use crate::switches::{Switched, Switching};
+use crate::queries::{QueryTurn, query};
+use crate::stepped::Stepped;
 use crate::texts::{query_text, recover_text, switch_text, write_end_text};
-use crate::writes::WriteTurn;
+use core_store::{RecoverTurn, Store, Switched, Switching, WriteTurn};
 use mon_topo::Sight;
 use mon_value::OutOfMemory;
 
@@ -45,7 +43,7 @@ pub(crate) fn step_actor(
             written(store, turn, sight, begun)
         }
         Task::Queries(querying) => {
-            let turn = store.query(querying, &mut sight)?;
+            let turn = query(store, querying, &mut sight)?;
             queried(store, turn, sight, begun)
         }
     }

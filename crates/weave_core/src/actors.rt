@@ -1,21 +1,18 @@
 // Actors: writes, queries, switches and recoveries on their way.
 ghost use Rattle.std.specs.Prelude.{◌≡◌, ◌||◌, None, IfOk};
-ghost use Rattle.weave_core.specs.Agreements.{IsServed};
+ghost use Rattle.core_store.specs.Agreements.{IsServed};
 ghost use Rattle.weave_core.specs.Tasks.{event_of, is_over};
 ghost use Rattle.weave_core.specs.NewActors.{IsTaskOf, IsDeclaredActor, IsWriteTask};
 ghost use Rattle.write_core.specs.Program.{new_write as machine_of};
 
-use crate::calls::Call;
-use crate::events::{Event, event_of_copy, event_of_query, event_of_write};
+use crate::asked_events::{event_of_copy, event_of_query, event_of_write};
 use crate::queries::Querying;
 use crate::query_plans::query_task;
-use crate::recoveries::Recovering;
-use crate::store::Store;
-use crate::switches::Switching;
 use crate::texts::no_zone;
-use crate::writes::Writing;
+use core_store::{Recovering, Store, Switching, Writing};
 use mon_topo::Sight;
 use mon_value::{OutOfMemory, Range, Row, Text, TryCopy};
+use schedule_lines::{Call, Event};
 use std::alloc::Global;
 use write_core::{CopyMachine, WriteMachine};
 

@@ -1,13 +1,16 @@
 // The events of a query.
-ghost use Rattle.std.specs.Prelude.{◌≡◌, ℕ, IfOk};
+ghost use Rattle.std.specs.Prelude.{◌≡◌, ◌≢◌, ℕ, IfOk};
 ghost use Rattle.mon_config.specs.declared.config.Config.{Config as ConfigOf};
 ghost use Rattle.query_core.specs.Mixtures.{MayBeTold};
+ghost use Rattle.query_core.specs.Program.{ask_of};
+ghost use Rattle.query_core.specs.declared.asks.Ask.TheVariants.{Finished};
 ghost use Rattle.core_theory.specs.Core.{Core};
+ghost use Rattle.weave_core.specs.QuerySides.{IsAskedThere, TellsThere};
 ghost use Rattle.weave_core.specs.QueryTurns.{IsAskedSomewhere, IsAsking, IsTurnOf, QueriesSo, TurnsBy};
-ghost use Rattle.weave_core.specs.States.{store_of};
+ghost use Rattle.core_store.specs.Agreements.{store_of};
 
 use crate::query_looks::{find, look};
-use crate::store::Store;
+use core_store::Store;
 use mon_hints::Place;
 use mon_topo::Sight;
 use mon_value::{Leaf, OutOfMemory, Range};
@@ -28,42 +31,65 @@ pub(crate) enum QueryTurn {
     Ended(Result<Answer, RoundFault>),
 }
 
-impl Store {
-    /// Does the next event of a query that has seen so much, unless someone else is in its way.
-    pub(crate) fn query(
-        &mut self,
-        querying: Querying,
-        sight: &mut Sight,
-    ) -> Result<QueryTurn, OutOfMemory>
-        requires asking { IsAskedSomewhere self.old querying sight.old }
-        ensures turn { (config : ConfigOf) (core : Core (store_of config)) (k : ℕ)
-            → IsAsking config core k self.old querying sight.old
-            → IfOk result (QueriesSo config core k querying self.new sight.old sight.new) }
-    {
-        match find_next(self, sight, &querying.machine, querying.moment) {
-            Ok(Some(told)) => told_on(querying, told),
-            Ok(None) => Ok(QueryTurn::Waits(querying)),
-            Err(fault) => {
-                drop(querying);
-                Err(fault)
-            }
+/// Does the next event of a query that has seen so much, unless someone else is in its way.
+pub(crate) fn query(
+    store: &mut Store,
+    querying: Querying,
+    sight: &mut Sight,
+) -> Result<QueryTurn, OutOfMemory>
+    requires asking { IsAskedSomewhere store.old querying sight.old }
+    ensures turn { (config : ConfigOf) (core : Core (store_of config)) (k : ℕ)
+        → IsAsking config core k store.old querying sight.old
+        → IfOk result (QueriesSo config core k querying store.new sight.old sight.new) }
+{
+    match find_there(store, sight, &querying.machine, querying.moment) {
+        Ok(Some(told)) => told_on(querying, told),
+        Ok(None) => Ok(QueryTurn::Waits(querying)),
+        Err(fault) => {
+            drop(querying);
+            Err(fault)
         }
     }
 }
 
-/// A query's caller looks for itself, and has seen so much. It finds nothing where someone else is in its way.
-impl QuerySide for Store {
+// What a store tells of the next event of a query.
+fn find_there(
+    store: &mut Store,
+    sight: &mut Sight,
+    machine: &QueryMachine,
+    moment: i64,
+) -> Result<Option<Told>, OutOfMemory>
+    requires goes_on { ask_of machine.now.setting machine.now.stage ≢ Finished }
+    requires asked { IsAskedThere store.old sight.old machine.now moment
+        (ask_of machine.now.setting machine.now.stage) }
+    ensures told { IfOk result (λ found. TellsThere store.old sight.old machine.now moment
+        (ask_of machine.now.setting machine.now.stage) found store.new sight.new) }
+{
+    let mut side = StoreSide { store };
+    find_next(&mut side, sight, machine, moment)
+}
+
+// A store, as the queries of actors ask it.
+#[derive(Drop)]
+struct StoreSide<'s> {
+    store: &'s mut Store,
+}
+
+// A query's caller looks for itself, and has seen so much. It finds nothing where someone else is in its way.
+impl<'s> QuerySide for StoreSide<'s> {
+    ghost use Rattle.std.specs.Prelude.{◌≡◌};
     ghost use Rattle.weave_core.specs.QuerySides.{IsAskedThere, TellsThere};
 
     type Caller = Sight;
 
     type Found = Option<Told>;
 
-    ghost asks = { IsAskedThere };
+    ghost asks = { λ side sight query moment asked. IsAskedThere side.store.now sight query moment asked };
 
-    ghost tells = { TellsThere };
+    ghost tells = { λ side sight query moment asked found new now. TellsThere side.store.now sight query moment asked
+        found new.store.now now };
 
-    ghost leaves = { λ store sight new now. Unit {0} };
+    ghost leaves = { λ side sight new now. new.store.ghost_name ≡ side.store.ghost_name };
 
     fn load(
         &mut self,
@@ -73,8 +99,8 @@ impl QuerySide for Store {
         place: Place,
         bucket: u32,
     ) -> Result<Option<Told>, OutOfMemory> {
-        let seen = Seen::of(self.alloc, sight)?;
-        Ok(Some(Told::Word(self.words.word(place, bucket), seen)))
+        let seen = Seen::of(self.store.alloc, sight)?;
+        Ok(Some(Told::Word(self.store.words.word(place, bucket), seen)))
     }
 
     fn resolve(
@@ -84,7 +110,7 @@ impl QuerySide for Store {
         _moment: i64,
         range: Range,
     ) -> Result<Option<Told>, OutOfMemory> {
-        let seat = &mut self.ranges[range.0 as usize];
+        let seat = &mut self.store.ranges[range.0 as usize];
         Ok(find(seat, range, machine.avoided(), sight))
     }
 
@@ -95,9 +121,9 @@ impl QuerySide for Store {
         moment: i64,
         leaf: Leaf,
     ) -> Result<Option<Told>, OutOfMemory> {
-        let alloc = self.alloc;
-        let limit = self.config.limit;
-        let seat = &mut self.leaves[leaf.0 as usize];
+        let alloc = self.store.alloc;
+        let limit = self.store.config.limit;
+        let seat = &mut self.store.leaves[leaf.0 as usize];
         look(alloc, machine, moment, limit, seat, leaf, sight)
     }
 }

@@ -2,15 +2,14 @@
 ghost use Rattle.std.specs.Prelude.{◌≡◌, ◌≤◌, ◌≤ℤ◌, ◌<◌, ◌^◌, length, map, pos, IfOk, None};
 ghost use Rattle.mon_hints.specs.Formulas.{all_named, formula_tree, formulas, AreAmong};
 ghost use Rattle.mon_value.specs.declared.limits.TheConstants.{ROW_BITS};
-ghost use Rattle.mql_types.specs.Nodes.{typed_tree};
+ghost use Rattle.typed_trees.specs.Nodes.{typed_tree};
 ghost use Rattle.query_core.specs.Machine.{slots_of};
 ghost use Rattle.mon_meaning.specs.ReadableSlots.{CanBeRead};
 ghost use Rattle.weave_core.specs.QueryLooks as spec;
 ghost use Rattle.weave_core.specs.QueryLooks.{FindsIf, LooksIf};
 ghost use Rattle.mon_topo.specs.Sights.{AreAlike};
 
-use crate::leaves::LeafSeat;
-use crate::ranges::RangeSeat;
+use core_store::{LeafSeat, RangeSeat};
 use leaf_eval::{Visit, visit};
 use mon_topo::Sight;
 use mon_value::{Leaf, Leaves, OutOfMemory, Range, SlotLeaf};

@@ -1,12 +1,12 @@
 // The machine of a query's text.
 ghost use Rattle.std.specs.Prelude.{IfOk};
-ghost use Rattle.weave_core.specs.Agreements.{IsServed};
+ghost use Rattle.core_store.specs.Agreements.{IsServed};
 ghost use Rattle.weave_core.specs.QueryPlans.{IsMachineOf, IsQueryTask};
 
 use crate::actors::Task;
 use crate::queries::Querying;
-use crate::store::Store;
 use crate::texts::no_plan;
+use core_store::Store;
 use mon_config::Config;
 use mon_value::{OutOfMemory, Refusal, Text};
 use query_core::QueryMachine;

@@ -14,8 +14,9 @@ ghost use Rattle.core_theory.specs.Licensed.{IsWoven};
 ghost use Rattle.weave_core.specs.Reached.{AnsweredRightly, FoundNoneRightly, HasAnswered, HasFoundNone, HasStoppedSo};
 ghost use Rattle.weave_core.specs.Reached.{LinesLead, StoppedRightly, downs_heard};
 ghost use Rattle.weave_core.specs.Schedules.{IsFirstState};
-ghost use Rattle.weave_core.specs.States.{Asking, State, store_of};
-ghost use Rattle.weave_core.specs.declared.lines.LineForm.{LineForm as Form};
+ghost use Rattle.weave_core.specs.States.{Asking, State};
+ghost use Rattle.core_store.specs.Agreements.{store_of};
+ghost use Rattle.schedule_lines.specs.declared.lines.LineForm.{LineForm as Form};
 
 use core_theory::queries_answer_rightly;
 use query_core::ends_name_what_was_told;

@@ -3,20 +3,21 @@ ghost use Rattle.std.specs.Prelude.{◌≡◌, ◌++◌, ◌≤◌, [], true, fa
 ghost use Rattle.mon_config.specs.Numbers.{AreLawful};
 ghost use Rattle.mon_config.specs.declared.config.Config.{Config as ConfigOf};
 ghost use Rattle.weave_core.specs.ActorAgreements.{Agrees};
-ghost use Rattle.weave_core.specs.LawfulLines.{IsActorNumber, IsLawfulCall, IsLawfulForm};
+ghost use Rattle.schedule_lines.specs.LawfulLines.{IsActorNumber, IsLawfulCall, IsLawfulForm};
 ghost use Rattle.weave_core.specs.ScheduleTurns.{FormSo, GoesSo, LineSo, LinesSo, NumberedSo};
 ghost use Rattle.weave_core.specs.Schedules as spec;
-ghost use Rattle.weave_core.specs.States.{State, store_of};
+ghost use Rattle.weave_core.specs.States.{State};
+ghost use Rattle.core_store.specs.Agreements.{store_of};
 ghost use Rattle.weave_core.specs.WeaveCalls.{IsWeaveKept};
 
-use crate::calls::{Call, ScheduleFault, Stepped, WeaveFault};
-use crate::events::Event;
-use crate::limits::{LAST_ACTOR, MOST_EVENTS, MOST_LINES};
-use crate::lines::{LineForm, form_of};
+use crate::stepped::Stepped;
 use crate::weave::Weave;
 use mon_config::Config;
 use mon_script::{is_remark, next_line};
 use mon_value::{OutOfMemory, Refusal};
+use schedule_lines::{
+    Call, Event, LAST_ACTOR, LineForm, MOST_EVENTS, MOST_LINES, ScheduleFault, WeaveFault, form_of,
+};
 use std::alloc::Global;
 
 /// Runs the lines of a schedule over the store of a configuration, and adds what they print. The first line that is

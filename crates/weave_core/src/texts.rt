@@ -1,14 +1,16 @@
 // What an actor prints that ends.
 ghost use Rattle.std.specs.Prelude.{◌≡◌, IfOk, string_bytes};
+ghost use Rattle.mon_script.specs.Controls.{control_refusal_text, source_down_text};
 ghost use Rattle.query_core.specs.FaultTexts.{round_fault_text};
 ghost use Rattle.weave_core.specs.EndTexts as spec;
-ghost use Rattle.weave_core.specs.Switches.{switch_told};
+ghost use Rattle.core_store.specs.Switches.{switch_told};
 ghost use Rattle.write_core.specs.RangeAnswers.{refused_text};
 
-use crate::switches::{Switched, Switching};
+use core_store::{Switched, Switching};
+use mon_script::{ControlRefusal, recovered_text, source_down_text, switched_text};
 use mon_table::print;
-use mon_topo::{Topology, down_text, founds_text, leaf_text, range_text};
-use mon_value::{Leaf, OutOfMemory, Range, Slot, Text};
+use mon_topo::{Topology, down_text};
+use mon_value::{FoundDown, Leaf, OutOfMemory, Range, Text};
 use query_core::{Answer, RoundFault, fault_text};
 use query_texts::TextFault;
 use std::alloc::Global;
@@ -67,46 +69,19 @@ pub(crate) fn switch_text(
     ensures text { IfOk result (λ text.
         text ≡ spec.switch_text topology.now switching.leaf switching.down (switch_told came)) }
 {
-    Text::from_string(switch_line(alloc, topology, switching, came)?)
-}
-
-// The line of it.
-fn switch_line(
-    alloc: Global,
-    topology: &Topology,
-    switching: Switching,
-    came: Switched,
-) -> Result<String, OutOfMemory>
-    ensures line { IfOk result (λ line. string_bytes line
-        ≡ spec.switch_text topology.now switching.leaf switching.down (switch_told came)) }
-{
     match came {
-        Switched::Done(_) => done_line(alloc, topology, switching.leaf, switching.down),
-        Switched::AlreadyDown(cut) => format!(in alloc; "refused: AlreadyDown {cut}\n"),
-        Switched::AlreadyUp(cut) => format!(in alloc; "refused: AlreadyUp {cut}\n"),
-        Switched::Spent(count) => format!(in alloc; "refused: SwitchesSpent {count}\n"),
+        Switched::Done(_) => switched_text(alloc, topology, switching.leaf, switching.down),
+        Switched::AlreadyDown(cut) => control_refused(alloc, ControlRefusal::AlreadyDown(cut)),
+        Switched::AlreadyUp(cut) => control_refused(alloc, ControlRefusal::AlreadyUp(cut)),
+        Switched::Spent(count) => control_refused(alloc, ControlRefusal::SwitchesSpent(count)),
     }
 }
 
-// The line of a leaf that went down, or came up.
-fn done_line(
-    alloc: Global,
-    topology: &Topology,
-    leaf: Leaf,
-    down: bool,
-) -> Result<String, OutOfMemory>
-    ensures line { IfOk result (λ line. string_bytes line ≡ spec.switch_done topology.now leaf down) }
+// The line of a leaf that is not switched, or of a range that is not recovered.
+fn control_refused(alloc: Global, why: ControlRefusal) -> Result<Text, OutOfMemory>
+    ensures text { IfOk result (λ text. text ≡ spec.refused_line (control_refusal_text why)) }
 {
-    let word = switch_word(down);
-    let name = leaf_text(topology, leaf);
-    format!(in alloc; "{word} {name}: done\n")
-}
-
-// What a switch is called.
-fn switch_word(down: bool) -> &'static str
-    ensures word { result.now ≡ spec.switch_word down }
-{
-    if down { "down" } else { "up" }
+    Text::from_string(format!(in alloc; "refused: {why}\n")?)
 }
 
 /// The text of a recovery of a range onto a leaf that came out so.
@@ -119,60 +94,30 @@ pub(crate) fn recover_text(
 ) -> Result<Text, OutOfMemory>
     ensures text { IfOk result (λ text. text ≡ spec.recover_text topology.now range leaf outcome.now) }
 {
-    Text::from_string(recover_line(alloc, topology, range, leaf, outcome)?)
-}
-
-// The line of it.
-fn recover_line(
-    alloc: Global,
-    topology: &Topology,
-    range: Range,
-    leaf: Leaf,
-    outcome: &Outcome,
-) -> Result<String, OutOfMemory>
-    ensures line { IfOk result (λ line. string_bytes line ≡ spec.recover_text topology.now range leaf outcome.now) }
-{
     match outcome {
-        Outcome::Opens(slot) => opened_line(alloc, topology, range, leaf, *slot),
-        Outcome::Denied(why) => denied_line(alloc, *why),
-        Outcome::NoSource(founds) => {
-            let down = founds_text(alloc, topology, founds.as_slice())?;
-            format!(in alloc; "refused: SourceDown:{down}\n")
-        }
-        Outcome::NoTarget(cut) => {
-            let cut = *cut;
-            format!(in alloc; "refused: TargetDown {cut}\n")
-        }
+        Outcome::Opens(slot) => recovered_text(alloc, topology, range, leaf, *slot),
+        Outcome::Denied(why) => control_refused(alloc, denial_told(*why)),
+        Outcome::NoSource(founds) => no_source(alloc, topology, founds.as_slice()),
+        Outcome::NoTarget(cut) => control_refused(alloc, ControlRefusal::TargetDown(*cut)),
     }
 }
 
-// The line of a range that was recovered in a slot.
-fn opened_line(
-    alloc: Global,
-    topology: &Topology,
-    range: Range,
-    leaf: Leaf,
-    slot: Slot,
-) -> Result<String, OutOfMemory>
-    ensures line { IfOk result (λ line. string_bytes line ≡ spec.opened_line topology.now range leaf slot) }
+// The line of a range whose replicas were found down.
+fn no_source(alloc: Global, topology: &Topology, founds: &[FoundDown]) -> Result<Text, OutOfMemory>
+    ensures text { IfOk result (λ text. text ≡ spec.refused_line (source_down_text topology.now founds.now)) }
 {
-    let range = range_text(alloc, topology, range)?;
-    let leaf = leaf_text(topology, leaf);
-    let slot = slot.0;
-    format!(in alloc; "recover {range} {leaf}: slot {slot}\n")
+    let down = source_down_text(alloc, topology, founds)?;
+    Text::from_string(format!(in alloc; "refused: {down}\n")?)
 }
 
-// The line of a range that opens no replica there.
-fn denied_line(alloc: Global, why: Denial) -> Result<String, OutOfMemory>
-    ensures line { IfOk result (λ line. string_bytes line ≡ spec.denied_line why) }
+// Why a range opens no replica on a leaf.
+fn denial_told(why: Denial) -> ControlRefusal
+    ensures told { result ≡ spec.denial_told why }
 {
     match why {
-        Denial::ServesThere(slot) => {
-            let slot = slot.0;
-            format!(in alloc; "refused: Serving {slot}\n")
-        }
-        Denial::ServesFully => format!(in alloc; "refused: ThreeServing\n"),
-        Denial::SlotsSpent(count) => format!(in alloc; "refused: SlotsSpent {count}\n"),
+        Denial::ServesThere(slot) => ControlRefusal::Serving(slot),
+        Denial::ServesFully => ControlRefusal::ThreeServing,
+        Denial::SlotsSpent(count) => ControlRefusal::SlotsSpent(count),
     }
 }
 

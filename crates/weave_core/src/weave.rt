@@ -9,19 +9,19 @@ ghost use Rattle.weave_core.specs.NewActors.{hearing_of};
 ghost use Rattle.weave_core.specs.Schedules.{meet_fault};
 ghost use Rattle.mon_topo.specs.Sights.{AreAlike};
 ghost use Rattle.weave_core.specs.States as spec;
-ghost use Rattle.weave_core.specs.States.{State, store_of};
+ghost use Rattle.weave_core.specs.States.{State};
+ghost use Rattle.core_store.specs.Agreements.{store_of};
 ghost use Rattle.weave_core.specs.WeaveCalls.{BeginsSo, DeclaresSo, IsWeaveKept, IsKeptUnless, IsStepped, MayDeclare};
 ghost use Rattle.weave_core.specs.WeaveCalls.{MeetsSo};
 
 use crate::actor_steps::step_actor;
 use crate::actors::Actor;
-use crate::calls::{Call, Stepped, WeaveFault};
-use crate::events::Event;
-use crate::limits::LAST_ACTOR;
-use crate::store::Store;
+use crate::stepped::Stepped;
+use core_store::Store;
 use mon_config::Config;
 use mon_topo::Sight;
 use mon_value::{OutOfMemory, Refusal};
+use schedule_lines::{Call, Event, LAST_ACTOR, WeaveFault};
 use std::alloc::Global;
 
 /// A store whose writes and queries go one event at a time, whichever is asked to go next. No event waits in it: an

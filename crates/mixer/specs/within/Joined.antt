@@ -1,7 +1,7 @@
 -- Pieces of several children for the same parts, put together.
 use Rattle.std.specs.Prelude.{◌≡◌, List, [], ◌∷◌, ◌++◌}
-use Rattle.mql_types.specs.Nodes.{columns_of}
-use Rattle.mql_types.specs.Levels.{TopPart}
+use Rattle.typed_trees.specs.Nodes.{columns_of}
+use Rattle.typed_trees.specs.Levels.{TopPart}
 use Rattle.mon_fold.specs.PartialGroups.{CanMergeGroups, merged_groups}
 use Rattle.mon_fold.specs.declared.answers.Piece.{Piece}
 use Rattle.mon_fold.specs.declared.answers.Piece.TheVariants as piece

@@ -1,10 +1,10 @@
 -- What a zone hands up of its parts, of the pieces of its leaves.
 use Rattle.std.specs.Prelude.{◌≡◌, ◌<◌, ◌+◌, ℕ, Bool, true, false, List, [], ◌∷◌, drop, length}
 use Rattle.mon_value.specs.Groups.{top_rows}
-use Rattle.mql_types.specs.Levels.{is_leaf, PartUse, TopPart}
-use Rattle.mql_types.specs.Nodes.{columns_of, level_of}
-use Rattle.mql_types.specs.Levels as up
-use Rattle.mql_types.specs.Soundness.{IsWithinRows}
+use Rattle.typed_trees.specs.Levels.{is_leaf, PartUse, TopPart}
+use Rattle.typed_trees.specs.Nodes.{columns_of, level_of}
+use Rattle.typed_trees.specs.Levels as up
+use Rattle.typed_trees.specs.Soundness.{IsWithinRows}
 use Rattle.mon_fold.specs.declared.answers.Piece.{Piece}
 use Rattle.mon_fold.specs.declared.answers.Piece.TheVariants as piece
 use Rattle.mon_meaning.specs.GoingUp.{CanGoUp}

@@ -12,8 +12,8 @@ use Rattle.mon_value.specs.declared.rows.Point.{Point}
 use Rattle.mon_value.specs.declared.rows.SeriesKey.{SeriesKey}
 use Rattle.mon_value.specs.declared.tables.TimedRow.{TimedRow}
 use Rattle.mon_value.specs.declared.values.Value.{Value}
-use Rattle.mql_types.specs.Meaning.{meets, series_cells, is_fetched}
-use Rattle.mql_types.specs.Nodes.{NodeTree}
+use Rattle.typed_trees.specs.Meaning.{meets, series_cells, is_fetched}
+use Rattle.typed_trees.specs.Nodes.{NodeTree}
 use Rattle.mon_meaning.specs.within.KeyFilters.{KeysDecide}
 use Rattle.mon_meaning.specs.within.SeriesMeaning.{SeriesGroup, flows}
 

@@ -7,7 +7,7 @@ use Rattle.mon_value.specs.declared.columns.Column.{Column}
 use Rattle.mon_value.specs.declared.tables.TimedRow.{TimedRow}
 use Rattle.mon_value.specs.declared.values.Value.{Value}
 use Rattle.mql_ast.specs.Trees.{ItemTree}
-use Rattle.mql_types.specs.Meaning.{key_cells}
+use Rattle.typed_trees.specs.Meaning.{key_cells}
 
 -- each is bound to the sum of its item
 abbrev pub AreBound : List BoundExpr → List ItemTree → List Column → Type 0

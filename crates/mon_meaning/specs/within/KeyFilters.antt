@@ -4,9 +4,9 @@ use Rattle.mon_value.specs.Order.{cells_of}
 use Rattle.mon_value.specs.declared.rows.SeriesKey.{SeriesKey}
 use Rattle.mon_value.specs.declared.values.Value.{Value}
 use Rattle.mql_ast.specs.Rows.{predicate_truth}
-use Rattle.mql_types.specs.Meaning.{names_keys, series_cells, is_fetched}
-use Rattle.mql_types.specs.Nodes as node
-use Rattle.mql_types.specs.Nodes.{NodeTree}
+use Rattle.typed_trees.specs.Meaning.{names_keys, series_cells, is_fetched}
+use Rattle.typed_trees.specs.Nodes as node
+use Rattle.typed_trees.specs.Nodes.{NodeTree}
 
 -- a filter that names keys alone says of each point of a series what it says of the series
 abbrev pub KeysDecide : NodeTree → SeriesKey → Type 0

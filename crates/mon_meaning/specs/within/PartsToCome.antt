@@ -1,10 +1,10 @@
 -- What is still to be gone through of a tree, for the parts of which pieces go up.
 use Rattle.std.specs.Prelude.{ℕ, ◌+◌, Bool, List, [], ◌∷◌, ◌++◌}
-use Rattle.mql_types.specs.ExplanationParts.{nodes}
-use Rattle.mql_types.specs.Nodes.{NodeTree, level_of, node_tree}
-use Rattle.mql_types.specs.Levels as spec
-use Rattle.mql_types.specs.Levels.{part_or, top_parts}
-use Rattle.mql_types.specs.declared.levels.Level.{Level}
+use Rattle.typed_trees.specs.ExplanationParts.{nodes}
+use Rattle.typed_trees.specs.Nodes.{NodeTree, level_of, node_tree}
+use Rattle.typed_trees.specs.Levels as spec
+use Rattle.typed_trees.specs.Levels.{part_or, top_parts}
+use Rattle.typed_trees.specs.declared.levels.Level.{Level}
 use Rattle.mon_meaning.specs.TopParts as seen
 use Rattle.mon_meaning.specs.declared.parts_up.TopPart.{TopPart}
 

@@ -11,9 +11,9 @@ use Rattle.mon_value.specs.declared.tables.Table.{Table}
 use Rattle.mon_value.specs.declared.tables.TimedRow.{TimedRow}
 use Rattle.mql_ast.specs.Rows.{CanCompute, HasShares, IsTypedSum}
 use Rattle.mql_ast.specs.Trees.{ItemTree}
-use Rattle.mql_types.specs.Nodes as node
-use Rattle.mql_types.specs.Nodes.{NodeTree, columns_of}
-use Rattle.mql_types.specs.Soundness.{IsWithinRows}
+use Rattle.typed_trees.specs.Nodes as node
+use Rattle.typed_trees.specs.Nodes.{NodeTree, columns_of}
+use Rattle.typed_trees.specs.Soundness.{IsWithinRows}
 use Rattle.mon_meaning.specs.within.KeyFilters.{KeysDecide, fetches_series}
 use Rattle.mon_meaning.specs.within.SeriesMeaning.{SeriesGroup, load_by_series, points_flowing, reach_count}
 use Rattle.mon_meaning.specs.within.SeriesMeaning.{rows_by_series}

@@ -2,10 +2,10 @@
 use Rattle.std.specs.Prelude.{List, None, map}
 use Rattle.mon_expr.specs.SameTrees.{bare_predicate, bare_sum}
 use Rattle.mql_ast.specs.Trees.{ItemTree}
-use Rattle.mql_types.specs.Nodes as node
-use Rattle.mql_types.specs.Nodes.{NodeTree}
-use Rattle.mql_types.specs.declared.levels.Level.TheVariants as level
-use Rattle.mql_types.specs.declared.nodes.NodeInfo.{NodeInfo}
+use Rattle.typed_trees.specs.Nodes as node
+use Rattle.typed_trees.specs.Nodes.{NodeTree}
+use Rattle.typed_trees.specs.declared.levels.Level.TheVariants as level
+use Rattle.typed_trees.specs.declared.nodes.NodeInfo.{NodeInfo}
 
 -- of what is told of a node, its columns alone
 abbrev pub bare_info : NodeInfo → NodeInfo

@@ -12,9 +12,9 @@ use Rattle.mon_value.specs.declared.rows.SeriesKey.{SeriesKey}
 use Rattle.mon_value.specs.declared.tables.TimedRow.{TimedRow}
 use Rattle.mon_value.specs.declared.values.Value.{Value}
 use Rattle.mql_ast.specs.Rows.{predicate_truth}
-use Rattle.mql_types.specs.Meaning.{meets, is_fetched, value_row}
-use Rattle.mql_types.specs.Nodes as node
-use Rattle.mql_types.specs.Nodes.{NodeTree, columns_of}
+use Rattle.typed_trees.specs.Meaning.{meets, is_fetched, value_row}
+use Rattle.typed_trees.specs.Nodes as node
+use Rattle.typed_trees.specs.Nodes.{NodeTree, columns_of}
 use Rattle.mon_meaning.specs.within.Reach.{points_within_reach}
 
 -- a series and its points

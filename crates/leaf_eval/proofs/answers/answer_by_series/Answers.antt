@@ -4,10 +4,10 @@ use Rattle.std.proofs.Common.{arith}
 use Rattle.std.specs.List.{AllByRecursion}
 use Rattle.std.specs.Vec.Iter.{into_iter_items}
 use Rattle.mon_value.specs.declared.grids.Grid.{Grid}
-use Rattle.mql_types.specs.Levels.{is_leaf, TopPart, top_parts}
-use Rattle.mql_types.specs.Meaning.{load_of, grid_of, rows_meant}
-use Rattle.mql_types.specs.Nodes.{columns_of, typed_tree}
-use Rattle.mql_types.specs.Soundness.{IsWithinRows}
+use Rattle.typed_trees.specs.Levels.{is_leaf, TopPart, top_parts}
+use Rattle.typed_trees.specs.Meaning.{load_of, grid_of, rows_meant}
+use Rattle.typed_trees.specs.Nodes.{columns_of, typed_tree}
+use Rattle.typed_trees.specs.Soundness.{IsWithinRows}
 use Rattle.mon_meaning.specs.Central.{all_held}
 use Rattle.mon_meaning.specs.LeafAnswers.{IsRefusedByLeaf}
 use Rattle.mon_meaning.specs.TopParts.{part_seen, parts_seen}

@@ -6,8 +6,8 @@ use Rattle.std.specs.Vec.Iter.{into_iter_items, into_iter_len}
 use Rattle.std.specs.Prelude.{length}
 use Rattle.mon_value.specs.LeafHistories.{points_by_series}
 use Rattle.mon_value.specs.declared.rows.Row.{Row}
-use Rattle.mql_types.specs.Levels.{is_leaf, top_parts}
-use Rattle.mql_types.specs.Nodes.{node_tree}
+use Rattle.typed_trees.specs.Levels.{is_leaf, top_parts}
+use Rattle.typed_trees.specs.Nodes.{node_tree}
 use Rattle.mon_meaning.specs.Central.{all_held}
 use Rattle.mon_meaning.specs.TopParts.{parts_seen}
 use Rattle.leaf_eval.proofs.EvaluatedParts.{SoFar}

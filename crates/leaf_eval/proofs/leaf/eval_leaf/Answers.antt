@@ -1,7 +1,7 @@
 use Rattle.std.proofs.Common.{◌≡◌, ◌∙◌, ℤ, List, Bor, ap, map, subst, to_z, of_z, w64, rules}
 use Rattle.mon_value.specs.LeafHistories.{points_by_series}
 use Rattle.mon_value.specs.declared.rows.Row.{Row}
-use Rattle.mql_types.specs.Nodes.{typed_tree}
+use Rattle.typed_trees.specs.Nodes.{typed_tree}
 use Rattle.mon_meaning.specs.Central.{all_held}
 use Rattle.mon_meaning.specs.LeafAnswers.{IsLeafAnswer}
 use Rattle.leaf_eval.specs.Replicas.{replica_rows_of}

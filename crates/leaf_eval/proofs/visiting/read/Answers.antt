@@ -3,7 +3,7 @@ use Rattle.leaf_eval.proofs.ReadableSlots.{readable_apart}
 use Rattle.leaf_eval.proofs.visiting.read.Goals as goal
 use Rattle.leaf_eval.specs.Replicas.{AreReplicasApart}
 use Rattle.mon_value.specs.declared.histories.Entry.{Entry}
-use Rattle.mql_types.specs.Nodes.{typed_tree}
+use Rattle.typed_trees.specs.Nodes.{typed_tree}
 
 pub eval_leaf-requires-clause-apart : goal.eval_leaf-requires-clause-apart
 eval_leaf-requires-clause-apart c =

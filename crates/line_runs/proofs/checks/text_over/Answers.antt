@@ -4,8 +4,8 @@ use Rattle.line_runs.proofs.Typed.{has_type, load_within, meant_as, typed_over}
 use Rattle.line_runs.specs.Questions.{meant_text}
 use Rattle.mon_value.specs.Answers.{Withholds}
 use Rattle.mon_value.specs.declared.refusals.Refusal.{Refusal}
-use Rattle.mql_types.specs.Meaning.{load}
-use Rattle.mql_types.specs.Nodes.{TypedTree, typed_tree}
+use Rattle.typed_trees.specs.Meaning.{load}
+use Rattle.typed_trees.specs.Nodes.{TypedTree, typed_tree}
 use Rattle.query_texts.specs.TextTypes.{text_type}
 use Rattle.query_texts.specs.declared.faults.TextFault.{TextFault}
 use Rattle.line_runs.proofs.checks.text_over.Goals as goal

@@ -5,7 +5,7 @@ use Rattle.line_runs.proofs.Typed.{not_over}
 use Rattle.line_runs.specs.Questions.{meant_text}
 use Rattle.mon_meaning.specs.Central.{IsMeant, IsOver, IsRefusedBy}
 use Rattle.mon_table.specs.Tables.{printed_table}
-use Rattle.mql_types.specs.Nodes.{TypedTree, typed_tree}
+use Rattle.typed_trees.specs.Nodes.{TypedTree, typed_tree}
 use Rattle.line_runs.proofs.checks.typed_text.Goals as goal
 
 pub returns-in-Ok : goal.returns-in-Ok

@@ -1,8 +1,8 @@
 use Rattle.std.proofs.lemmas.List.{nil_from_length}
 use Rattle.std.proofs.Common.{◌≡◌, ◌∙◌, [], List, append-nil, ap, subst, sym}
 use Rattle.std.specs.Vec.Iter.{into_iter_items}
-use Rattle.mql_types.specs.Nodes.{node_tree}
-use Rattle.mql_types.specs.Levels as spec
+use Rattle.typed_trees.specs.Nodes.{node_tree}
+use Rattle.typed_trees.specs.Levels as spec
 use Rattle.mon_fold.specs.declared.answers.Piece.{Piece}
 use Rattle.mon_meaning.specs.TopParts.{parts_seen, up_to}
 use Rattle.mixer.specs.within.Joined.{AllStandEmpty}

@@ -2,8 +2,8 @@
 use Rattle.std.proofs.Common.{◌≡◌, ◌++◌, List, length}
 use Rattle.std.specs.List.{AllByRecursion}
 use Rattle.std.specs.Vec.Iter.{into_iter_items, into_iter_len}
-use Rattle.mql_types.specs.Nodes.{node_tree}
-use Rattle.mql_types.specs.Levels as spec
+use Rattle.typed_trees.specs.Nodes.{node_tree}
+use Rattle.typed_trees.specs.Levels as spec
 use Rattle.mon_fold.specs.declared.answers.Piece.{Piece}
 use Rattle.mon_meaning.specs.TopParts.{parts_seen, up_to}
 use Rattle.mixer.specs.within.Joined.{AllStandEmpty, CanBeEmpty}

@@ -1,9 +1,9 @@
 use Rattle.std.proofs.Common.{◌≡◌, ◌∙◌, ◌≤◌, ◌+◌, ℕ, List, map, ap, subst, sym, rules, arith}
 use Rattle.std.specs.List.{sum_by}
 use Rattle.std.specs.Vec.Iter.{into_iter_items}
-use Rattle.mql_types.specs.Nodes.{columns_of, typed_tree}
-use Rattle.mql_types.specs.Levels.{in_zone, top_parts}
-use Rattle.mql_types.specs.Soundness.{IsWithinRows}
+use Rattle.typed_trees.specs.Nodes.{columns_of, typed_tree}
+use Rattle.typed_trees.specs.Levels.{in_zone, top_parts}
+use Rattle.typed_trees.specs.Soundness.{IsWithinRows}
 use Rattle.mixer.specs.declared.zone_answers.ZoneAnswer.{ZoneAnswer}
 use Rattle.mon_fold.specs.declared.answers.Piece.{Piece}
 use Rattle.mon_meaning.specs.Central.{IsRefusedBy}

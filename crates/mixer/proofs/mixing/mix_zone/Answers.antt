@@ -1,8 +1,8 @@
 use Rattle.std.proofs.Common.{◌≡◌, ◌∙◌, ◌≤◌, ◌+◌, ◌-◌, ℕ, map, ap, subst, sym, rules, arith}
 use Rattle.std.specs.List.{sum_by}
-use Rattle.mql_types.specs.Levels.{is_leaf, in_zone, top_parts}
-use Rattle.mql_types.specs.Nodes.{typed_tree}
-use Rattle.mql_types.specs.Soundness.{IsWithinRows}
+use Rattle.typed_trees.specs.Levels.{is_leaf, in_zone, top_parts}
+use Rattle.typed_trees.specs.Nodes.{typed_tree}
+use Rattle.typed_trees.specs.Soundness.{IsWithinRows}
 use Rattle.mon_fold.specs.declared.answers.LeafAnswer.{LeafAnswer}
 use Rattle.mon_meaning.specs.Counts.{TellsOver}
 use Rattle.mixer.specs.ZoneAnswers.{IsRefusedByZone, IsZonePart}

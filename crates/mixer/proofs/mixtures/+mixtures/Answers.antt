@@ -1,14 +1,14 @@
 use Rattle.std.proofs.Common.{◌≡◌, ◌∙◌, ◌<◌, ◌+◌, ◌*◌, ◌++◌, ◌∷◌, [], ℕ, List, Bor, ap, subst, rules, arith}
 use Rattle.std.specs.Vec.Iter.{into_iter_items}
 use Rattle.std.proofs.lemmas.List.{map-append}
-use Rattle.mql_types.specs.Nodes.{NodeTree, node_tree}
-use Rattle.mql_types.specs.Soundness.{IsWithinRows}
-use Rattle.mql_types.specs.declared.nodes.Node.{Node}
+use Rattle.typed_trees.specs.Nodes.{NodeTree, node_tree}
+use Rattle.typed_trees.specs.Soundness.{IsWithinRows}
+use Rattle.typed_trees.specs.declared.nodes.Node.{Node}
 use Rattle.mon_meaning.specs.Counts.{TellsOver}
 use Rattle.mon_meaning.specs.Operations.{CanOperate}
 use Rattle.mon_meaning.specs.TopParts.{up_to}
 use Rattle.mon_meaning.specs.within.Paths.{trees_of}
-use Rattle.mql_types.specs.ExplanationParts.{nodes}
+use Rattle.typed_trees.specs.ExplanationParts.{nodes}
 use Rattle.mixer.specs.within.Mixtures.{OtherCanMix, joins_from, other_joins, other_piece_rows, own_joins}
 use Rattle.mixer.proofs.MixedWalks.{Walk, next_step, step_over, walk_on}
 use Rattle.mixer.proofs.mixtures.+mixtures.Goals as goal

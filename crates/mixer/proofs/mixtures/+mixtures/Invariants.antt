@@ -1,10 +1,10 @@
 -- The rows so far are those of a node on the way, and so are the pieces that are left and the load.
 use Rattle.std.proofs.Common.{◌≡◌, ◌+◌, ◌*◌, length}
 use Rattle.std.specs.Vec.Iter.{into_iter_items, into_iter_len}
-use Rattle.mql_types.specs.Nodes.{node_tree}
+use Rattle.typed_trees.specs.Nodes.{node_tree}
 use Rattle.mon_meaning.specs.TopParts.{up_to}
 use Rattle.mon_meaning.specs.within.Paths.{trees_of}
-use Rattle.mql_types.specs.ExplanationParts.{nodes}
+use Rattle.typed_trees.specs.ExplanationParts.{nodes}
 use Rattle.mixer.proofs.MixedWalks.{Walk}
 use Rattle.mixer.proofs.mixtures.+mixtures.Given as goal
 

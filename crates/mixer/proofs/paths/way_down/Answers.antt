@@ -1,7 +1,7 @@
 use Rattle.std.proofs.Common.{◌≡◌, ◌∙◌, ◌++◌, ◌∷◌, [], List, Bor, sym, ap, subst}
 use Rattle.std.proofs.lemmas.List.{map-append}
-use Rattle.mql_types.specs.Nodes.{NodeTree, node_tree}
-use Rattle.mql_types.specs.declared.nodes.Node.{Node}
+use Rattle.typed_trees.specs.Nodes.{NodeTree, node_tree}
+use Rattle.typed_trees.specs.declared.nodes.Node.{Node}
 use Rattle.mon_meaning.specs.TopParts.{up_to}
 use Rattle.mon_meaning.specs.within.Paths.{trees_of}
 use Rattle.mixer.proofs.MixedWalks.{Down, step_down}

@@ -1,8 +1,8 @@
 -- The nodes so far lead to the one at hand.
-use Rattle.mql_types.specs.Nodes.{node_tree}
+use Rattle.typed_trees.specs.Nodes.{node_tree}
 use Rattle.mon_meaning.specs.TopParts.{up_to}
 use Rattle.mon_meaning.specs.within.Paths.{trees_of}
-use Rattle.mql_types.specs.ExplanationParts.{nodes}
+use Rattle.typed_trees.specs.ExplanationParts.{nodes}
 use Rattle.mixer.proofs.MixedWalks.{Down}
 use Rattle.mixer.proofs.paths.way_down.Given as goal
 

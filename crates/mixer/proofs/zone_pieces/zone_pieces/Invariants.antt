@@ -1,9 +1,9 @@
 -- With pieces for the parts that are left there is one for each part, and so are the pairs counted.
 use Rattle.std.proofs.Common.{◌≡◌, ◌≤◌, ◌+◌, ◌++◌, List, length}
 use Rattle.std.specs.Vec.Iter.{into_iter_items, into_iter_len}
-use Rattle.mql_types.specs.Nodes.{node_tree}
-use Rattle.mql_types.specs.Levels as spec
-use Rattle.mql_types.specs.Levels.{in_zone}
+use Rattle.typed_trees.specs.Nodes.{node_tree}
+use Rattle.typed_trees.specs.Levels as spec
+use Rattle.typed_trees.specs.Levels.{in_zone}
 use Rattle.mon_fold.specs.declared.answers.Piece.{Piece}
 use Rattle.mon_meaning.specs.TopParts.{parts_seen}
 use Rattle.mixer.specs.within.ZonePieces.{AreHandedUp, CanHandUpAll, joins_of_parts}

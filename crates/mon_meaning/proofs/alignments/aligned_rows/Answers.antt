@@ -1,8 +1,8 @@
 use Rattle.std.proofs.Common.{◌≡◌, ◌∙◌, ◌+◌, ℕ, Option, IfOk, IfErr, length, sum_by, sym, ap, subst, rules, arith}
 use Rattle.std.specs.List.{AllByRecursion, flat_map}
 use Rattle.std.proofs.lemmas.Result.{on_ok_weaker}
-use Rattle.mql_types.specs.Nodes.{node_tree}
-use Rattle.mql_types.specs.Soundness.{IsWithinRows}
+use Rattle.typed_trees.specs.Nodes.{node_tree}
+use Rattle.typed_trees.specs.Soundness.{IsWithinRows}
 use Rattle.mon_meaning.specs.Central.{all_held}
 use Rattle.mon_meaning.specs.Counts.{TellsOver}
 use Rattle.mon_meaning.specs.within.FetchViews.{FetchView, FetchesNothing, IsFetchFound, IsFetchOf, met_rows}

@@ -1,7 +1,7 @@
 use Rattle.std.proofs.Common.{◌≡◌, ◌∙◌, ℤ, List, sym, subst, to_z, of_z, w64, rules}
 use Rattle.mon_value.specs.declared.rows.Row.{Row}
-use Rattle.mql_types.specs.Nodes.{typed_tree}
-use Rattle.mql_types.specs.Soundness.{IsTyped}
+use Rattle.typed_trees.specs.Nodes.{typed_tree}
+use Rattle.typed_trees.specs.Soundness.{IsTyped}
 use Rattle.mon_meaning.specs.Central.{IsAnswer}
 use Rattle.mon_meaning.proofs.answers.central.Goals as goal
 

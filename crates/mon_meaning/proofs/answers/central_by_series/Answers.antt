@@ -4,9 +4,9 @@ use Rattle.std.proofs.lemmas.List.{append-nil}
 use Rattle.mon_value.specs.LeafHistories.{points_by_series}
 use Rattle.mon_value.specs.declared.columns.Column.{Column}
 use Rattle.mon_value.specs.declared.grids.Grid.{Grid}
-use Rattle.mql_types.specs.Meaning.{load_of, grid_of, rows_meant}
-use Rattle.mql_types.specs.Nodes.{columns_of, node_tree, typed_tree}
-use Rattle.mql_types.specs.declared.nodes.NodeInfo.{NodeInfo}
+use Rattle.typed_trees.specs.Meaning.{load_of, grid_of, rows_meant}
+use Rattle.typed_trees.specs.Nodes.{columns_of, node_tree, typed_tree}
+use Rattle.typed_trees.specs.declared.nodes.NodeInfo.{NodeInfo}
 use Rattle.mon_meaning.specs.Central.{IsPartAsked, IsRefusedBy}
 use Rattle.mon_meaning.specs.Counts.{TellsOver}
 use Rattle.mon_meaning.proofs.AnswerLemmas.{asked_whole, is_meant, is_refused}

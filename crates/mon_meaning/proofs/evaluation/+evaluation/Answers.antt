@@ -1,14 +1,15 @@
-use Rattle.std.proofs.Common.{◌≡◌, ◌∙◌, ◌≤◌, ◌<◌, ◌+◌, ◌*◌, ◌++◌, ◌∷◌, [], ℕ, List, Bor, IfErr, OnOk, refl, sym, ap, subst, rules, arith}
+use Rattle.std.proofs.Common.{◌≡◌, ◌∙◌, ◌≤◌, ◌<◌, ◌+◌, ◌*◌, ◌++◌, ◌∷◌, [], ℕ, List, Bor, IfErr, OnOk, refl, sym, ap}
+use Rattle.std.proofs.Common.{subst, rules, arith}
 use Rattle.std.proofs.lemmas.Result.{IfOk-weaker}
 use Rattle.std.proofs.lemmas.List.{map-append}
 use Rattle.mon_value.specs.declared.tables.TimedRow.{TimedRow}
-use Rattle.mql_types.specs.Nodes.{NodeTree, node_tree}
-use Rattle.mql_types.specs.Soundness.{IsWithinRows}
-use Rattle.mql_types.specs.declared.nodes.Node.{Node}
+use Rattle.typed_trees.specs.Nodes.{NodeTree, node_tree}
+use Rattle.typed_trees.specs.Soundness.{IsWithinRows}
+use Rattle.typed_trees.specs.declared.nodes.Node.{Node}
 use Rattle.mon_meaning.specs.Central.{all_held}
 use Rattle.mon_meaning.specs.Counts.{TellsOver}
 use Rattle.mon_meaning.specs.Operations.{CanOperate}
-use Rattle.mql_types.specs.ExplanationParts.{nodes}
+use Rattle.typed_trees.specs.ExplanationParts.{nodes}
 use Rattle.mon_meaning.specs.within.Paths.{first_input, other_load, own_load, trees_of}
 use Rattle.mon_meaning.specs.within.Readiness.{IsNodeReady}
 use Rattle.mon_meaning.specs.within.SeriesMeaning.{load_by_series, rows_by_series}

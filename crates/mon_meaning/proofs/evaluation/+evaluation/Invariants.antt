@@ -1,8 +1,8 @@
 -- The rows so far are those of a node on the way, and so is the load.
 use Rattle.std.proofs.Common.{◌≡◌, ◌+◌, ◌*◌, length}
-use Rattle.mql_types.specs.Nodes.{node_tree}
+use Rattle.typed_trees.specs.Nodes.{node_tree}
 use Rattle.mon_meaning.specs.Central.{all_held}
-use Rattle.mql_types.specs.ExplanationParts.{nodes}
+use Rattle.typed_trees.specs.ExplanationParts.{nodes}
 use Rattle.mon_meaning.specs.within.Paths.{trees_of}
 use Rattle.mon_meaning.proofs.WalkLemmas.{Walk}
 use Rattle.mon_meaning.proofs.evaluation.+evaluation.Given as goal

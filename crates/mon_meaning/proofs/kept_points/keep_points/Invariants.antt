@@ -1,6 +1,6 @@
 -- the points so far that are kept, and the cells of the series
 use Rattle.std.proofs.Common.{◌≡◌, take}
-use Rattle.mql_types.specs.Meaning.{series_cells}
+use Rattle.typed_trees.specs.Meaning.{series_cells}
 use Rattle.mon_meaning.specs.within.FetchViews.{points_kept}
 use Rattle.mon_meaning.proofs.kept_points.keep_points.Given as goal
 

@@ -1,6 +1,6 @@
 use Rattle.std.proofs.Common.{◌≡◌, ◌∙◌, ◌≤ℤ◌, neg_ℤ, ℤ, length, sym, ap, subst, to_z, of_z, w64, rules, arith}
 use Rattle.mon_value.specs.Grids.{seconds_of, least_time, EndsRise}
-use Rattle.mql_types.specs.Meaning.{is_in_reach}
+use Rattle.typed_trees.specs.Meaning.{is_in_reach}
 use Rattle.mon_meaning.proofs.WindowLemmas as window
 use Rattle.mon_value.specs.declared.limits.TheConstants.{LONGEST_DURATION}
 use Rattle.mon_meaning.proofs.WindowLemmas.{EndsRise-filter, least_bounds}

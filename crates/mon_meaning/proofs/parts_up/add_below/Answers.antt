@@ -2,12 +2,12 @@ use Rattle.std.proofs.Common.{◌≡◌, ◌∙◌, ◌<◌, ◌+◌, ◌++◌, 
 use Rattle.std.proofs.Math.Logic.{⊎_elim}
 use Rattle.std.proofs.lemmas.Result.{on_ok_weaker}
 use Rattle.mql_ast.specs.Trees.{item_tree, predicate_tree}
-use Rattle.mql_types.specs.ExplanationParts.{nodes}
-use Rattle.mql_types.specs.Nodes as node
-use Rattle.mql_types.specs.Nodes.{node_tree}
-use Rattle.mql_types.specs.Levels as spec
-use Rattle.mql_types.specs.Levels.{top_parts}
-use Rattle.mql_types.specs.declared.nodes.Node.{Node}
+use Rattle.typed_trees.specs.ExplanationParts.{nodes}
+use Rattle.typed_trees.specs.Nodes as node
+use Rattle.typed_trees.specs.Nodes.{node_tree}
+use Rattle.typed_trees.specs.Levels as spec
+use Rattle.typed_trees.specs.Levels.{top_parts}
+use Rattle.typed_trees.specs.declared.nodes.Node.{Node}
 use Rattle.mon_meaning.specs.TopParts.{parts_seen, up_to}
 use Rattle.mon_meaning.specs.within.PartsToCome.{as_rows, nodes_left, part_nodes, parts_left, parts_of_part}
 use Rattle.mon_meaning.proofs.PartsToComeLemmas.{below, fewer, one_source, put_first, rows_parts}

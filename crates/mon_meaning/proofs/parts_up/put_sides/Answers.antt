@@ -1,8 +1,8 @@
 use Rattle.std.proofs.Common.{◌≡◌, ◌∙◌, ◌++◌, ◌∷◌, [], List, ap, append_assoc, sym, arith}
-use Rattle.mql_types.specs.ExplanationParts.{nodes}
-use Rattle.mql_types.specs.Nodes.{node_tree}
-use Rattle.mql_types.specs.Levels as spec
-use Rattle.mql_types.specs.Levels.{top_parts}
+use Rattle.typed_trees.specs.ExplanationParts.{nodes}
+use Rattle.typed_trees.specs.Nodes.{node_tree}
+use Rattle.typed_trees.specs.Levels as spec
+use Rattle.typed_trees.specs.Levels.{top_parts}
 use Rattle.mon_meaning.specs.within.PartsToCome.{nodes_left, part_nodes, parts_left}
 use Rattle.mon_meaning.specs.declared.parts_up.TopPart.{TopPart}
 use Rattle.mon_meaning.proofs.PartsToComeLemmas.{nodes_left-push, two_left}

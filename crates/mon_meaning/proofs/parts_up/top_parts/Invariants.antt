@@ -1,7 +1,7 @@
 -- The parts so far, with those of the parts to come, are all.
 use Rattle.std.proofs.Common.{◌≡◌, ◌++◌}
-use Rattle.mql_types.specs.Nodes.{node_tree}
-use Rattle.mql_types.specs.Levels as spec
+use Rattle.typed_trees.specs.Nodes.{node_tree}
+use Rattle.typed_trees.specs.Levels as spec
 use Rattle.mon_meaning.specs.TopParts.{parts_seen, up_to}
 use Rattle.mon_meaning.specs.within.PartsToCome.{nodes_left, parts_left}
 use Rattle.mon_meaning.proofs.parts_up.top_parts.Given as goal

@@ -1,6 +1,6 @@
 -- the nodes so far lead to the one at hand
-use Rattle.mql_types.specs.Nodes.{node_tree}
-use Rattle.mql_types.specs.ExplanationParts.{nodes}
+use Rattle.typed_trees.specs.Nodes.{node_tree}
+use Rattle.typed_trees.specs.ExplanationParts.{nodes}
 use Rattle.mon_meaning.specs.within.Paths.{Leads, trees_of}
 use Rattle.mon_meaning.proofs.paths.path_down.Given as goal
 

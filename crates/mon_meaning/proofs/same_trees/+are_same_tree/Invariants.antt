@@ -1,7 +1,7 @@
 -- Where what is left of both is the same, the whole trees are.
 use Rattle.std.proofs.Common.{◌≡◌, ◌≤◌}
-use Rattle.mql_types.specs.ExplanationParts.{nodes}
-use Rattle.mql_types.specs.Nodes.{node_tree}
+use Rattle.typed_trees.specs.ExplanationParts.{nodes}
+use Rattle.typed_trees.specs.Nodes.{node_tree}
 use Rattle.mon_meaning.specs.within.SameTrees.{bare_tree}
 use Rattle.mon_meaning.proofs.same_trees.+are_same_tree.Given as goal
 

@@ -4,10 +4,10 @@ use Rattle.mon_value.specs.declared.columns.Column.{Column}
 use Rattle.mon_value.specs.declared.tables.TimedRow.{TimedRow}
 use Rattle.mql_ast.specs.Rows.{CanCompute}
 use Rattle.mql_ast.specs.Trees.{item_tree}
-use Rattle.mql_types.specs.Nodes as node
-use Rattle.mql_types.specs.Nodes.{NodeTree, columns_of, info_of, node_tree}
-use Rattle.mql_types.specs.declared.nodes.Node.{Node}
-use Rattle.mql_types.specs.declared.nodes.NodeInfo.{NodeInfo}
+use Rattle.typed_trees.specs.Nodes as node
+use Rattle.typed_trees.specs.Nodes.{NodeTree, columns_of, info_of, node_tree}
+use Rattle.typed_trees.specs.declared.nodes.Node.{Node}
+use Rattle.typed_trees.specs.declared.nodes.NodeInfo.{NodeInfo}
 use Rattle.mon_meaning.specs.Operations.{CanOperate}
 use Rattle.mon_meaning.proofs.steps.one_sided_rows.Goals as goal
 

@@ -1,5 +1,5 @@
 use Rattle.std.proofs.Common.{◌∙◌, sym}
-use Rattle.mql_types.specs.Nodes.{node_tree}
+use Rattle.typed_trees.specs.Nodes.{node_tree}
 use Rattle.mon_meaning.proofs.SideLemmas.{alone, can_alone, no_load, one_side}
 use Rattle.mon_meaning.proofs.steps.operation_rows.Goals as goal
 

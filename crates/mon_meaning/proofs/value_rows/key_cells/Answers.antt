@@ -3,7 +3,7 @@ use Rattle.std.proofs.Common.{◌≡◌, ◌∙◌, ◌++◌, ◌∷◌, [], Lis
 use Rattle.std.specs.Vec.Iter.{into_iter_items}
 use Rattle.mon_value.specs.declared.columns.Column.{Column}
 use Rattle.mon_value.specs.declared.values.Value.{Value}
-use Rattle.mql_types.specs.Meaning.{key_cells}
+use Rattle.typed_trees.specs.Meaning.{key_cells}
 use Rattle.mon_meaning.proofs.ItemLemmas.{key_cells-cons, key_cells-none, no_columns}
 use Rattle.mon_meaning.proofs.value_rows.key_cells.Goals as goal
 use Rattle.mon_meaning.proofs.value_rows.key_cells.Goals.{in-None, in-Some+in-None-split_first}

@@ -4,7 +4,7 @@ use Rattle.mon_expr.specs.declared.bound_sums.BoundExpr.{BoundExpr}
 use Rattle.mon_value.specs.declared.columns.Column.{Column}
 use Rattle.mon_value.specs.declared.tables.TimedRow.{TimedRow}
 use Rattle.mql_ast.specs.Trees.{item_tree}
-use Rattle.mql_types.specs.Meaning.{value_row}
+use Rattle.typed_trees.specs.Meaning.{value_row}
 use Rattle.mon_meaning.specs.within.Items.{CanMake, row_made}
 use Rattle.mon_meaning.proofs.ItemLemmas.{all_can, rows_same}
 use Rattle.mon_meaning.proofs.value_rows.value_rows.Goals as goal

@@ -1,6 +1,6 @@
 -- What was made, in front of what is left.
 use Rattle.std.proofs.Common.{◌≡◌, ◌++◌, map, drop}
-use Rattle.mql_types.specs.Typing.{aligned_column}
+use Rattle.typed_trees.specs.Typing.{aligned_column}
 use Rattle.mql_types.proofs.aligning.aligned_columns.Given as goal
 
 abbrev pub invariant-loop-column : goal.invariant-loop-column

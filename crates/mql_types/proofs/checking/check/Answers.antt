@@ -1,10 +1,10 @@
 use Rattle.std.proofs.Common.{◌≡◌, ◌∙◌, ℤ, None, false, ap, sym, rules, to_z, of_z, w64}
 use Rattle.mql_ast.specs.Trees.{query_tree}
-use Rattle.mql_types.specs.Faults.{first_with}
-use Rattle.mql_types.specs.Nodes.{node_tree}
+use Rattle.typed_trees.specs.Faults.{first_with}
+use Rattle.typed_trees.specs.Nodes.{node_tree}
 use Rattle.mql_types.specs.PartViews.{part_view}
-use Rattle.mql_types.specs.Times.{every_said, pipe_order_faults, query_times, within_said}
-use Rattle.mql_types.specs.Typing.{Part, aligned_tree, pipe_part}
+use Rattle.typed_trees.specs.Times.{every_said, pipe_order_faults, query_times, within_said}
+use Rattle.typed_trees.specs.Typing.{Part, aligned_tree, pipe_part}
 use Rattle.mql_types.proofs.TypingLemmas.{no_fault, typing-typed}
 use Rattle.mql_types.proofs.checking.check.Goals as goal
 

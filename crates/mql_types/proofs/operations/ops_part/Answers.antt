@@ -2,10 +2,10 @@ use Rattle.std.proofs.Common.{◌≡◌, ◌∙◌, ◌+◌, ◌∷◌, List, dr
 use Rattle.std.proofs.lemmas.List.{drop_more}
 use Rattle.mql_ast.specs.declared.operations.Op.{Op}
 use Rattle.mql_ast.specs.Trees.{deed_tree, op_tree}
-use Rattle.mql_types.specs.Faults.{first_with}
+use Rattle.typed_trees.specs.Faults.{first_with}
 use Rattle.mql_types.specs.PartViews.{part_view}
-use Rattle.mql_types.specs.Typing.{Part, deed_faults, deed_part, ops_faults, ops_part}
-use Rattle.mql_types.proofs.FaultLemmas.{first_with-append}
+use Rattle.typed_trees.specs.Typing.{Part, deed_faults, deed_part, ops_faults, ops_part}
+use Rattle.typed_columns.proofs.FaultLemmas.{first_with-append}
 use Rattle.mql_types.proofs.operations.ops_part.Goals as goal
 
 pub loop-op-preserved : goal.loop-op-preserved

@@ -1,9 +1,9 @@
 -- The part so far, with the operations that are left.
 use Rattle.std.proofs.Common.{◌≡◌, map, drop}
 use Rattle.mql_ast.specs.Trees.{op_tree}
-use Rattle.mql_types.specs.Faults.{first_with}
+use Rattle.typed_trees.specs.Faults.{first_with}
 use Rattle.mql_types.specs.PartViews.{part_view}
-use Rattle.mql_types.specs.Typing.{ops_faults, ops_part}
+use Rattle.typed_trees.specs.Typing.{ops_faults, ops_part}
 use Rattle.mql_types.proofs.operations.ops_part.Given as goal
 
 abbrev pub invariant-loop-op : goal.invariant-loop-op

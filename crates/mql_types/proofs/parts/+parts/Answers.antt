@@ -2,16 +2,16 @@ use Rattle.std.proofs.Common.{◌≡◌, ◌∙◌, ◌+◌, ◌∷◌, ◌++◌
 use Rattle.std.proofs.lemmas.List.{at_drop_all, drop_more}
 use Rattle.mql_ast.specs.declared.operations.Op.{Op}
 use Rattle.mql_ast.specs.declared.pipes.Pipe.{Pipe}
-use Rattle.mql_types.specs.declared.faults.TypeFault.{TypeFault}
-use Rattle.mql_types.specs.Nodes.{NodeTree, columns_of, node_tree}
+use Rattle.typed_trees.specs.declared.faults.TypeFault.{TypeFault}
+use Rattle.typed_trees.specs.Nodes.{NodeTree, columns_of, node_tree}
 use Rattle.std.proofs.lemmas.Result.{on_ok_weaker}
 use Rattle.mql_ast.specs.Trees.{branches, op_tree, pipe_tree, source_tree}
 use Rattle.mql_ast.proofs.BranchLemmas.{branches_of_source}
-use Rattle.mql_types.specs.Faults.{first_with}
+use Rattle.typed_trees.specs.Faults.{first_with}
 use Rattle.mql_types.specs.PartViews.{part_view}
-use Rattle.mql_types.specs.Typing.{Part, branch_faults, branch_node, branches_faults, branches_node, further_faults}
-use Rattle.mql_types.specs.Typing.{further_node, ops_faults, pipe_faults, source_faults, source_part, table}
-use Rattle.mql_types.proofs.FaultLemmas.{first_with-append, first_with-three}
+use Rattle.typed_trees.specs.Typing.{Part, branch_faults, branch_node, branches_faults, branches_node, further_faults}
+use Rattle.typed_trees.specs.Typing.{further_node, ops_faults, pipe_faults, source_faults, source_part, table}
+use Rattle.typed_columns.proofs.FaultLemmas.{first_with-append, first_with-three}
 use Rattle.mql_types.proofs.parts.+parts.Goals as goal
 
 pub source_part-returns-in_ok-node-in-Branches-clause-part : goal.source_part-returns-in_ok-node-in-Branches-clause-part

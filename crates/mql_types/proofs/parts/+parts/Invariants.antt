@@ -1,9 +1,9 @@
 -- The table so far, with the branches that are left.
 use Rattle.std.proofs.Common.{◌≡◌, map, drop}
 use Rattle.mql_ast.specs.Trees.{branches, pipe_tree}
-use Rattle.mql_types.specs.Faults.{first_with}
-use Rattle.mql_types.specs.Nodes.{node_tree}
-use Rattle.mql_types.specs.Typing.{branches_faults, branches_node, further_faults, further_node}
+use Rattle.typed_trees.specs.Faults.{first_with}
+use Rattle.typed_trees.specs.Nodes.{node_tree}
+use Rattle.typed_trees.specs.Typing.{branches_faults, branches_node, further_faults, further_node}
 use Rattle.mql_types.proofs.parts.+parts.Given as goal
 
 abbrev pub invariant-branches_node-loop-pipe : goal.invariant-branches_node-loop-pipe

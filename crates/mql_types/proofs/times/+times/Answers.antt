@@ -1,13 +1,13 @@
 use Rattle.std.proofs.Common.{◌≡◌, ◌∙◌, ◌+◌, ◌∷◌, List, drop, map, ap, sym, true, rules, arith}
 use Rattle.std.proofs.lemmas.List.{drop_more}
 use Rattle.mql_ast.specs.declared.pipes.Pipe.{Pipe}
-use Rattle.mql_types.proofs.FaultLemmas.{first_with-append}
+use Rattle.typed_columns.proofs.FaultLemmas.{first_with-append}
 use Rattle.mql_types.proofs.TimesLemmas.{said_of-append}
 use Rattle.mql_ast.specs.Trees.{branches, pipe_tree, source_tree}
 use Rattle.mql_ast.proofs.BranchLemmas.{branches_of_source}
-use Rattle.mql_types.specs.Faults.{first_with}
-use Rattle.mql_types.specs.Times.{branch_ops, branch_order_faults, pipe_ops, pipe_order_faults, said_of, source_ops}
-use Rattle.mql_types.specs.Times.{source_order_faults}
+use Rattle.typed_trees.specs.Faults.{first_with}
+use Rattle.typed_trees.specs.Times.{branch_ops, branch_order_faults, pipe_ops, pipe_order_faults, said_of, source_ops}
+use Rattle.typed_trees.specs.Times.{source_order_faults}
 use Rattle.mql_types.proofs.times.+times.Goals as goal
 
 pub hear_source-returns-in-Branches-clause-times : goal.hear_source-returns-in-Branches-clause-times

@@ -1,8 +1,8 @@
 -- What was said and found, with what the branches that are left have.
 use Rattle.std.proofs.Common.{◌≡◌, map, drop}
 use Rattle.mql_ast.specs.Trees.{branches, pipe_tree}
-use Rattle.mql_types.specs.Faults.{first_with}
-use Rattle.mql_types.specs.Times.{branch_ops, branch_order_faults, said_of}
+use Rattle.typed_trees.specs.Faults.{first_with}
+use Rattle.typed_trees.specs.Times.{branch_ops, branch_order_faults, said_of}
 use Rattle.mql_types.proofs.times.+times.Given as goal
 
 abbrev pub invariant-hear_branches-loop-pipe : goal.invariant-hear_branches-loop-pipe

@@ -1,7 +1,7 @@
 -- What was said, with what is left.
 use Rattle.std.proofs.Common.{◌≡◌, map, drop}
 use Rattle.mql_ast.specs.Trees.{op_tree}
-use Rattle.mql_types.specs.Times.{said_of}
+use Rattle.typed_trees.specs.Times.{said_of}
 use Rattle.mql_types.proofs.times.hear_ops.Given as goal
 
 abbrev pub invariant-loop-op : goal.invariant-loop-op

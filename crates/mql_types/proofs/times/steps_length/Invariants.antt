@@ -1,7 +1,7 @@
 -- The length so far, unless a step is left.
 use Rattle.std.proofs.Common.{◌≡◌, map, drop}
 use Rattle.mql_ast.specs.Trees.{op_tree}
-use Rattle.mql_types.specs.Times.{steps_length}
+use Rattle.typed_trees.specs.Times.{steps_length}
 use Rattle.mql_types.proofs.StepLemmas.{length_behind}
 use Rattle.mql_types.proofs.times.steps_length.Given as goal
 

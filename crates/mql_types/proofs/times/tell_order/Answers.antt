@@ -2,8 +2,8 @@ use Rattle.std.proofs.Common.{◌≡◌, ◌∙◌, ◌+◌, ◌∷◌, ◌||◌
 use Rattle.std.proofs.lemmas.List.{drop_more}
 use Rattle.mql_ast.specs.declared.operations.Op.{Op}
 use Rattle.mql_ast.specs.Trees.{op_tree}
-use Rattle.mql_types.specs.Faults.{first_with}
-use Rattle.mql_types.specs.Times.{order_faults}
+use Rattle.typed_trees.specs.Faults.{first_with}
+use Rattle.typed_trees.specs.Times.{order_faults}
 use Rattle.mql_types.proofs.StepLemmas.{have_steps-drop, order_step}
 use Rattle.mql_types.proofs.times.tell_order.Goals as goal
 

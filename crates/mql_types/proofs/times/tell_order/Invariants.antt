@@ -1,8 +1,8 @@
 -- What was found, with what is left.
 use Rattle.std.proofs.Common.{◌≡◌, map, drop, false}
 use Rattle.mql_ast.specs.Trees.{op_tree}
-use Rattle.mql_types.specs.Faults.{first_with}
-use Rattle.mql_types.specs.Times.{order_faults}
+use Rattle.typed_trees.specs.Faults.{first_with}
+use Rattle.typed_trees.specs.Times.{order_faults}
 use Rattle.mql_types.proofs.times.tell_order.Given as goal
 
 abbrev pub invariant-loop-place : goal.invariant-loop-place

@@ -1,6 +1,6 @@
 -- What is left to go down, with the filters so far, is the whole.
 use Rattle.std.proofs.Common.{◌≡◌}
-use Rattle.mql_types.specs.Nodes.{node_tree}
+use Rattle.typed_trees.specs.Nodes.{node_tree}
 use Rattle.plan_split.specs.FetchFormulas.{fetch_formula, schema_fetched}
 use Rattle.plan_split.specs.FormulaLinks.{filtered_formula}
 use Rattle.plan_split.proofs.fetches.fetch_formula.Given as goal

@@ -1,7 +1,7 @@
 -- The formulas so far, with those of the parts to come, are all.
 use Rattle.std.proofs.Common.{◌≡◌, ◌++◌, map}
 use Rattle.mon_hints.specs.Formulas.{formula_tree}
-use Rattle.mql_types.specs.Nodes.{node_tree}
+use Rattle.typed_trees.specs.Nodes.{node_tree}
 use Rattle.plan_split.specs.FetchFormulas.{fetch_formula, plan_formulas}
 use Rattle.plan_split.specs.FetchParts.{remaining_fetches, remaining_nodes}
 use Rattle.plan_split.proofs.splitting.formulas_of.Given as goal

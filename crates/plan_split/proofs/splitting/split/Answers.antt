@@ -1,8 +1,8 @@
 use Rattle.std.proofs.Common.{◌≡◌, ◌∙◌, List, map, rules, sym, subst}
 use Rattle.mon_hints.specs.Formulas.{FormulaTree, formula_tree}
-use Rattle.mql_types.proofs.FetchColumnLemmas.{fetches_have_columns}
-use Rattle.mql_types.specs.Nodes.{node_tree, typed_tree}
-use Rattle.mql_types.specs.Plans.{fetches}
+use Rattle.typed_trees.proofs.FetchColumnLemmas.{fetches_have_columns}
+use Rattle.typed_trees.specs.Nodes.{node_tree, typed_tree}
+use Rattle.typed_trees.specs.Plans.{fetches}
 use Rattle.plan_split.specs.Meeting.{AllHoldWhereMet}
 use Rattle.plan_split.proofs.FetchLemmas.{fetches_promise}
 use Rattle.plan_split.proofs.PlanBuckets.{plan_below}

@@ -1,4 +1,4 @@
-use Rattle.mql_types.specs.Nodes.{typed_tree}
+use Rattle.typed_trees.specs.Nodes.{typed_tree}
 use Rattle.query_texts.proofs.PlanLemmas.{plan_over}
 use Rattle.query_texts.proofs.planning.planned.Goals as goal
 

@@ -1,6 +1,6 @@
 use Rattle.std.proofs.lemmas.Result.{IfOk-weaker}
 use Rattle.mql_ast.specs.Trees.{query_tree}
-use Rattle.mql_types.specs.Nodes.{typed_tree}
+use Rattle.typed_trees.specs.Nodes.{typed_tree}
 use Rattle.query_texts.proofs.PlanLemmas.{gives_read, has_type}
 use Rattle.query_texts.proofs.planning.typed_text.Goals as goal
 

@@ -34,6 +34,10 @@ returns-then-is_finished-clause-ends g c =
           g.N.Names.setting setting c.args.moment view events range named asked from sound h.0 h.1;
       named_told = λ view events end h. c.ends_name_what_was_told.ensures.named g.N.Names.setting setting c.args.moment
           view events end h.0 h.1;
+      ordered = λ view events some licensed. c.sessions_keep_the_order.ensures.ordered g.N.Names.setting setting
+          c.args.moment view events some licensed;
+      whole = λ view events answer some h. c.sessions_keep_the_order.ensures.whole g.N.Names.setting setting
+          c.args.moment view events answer some h.0 h.1;
       counted = λ view events answer asked from sound h. c.traces_count_what_was_sent.ensures.sent g.N.Names.setting
           setting c.args.moment view events answer asked from sound h.0 h.1;
     } in

@@ -3,7 +3,7 @@ use Rattle.weave_core.proofs.ActorStepLemmas.{query_asks_for, query_step, recove
 use Rattle.weave_core.proofs.ActorStepLemmas.{switch_asks_for, switch_step, write_step}
 use Rattle.weave_core.specs.ActorSteps.{ActorSteps, QueriedSo, RecoveredSo, SwitchedSo, WrittenSo}
 use Rattle.weave_core.specs.declared.actors.Actor.{Actor}
-use Rattle.weave_core.specs.declared.calls.Stepped.{Stepped}
+use Rattle.weave_core.specs.declared.stepped.Stepped.{Stepped}
 use Rattle.weave_core.proofs.actor_steps.step_actor.Goals as goal
 use Rattle.mon_value.proofs.PlainLemmas.{if_ok_on}
 
@@ -51,11 +51,11 @@ returns-in_ok-turn-in-Writes c = record {
 pub returns-in_ok-turn-in-Queries : goal.returns-in_ok-turn-in-Queries
 returns-in_ok-turn-in-Queries c = record {
   stepped = λ config state i here. if_ok_on
-      (λ (pair : Actor × Option Stepped). QueriedSo c.query.new.self.config.topology c.in_ok-turn-in-Queries.turn
+      (λ (pair : Actor × Option Stepped). QueriedSo c.query.new.store.config.topology c.in_ok-turn-in-Queries.turn
       c.query.new.sight c.args.own.begun pair.0 pair.1)
-      (λ (pair : Actor × Option Stepped). ActorSteps config state i c.query.new.self c.args.own pair.0 pair.1)
+      (λ (pair : Actor × Option Stepped). ActorSteps config state i c.query.new.store c.args.own pair.0 pair.1)
       (λ pair h. query_step config state i c.args.store.now c.args.own here c.in-Queries.querying c.in-Queries.is
-      c.query.new.self c.query.new.sight c.in_ok-turn-in-Queries.turn pair.0 pair.1
+      c.query.new.store c.query.new.sight c.in_ok-turn-in-Queries.turn pair.0 pair.1
       (λ asking. c.in_ok-turn-in-Queries.ensures.turn config state.core i asking) h)
       c.queried.result c.queried.ensures.queried;
 }

@@ -3,7 +3,7 @@ use Rattle.weave_core.proofs.ReachedLemmas.{reached}
 use Rattle.core_theory.proofs.EndedLemmas.{finds_all}
 use Rattle.core_theory.proofs.ReaderLemmas.{as_new, stage_is}
 use Rattle.core_theory.proofs.RecoveredLemmas.{finds_all_down, recovers_all}
-use Rattle.weave_core.specs.States.{store_of}
+use Rattle.core_store.specs.Agreements.{store_of}
 use Rattle.weave_core.proofs.schedule_laws.schedules_answer_rightly.Goals as goal
 
 pub returns : goal.returns

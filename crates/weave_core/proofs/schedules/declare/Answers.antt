@@ -1,5 +1,5 @@
 use Rattle.std.proofs.Common.{◌∙◌, Bool, Some, None, [], cond, refl, sym, ap}
-use Rattle.weave_core.specs.declared.calls.WeaveFault.TheVariants as fault
+use Rattle.schedule_lines.specs.declared.calls.WeaveFault.TheVariants as fault
 use Rattle.weave_core.proofs.schedules.declare.Goals as goal
 
 pub declare-requires-clause-may : goal.declare-requires-clause-may

@@ -5,8 +5,8 @@ use Rattle.weave_core.proofs.PassedLemmas.{passed_on}
 use Rattle.weave_core.proofs.TurnLemmas.{goes_refused, going_more, gone_before, gone_by, gone_rests}
 use Rattle.weave_core.specs.ScheduleTurns.{GoesSo}
 use Rattle.weave_core.specs.WeaveCalls.{StepsSo}
-use Rattle.weave_core.specs.declared.calls.Stepped.{Stepped}
-use Rattle.weave_core.specs.declared.calls.WeaveFault.{WeaveFault}
+use Rattle.weave_core.specs.declared.stepped.Stepped.{Stepped}
+use Rattle.schedule_lines.specs.declared.calls.WeaveFault.{WeaveFault}
 use Rattle.weave_core.proofs.schedules.go_on.Goals as goal
 
 pub returns-then-is_next-clause-goes : goal.returns-then-is_next-clause-goes

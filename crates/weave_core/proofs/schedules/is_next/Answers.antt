@@ -1,7 +1,7 @@
 use Rattle.std.proofs.Common.{◌∙◌, Option, sym, subst}
 use Rattle.weave_core.specs.Schedules as spec
-use Rattle.weave_core.specs.States.{store_of}
-use Rattle.weave_core.specs.declared.events.Event.{Event}
+use Rattle.core_store.specs.Agreements.{store_of}
+use Rattle.schedule_lines.specs.declared.events.Event.{Event}
 use Rattle.weave_core.proofs.schedules.is_next.Goals as goal
 
 pub returns-in-Some-clause-next : goal.returns-in-Some-clause-next

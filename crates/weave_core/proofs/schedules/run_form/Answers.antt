@@ -1,9 +1,9 @@
 use Rattle.std.proofs.Common.{string_bytes, sym, subst}
 use Rattle.weave_core.proofs.PassedLemmas.{silent}
-use Rattle.weave_core.specs.LawfulLines.{IsLawfulForm}
+use Rattle.schedule_lines.specs.LawfulLines.{IsLawfulForm}
 use Rattle.weave_core.specs.ScheduleTurns.{FormSo}
-use Rattle.weave_core.specs.declared.lines.LineForm.{LineForm}
-use Rattle.weave_core.specs.declared.lines.LineForm.TheVariants as form
+use Rattle.schedule_lines.specs.declared.lines.LineForm.{LineForm}
+use Rattle.schedule_lines.specs.declared.lines.LineForm.TheVariants as form
 use Rattle.weave_core.proofs.schedules.run_form.Goals as goal
 
 pub declare-requires-clause-actor : goal.declare-requires-clause-actor

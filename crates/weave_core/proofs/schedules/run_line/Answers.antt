@@ -4,11 +4,11 @@ use Rattle.mon_config.specs.declared.config.Config.{Config}
 use Rattle.mon_value.specs.declared.refusals.Refusal.{Refusal}
 use Rattle.mon_value.specs.declared.refusals.Refusal.TheVariants as refusal
 use Rattle.weave_core.proofs.PassedLemmas.{line_starved, passed_on}
-use Rattle.weave_core.specs.LawfulLines.{IsLawfulForm}
-use Rattle.weave_core.specs.ScheduleLines.{schedule_form}
+use Rattle.schedule_lines.specs.LawfulLines.{IsLawfulForm}
+use Rattle.schedule_lines.specs.ScheduleLines.{schedule_form}
 use Rattle.weave_core.specs.ScheduleTurns.{LineBy, LineSo}
-use Rattle.weave_core.specs.declared.calls.WeaveFault.{WeaveFault}
-use Rattle.weave_core.specs.declared.lines.LineForm.{LineForm}
+use Rattle.schedule_lines.specs.declared.calls.WeaveFault.{WeaveFault}
+use Rattle.schedule_lines.specs.declared.lines.LineForm.{LineForm}
 use Rattle.weave_core.proofs.schedules.run_line.Goals as goal
 
 pub returns-in_err-form-clause-ran : goal.returns-in_err-form-clause-ran

@@ -5,7 +5,7 @@ use Rattle.mon_value.specs.declared.refusals.Refusal.{Refusal}
 use Rattle.weave_core.proofs.LineRunLemmas.{Running, lines_end, lines_refused, running_begins, running_more}
 use Rattle.weave_core.proofs.PassedLemmas.{passed_on}
 use Rattle.weave_core.specs.ScheduleTurns.{LinesSo}
-use Rattle.weave_core.specs.declared.calls.ScheduleFault.{ScheduleFault}
+use Rattle.schedule_lines.specs.declared.calls.ScheduleFault.{ScheduleFault}
 use Rattle.weave_core.proofs.schedules.run_lines.Goals as goal
 
 pub loop-line-init : goal.loop-line-init

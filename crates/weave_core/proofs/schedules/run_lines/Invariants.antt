@@ -3,9 +3,10 @@ use Rattle.std.proofs.Common.{◌≤◌, length, string_bytes}
 use Rattle.mon_config.specs.declared.config.Config.{Config}
 use Rattle.mon_script.specs.Lines.{lines_of}
 use Rattle.weave_core.specs.ActorAgreements.{Agrees}
-use Rattle.weave_core.specs.States.{State, store_of}
+use Rattle.weave_core.specs.States.{State}
+use Rattle.core_store.specs.Agreements.{store_of}
 use Rattle.weave_core.specs.WeaveCalls.{IsWeaveKept}
-use Rattle.weave_core.specs.declared.limits.TheConstants.{MOST_LINES}
+use Rattle.schedule_lines.specs.declared.limits.TheConstants.{MOST_LINES}
 use Rattle.weave_core.proofs.LineRunLemmas.{Running}
 use Rattle.weave_core.proofs.schedules.run_lines.Given as goal
 

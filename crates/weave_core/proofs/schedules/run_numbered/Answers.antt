@@ -1,11 +1,11 @@
 use Rattle.std.proofs.Common.{rules, ◌≡◌, true, false, nat_lt, Err, string_bytes, refl, sym, subst}
 use Rattle.weave_core.proofs.LineRunLemmas.{line_ran, line_stopped, remark_runs}
 use Rattle.mon_value.specs.declared.refusals.Refusal.{Refusal}
-use Rattle.weave_core.specs.ScheduleLines.{schedule_form}
+use Rattle.schedule_lines.specs.ScheduleLines.{schedule_form}
 use Rattle.weave_core.specs.ScheduleTurns.{LineSo, NumberedSo}
-use Rattle.weave_core.specs.declared.calls.ScheduleFault.{ScheduleFault}
-use Rattle.weave_core.specs.declared.calls.WeaveFault.{WeaveFault}
-use Rattle.weave_core.specs.declared.limits.TheConstants.{MOST_LINES}
+use Rattle.schedule_lines.specs.declared.calls.ScheduleFault.{ScheduleFault}
+use Rattle.schedule_lines.specs.declared.calls.WeaveFault.{WeaveFault}
+use Rattle.schedule_lines.specs.declared.limits.TheConstants.{MOST_LINES}
 use Rattle.mon_script.specs.Lines.{is_remark}
 use Rattle.weave_core.proofs.schedules.run_numbered.Goals as goal
 

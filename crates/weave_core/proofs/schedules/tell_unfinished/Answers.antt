@@ -2,8 +2,8 @@ use Rattle.std.proofs.Common.{◌≡◌, ◌∙◌, ◌++◌, ℕ, string_bytes,
 use Rattle.std.specs.List.{flat_map, range_with_len}
 use Rattle.weave_core.proofs.LineRunLemmas.{unfinished_more}
 use Rattle.weave_core.specs.Schedules.{unfinished_line}
-use Rattle.weave_core.specs.States.{store_of}
-use Rattle.weave_core.specs.declared.limits.TheConstants.{LAST_ACTOR}
+use Rattle.core_store.specs.Agreements.{store_of}
+use Rattle.schedule_lines.specs.declared.limits.TheConstants.{LAST_ACTOR}
 use Rattle.weave_core.proofs.schedules.tell_unfinished.Goals as goal
 
 pub loop-number-preserved : goal.loop-number-preserved

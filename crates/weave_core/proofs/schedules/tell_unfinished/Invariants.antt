@@ -4,7 +4,8 @@ use Rattle.std.specs.List.{flat_map, range_with_len}
 use Rattle.mon_config.specs.declared.config.Config.{Config}
 use Rattle.weave_core.specs.ActorAgreements.{Agrees}
 use Rattle.weave_core.specs.Schedules.{unfinished_line}
-use Rattle.weave_core.specs.States.{State, store_of}
+use Rattle.weave_core.specs.States.{State}
+use Rattle.core_store.specs.Agreements.{store_of}
 use Rattle.weave_core.proofs.schedules.tell_unfinished.Given as goal
 
 abbrev pub invariant-loop-number : goal.invariant-loop-number

@@ -4,8 +4,8 @@ use Rattle.mon_value.specs.declared.refusals.Refusal.{Refusal}
 use Rattle.weave_core.proofs.PassedLemmas.{passed_on, turn_refused}
 use Rattle.weave_core.specs.ScheduleTurns.{FormSo}
 use Rattle.weave_core.specs.Schedules.{stepped_text}
-use Rattle.weave_core.specs.declared.calls.WeaveFault.{WeaveFault}
-use Rattle.weave_core.specs.declared.lines.LineForm.TheVariants as form
+use Rattle.schedule_lines.specs.declared.calls.WeaveFault.{WeaveFault}
+use Rattle.schedule_lines.specs.declared.lines.LineForm.TheVariants as form
 use Rattle.weave_core.proofs.schedules.until.Goals as goal
 
 pub returns-in_err-stepped-clause-ran : goal.returns-in_err-stepped-clause-ran

@@ -2,9 +2,9 @@ use Rattle.std.proofs.Common.{◌≡◌, ◌∙◌, List, sym, ap, subst}
 use Rattle.mon_expr.specs.BoundPredicates.{IsBoundPredicate}
 use Rattle.mon_value.specs.declared.columns.Column.{Column}
 use Rattle.mql_ast.specs.Trees.{predicate_tree}
-use Rattle.mql_types.specs.Meaning.{names_keys}
-use Rattle.mql_types.specs.Nodes as node
-use Rattle.mql_types.specs.Nodes.{NodeTree, node_tree}
+use Rattle.typed_trees.specs.Meaning.{names_keys}
+use Rattle.typed_trees.specs.Nodes as node
+use Rattle.typed_trees.specs.Nodes.{NodeTree, node_tree}
 use Rattle.mon_meaning.proofs.FilterSteps.{Remains, moved, with_points, with_series}
 use Rattle.mon_meaning.proofs.fetches.Fetch.new.Goals as goal
 use Rattle.mon_meaning.proofs.fetches.Fetch.new.Goals.{then-names_keys+in_ok-push-in-Filter}

@@ -1,6 +1,6 @@
 -- the filters so far, and what is left below them, say what the whole part says
-use Rattle.mql_types.specs.Nodes.{node_tree}
-use Rattle.mql_types.specs.ExplanationParts.{nodes}
+use Rattle.typed_trees.specs.Nodes.{node_tree}
+use Rattle.typed_trees.specs.ExplanationParts.{nodes}
 use Rattle.mon_meaning.proofs.FilterSteps.{Remains}
 use Rattle.mon_meaning.proofs.fetches.Fetch.new.Given as goal
 

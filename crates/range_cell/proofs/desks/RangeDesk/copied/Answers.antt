@@ -10,7 +10,7 @@ use Rattle.mon_value.specs.declared.positions.SlotLeaf.{SlotLeaf}
 use Rattle.mon_value.specs.declared.rows.Row.{Row}
 use Rattle.owners.specs.Copies.{HasCopied}
 use Rattle.range_cell.proofs.LookingLemmas.{down_now, down_on, found_rows, looks_on}
-use Rattle.range_cell.proofs.LookingLemmas.{one_found}
+use Rattle.range_cell.proofs.LookingLemmas.{one_found, up_now}
 use Rattle.range_cell.specs.Recoveries.{IsFoundDown, NotYet, after_copying}
 use Rattle.range_cell.proofs.desks.RangeDesk.copied.Goals as goal
 
@@ -61,6 +61,26 @@ returns-in-Ok-Rows-clause-copied g c =
     up.history up.called up.rooms_are
     (up.handed ∙ ap (λ (n : ℕ). stopped_count (n + length c.in-Ok-Rows.rows)) looking.counted
     ∙ ap (λ (xs : List Row). stopped_count (begun.handed + length xs)) rows)
+
+pub returns-in-Ok-Rows-clause-source : goal.returns-in-Ok-Rows-clause-source
+returns-in-Ok-Rows-clause-source g c =
+    let begun = c.args.know.now in
+    let old = c.loop-source.know in
+    let new = c.copy.new.know in
+    let range = c.args.range in
+    let sources = c.args.sources.now in
+    let i = c.loop-source.source-index in
+    let source : SlotLeaf = slice_index_or sources i none_yet in
+    let up = subst (λ (x : Copied). HasCopied source.leaf range source.slot x old new) c.in-Ok-Rows.field-0-is
+    c.in-Ok-Rows.ensures.copied in
+    record {
+      source = source;
+      among = subst (λ (xs : List SlotLeaf). Contains xs source) c.requires.serve
+          (Contains-get_or sources i none_yet c.loop-source-test.true);
+      cut = length up.history;
+      found = up_now range begun.handed begun.handed begun old new c.loop-source.invariant.looking c.requires.held
+          source.leaf up.history up.called up.up;
+    }
 
 pub returns-then-is_err-clause-refused : goal.returns-then-is_err-clause-refused
 returns-then-is_err-clause-refused g c =

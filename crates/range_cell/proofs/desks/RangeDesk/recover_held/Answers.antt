@@ -47,7 +47,7 @@ returns-in-Ok-clause-ended g c =
     let mid = c.copied.new.know in
     let history = c.args.self.now.replay.history in
     ended_there leaves c.args.range c.args.leaf history (pass_of know) know mid c.open_there.new.know
-    c.open_there.result c.in-Ok.ensures.copied
+    c.open_there.result c.in-Ok.ensures.source c.in-Ok.ensures.copied
     (subst (λ (n : ℕ). HasEndedThere leaves c.args.range c.args.leaf history n mid c.open_there.new.know
     c.open_there.result)
     (same_pass g.N.Names.setting c.args.range c.args.leaf history (after_copying history know) know mid

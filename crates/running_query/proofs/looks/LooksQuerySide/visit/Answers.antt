@@ -3,8 +3,8 @@ use Rattle.mon_hints.specs.Formulas.{all_named, formula_tree, formulas, AreAmong
 use Rattle.mon_meaning.specs.ReadableSlots.{CanBeRead}
 use Rattle.mon_value.specs.Histories.{leaf_history}
 use Rattle.mon_value.specs.declared.positions.RangeSlot.{RangeSlot}
-use Rattle.mql_types.specs.Nodes.{typed_tree}
-use Rattle.mql_types.specs.declared.plans.Plan.{Plan}
+use Rattle.typed_trees.specs.Nodes.{typed_tree}
+use Rattle.typed_trees.specs.declared.plans.Plan.{Plan}
 use Rattle.query_core.specs.Machine.{slots_of}
 use Rattle.running_query.proofs.AnswerLemmas.{leaf_answered, leaf_there, listed, readable}
 use Rattle.running_query.specs.Telling.{LooksSo}

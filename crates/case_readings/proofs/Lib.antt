@@ -1,4 +1,0 @@
-pub mod AmongLemmas
-pub mod PartLemmas
-mod PlaceLemmas
-pub mod ReadingLemmas

@@ -1,0 +1,14 @@
+pub mod Agreements
+pub mod FirstSeats
+pub mod HintWords
+pub mod Holders
+pub mod Meetings
+pub mod NextAsks
+pub mod Openings
+pub mod Recoverers
+pub mod RecoverTurns
+pub mod RecoveryEvents
+pub mod Switches
+pub mod WriteEvents
+pub mod Writers
+pub mod WriteTurns

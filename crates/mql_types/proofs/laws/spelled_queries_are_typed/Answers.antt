@@ -1,5 +1,0 @@
-use Rattle.mql_types.proofs.QueryLaws.{spelled_typed}
-use Rattle.mql_types.proofs.laws.spelled_queries_are_typed.Goals as goal
-
-pub returns : goal.returns
-returns c = record { typed = spelled_typed }

@@ -1,5 +1,0 @@
-use Rattle.mql_types.proofs.QueryLaws.{typed_narrow, typed_widths}
-use Rattle.mql_types.proofs.laws.widths_hold.Goals as goal
-
-pub returns : goal.returns
-returns c = record { narrow = typed_narrow; widths = typed_widths }

@@ -1,4 +1,0 @@
-pub mod CallerLemmas
-pub mod FirstLemmas
-pub mod OpeningLemmas
-pub mod PlaceLemmas

@@ -1,0 +1,4 @@
+pub mod EventNames
+pub mod FaultTexts
+pub mod LawfulLines
+pub mod ScheduleLines

@@ -1,0 +1,3 @@
+pub mod NamedPlaces
+pub mod OperandLinks
+pub mod PredicateParts

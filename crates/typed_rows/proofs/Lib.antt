@@ -1,0 +1,25 @@
+pub mod AlignedRows
+pub mod AlignedValues
+pub mod DurationLemmas
+pub mod FetchedPoints
+pub mod FetchedTrees
+pub mod FoldedColumns
+pub mod FoldedValues
+pub mod GroupSums
+pub mod GroupedRows
+pub mod JoinedRows
+pub mod KeptRows
+pub mod KnownSums
+pub mod MadeCells
+pub mod QueryLaws
+pub mod RowCounts
+pub mod SpelledQueries
+pub mod SumBounds
+mod SumTotals
+pub mod Totals
+pub mod TypedGridLemmas
+pub mod TypedQueries
+pub mod TypedSums
+pub mod TypedTrees
+pub mod UnitedRows
+pub mod ValueRows

@@ -1,0 +1,2 @@
+mod ExplanationLemmas
+pub mod FetchColumnLemmas

@@ -1,0 +1,14 @@
+pub mod Branches
+pub mod ExplanationParts
+pub mod Faults
+pub mod Fetches
+pub mod Groupings
+pub mod Items
+pub mod LevelLoads
+pub mod Levels
+pub mod Meaning
+pub mod Nodes
+pub mod Plans
+pub mod Soundness
+pub mod Times
+pub mod Typing

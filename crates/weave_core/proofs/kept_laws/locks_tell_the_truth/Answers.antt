@@ -1,5 +1,0 @@
-use Rattle.weave_core.proofs.LockLemmas.{lock_true}
-use Rattle.weave_core.proofs.kept_laws.locks_tell_the_truth.Goals as goal
-
-pub returns : goal.returns
-returns c = record { told = lock_true }

@@ -1,5 +1,0 @@
-use Rattle.weave_core.proofs.WordLemmas.{one_raised}
-use Rattle.weave_core.proofs.kept_laws.one_bit_is_raised.Goals as goal
-
-pub returns : goal.returns
-returns c = record { one = one_raised }
