@@ -44,15 +44,15 @@ asked_behind config known parts one other ran =
     (subst (AllRan config known) (append_assoc parts (asked_parts one) (asked_parts other)) ran)
 
 -- as many contents as lines
-held_count : {lines : List ScriptLine} {contents : List (List ℕ)} {given : Files}
+held_count : (lines : List ScriptLine) {contents : List (List ℕ)} {given : Files}
     → HaveGiven (forms_of lines) contents given → length contents ≡ length lines
-held_count {lines} have = have.count ∙ length-map lines (λ (line : ScriptLine). line.what)
+held_count lines have = have.count ∙ length-map lines (λ (line : ScriptLine). line.what)
 
 -- what lines say, and others
-lines_given : {lines more : List ScriptLine} {contents others : List (List ℕ)} {given behind : Files}
+lines_given : (lines more : List ScriptLine) {contents others : List (List ℕ)} {given behind : Files}
     → HaveGiven (forms_of lines) contents given → HaveGiven (forms_of more) others behind
     → HaveGiven (forms_of (lines ++ more)) (contents ++ others) (given ++ behind)
-lines_given {lines} {more} {contents} {others} {given} {behind} first second =
+lines_given lines more {contents} {others} {given} {behind} first second =
     subst (λ (forms : List LineForm). HaveGiven forms (contents ++ others) (given ++ behind))
     (sym (forms_both lines more)) (have_both first second)
 
@@ -86,7 +86,7 @@ module _ {config : Config} {lines more : List ScriptLine} {from mid known : Hist
       given = first.given ++ second.given;
       gave = second.gave ∙ ap (λ (reads : Files). reads ++ second.given) first.gave
           ∙ append_assoc before.folder.gave first.given second.given;
-      have = lines_given {lines = lines} {more = more} first.have second.have;
+      have = lines_given lines more first.have second.have;
       apart = subst StandApart (sym both) apart;
       grown = grown_then first.grown second.grown;
       ran = λ parts ran.
@@ -115,7 +115,7 @@ module _ {config : Config} {lines more : List ScriptLine} {from mid known : Hist
 
         both : ran_lines (lines ++ more) (first.contents ++ second.contents) (first.traces ++ second.traces) ≡ one ++ other
         both = ran_both lines more first.contents second.contents first.traces second.traces
-            (held_count {lines = lines} first.have) first.count
+            (held_count lines first.have) first.count
 
         apart : StandApart (one ++ other)
         apart rest =
@@ -173,7 +173,7 @@ module _ {config : Config} {lines more : List ScriptLine} {from mid known : Hist
             (ap (λ (forms : List LineForm). contents_of forms reads) (forms_both lines more)
             ∙ first.have.held (forms_of more) second.reads)
             ∙ ran_both lines more first.contents (contents_of (forms_of more) second.reads) first.traces second.traces
-            (held_count {lines = lines} first.have) first.count
+            (held_count lines first.have) first.count
 
         reads_left : reads_behind (forms_of (take (length (first.traces ++ second.traces)) (lines ++ more))) reads
             ≡ reads_behind (forms_of (take (length second.traces) more)) second.reads
@@ -256,7 +256,7 @@ module _ {config : Config} {part : Part RanLine} {traces : List LineTrace} {from
           (ap (λ (forms : List LineForm). contents_of forms given) (forms_both lines left)
           ∙ ap (contents_of (forms_of lines ++ forms_of left)) (sym (append-nil given))
           ∙ have.held (forms_of left) [])
-          ∙ ran_first lines left contents (contents_of (forms_of left) []) traces (held_count {lines = lines} have) count
+          ∙ ran_first lines left contents (contents_of (forms_of left) []) traces (held_count lines have) count
 
 -- a run stopped before its next part came to something
 pub lines_early : (config : Config) (line : ScriptLine) (behind : List ScriptLine) (forms : List LineForm)

@@ -67,9 +67,9 @@ asks_starved read name before after is asks = subst (λ r. Asks r name before af
 -- ---- how long a file is
 
 -- no longer than a run reads
-pub short_by : {content : List ℕ} → length content ≤ LONGEST_FILE → is_too_long content ≡ false
-short_by {content} le = grind (arith, nat_tests)
+pub short_by : (content : List ℕ) → length content ≤ LONGEST_FILE → is_too_long content ≡ false
+short_by content le = grind (arith, nat_tests)
 
 -- longer
-pub long_by : {content : List ℕ} → LONGEST_FILE < length content → is_too_long content ≡ true
-long_by {content} less = grind (arith, nat_tests)
+pub long_by : (content : List ℕ) → LONGEST_FILE < length content → is_too_long content ≡ true
+long_by content less = grind (arith, nat_tests)

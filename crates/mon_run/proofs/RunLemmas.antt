@@ -27,7 +27,7 @@ use Rattle.weave_core.specs.Schedules.{IsPrinted, Printed}
 use Rattle.schedule_lines.specs.declared.calls.ScheduleFault.{ScheduleFault}
 use Rattle.mon_run.proofs.EndLemmas.{causes_earlier, refused_config}
 use Rattle.mon_run.proofs.SinkLemmas.{nothing_written}
-use Rattle.mon_run.proofs.StepLemmas.{did_none, did_then, done_behind, not_long, stops_behind}
+use Rattle.mon_run.proofs.StepLemmas.{did_none, did_then, done_behind, gave_nothing, not_long, stops_behind}
 
 -- ---- in the middle of a part
 
@@ -70,6 +70,10 @@ ends_stopped p ended stopped {before} {after} (s, is, same) halts = record {
       halts;
 }
 
+-- where no store was made, nothing is told of it
+pub none_told : (known : Option Histories) (Claim : Histories → Type 0) → known ≡ None → IfSome known Claim
+none_told known Claim none = subst (λ (k : Option Histories). IfSome k Claim) (sym none) tt
+
 -- so did one that had not come to a schedule's end, nor to a store
 pub weaves_stopped : (plan : Came → Files → Plan) (may : Files → Printed → Type 0) (tells : Tells)
     (known : Option Histories) (ended : Result Bool Stop) (stopped : Stop) {before : Progress} (after : Progress)
@@ -88,10 +92,6 @@ weaves_stopped plan may tells known ended stopped {before} after none stops halt
 -- nothing was noted
 pub none_noted : {F O : Type 0} (run : Run F O) → run.log.now.ended ≡ None → noted run ≡ None
 none_noted run none = ap seen_by none
-
--- where no store was made, nothing is told of it
-pub none_told : (known : Option Histories) (Claim : Histories → Type 0) → known ≡ None → IfSome known Claim
-none_told known Claim none = subst (λ (k : Option Histories). IfSome k Claim) (sym none) tt
 
 -- what is told is handed on
 pub told_as : (known : Option Histories) (P Q : Histories → Type 0) → ((histories : Histories) → P histories → Q
@@ -118,17 +118,10 @@ ends_behind {p} {whole} steps (Err stopped) {before} {mid} after is did counts e
 }
 
 -- what was read behind a read
-pub gave_behind : {name content : List ℕ} {before mid after : Progress} (reads : Files)
-    → Did (Ask name content ∷ []) before mid → after.folder.gave ≡ mid.folder.gave ++ reads
-    → after.folder.gave ≡ before.folder.gave ++ (name, content) ∷ reads
-gave_behind {name} {content} {before} reads did gave =
-    gave ∙ ap (λ (front : Files). front ++ reads) did.gave
-    ∙ append_assoc before.folder.gave ((name, content) ∷ []) reads
-
--- nothing more was read
-pub gave_none : {before after : Progress} → after.folder ≡ before.folder
-    → after.folder.gave ≡ before.folder.gave ++ []
-gave_none {before} same = ap (λ (f : FolderState). f.gave) same ∙ sym (append-nil before.folder.gave)
+pub gave_behind : (read : List ℕ × List ℕ) (before reads : Files) {mid after : Files} → mid ≡ before ++ read ∷ []
+    → after ≡ mid ++ reads → after ≡ before ++ read ∷ reads
+gave_behind read before reads first second =
+    second ∙ ap (λ (front : Files). front ++ reads) first ∙ append_assoc before (read ∷ []) reads
 
 -- ---- schedules
 
@@ -210,7 +203,7 @@ files_weave what read known ended {before} {mid} after config counts weaves =
     let of : Came = came weaves.woven known after.ends in
     record {
       reads = (what.config, config.content) ∷ weaves.reads;
-      gave = gave_behind weaves.reads config.did weaves.gave;
+      gave = gave_behind (what.config, config.content) before.folder.gave weaves.reads config.did.gave weaves.gave;
       woven = weaves.woven;
       printed = by weaves.woven weaves.printed;
       told = told_as known
@@ -250,7 +243,7 @@ named_weave read what name text known ended {before} {mid} after short did count
     let of : Came = came weaves.woven known after.ends in
     record {
       reads = (name, text) ∷ weaves.reads;
-      gave = gave_behind weaves.reads did weaves.gave;
+      gave = gave_behind (name, text) before.folder.gave weaves.reads did.gave weaves.gave;
       woven = weaves.woven;
       printed = weaves.printed;
       told = weaves.told;
@@ -322,7 +315,7 @@ pub words_made : (words : List (List ℕ)) (number : ℕ) (known : Option Histor
     → Weaves (words_plan words) IsWovenBy (RunTells words) known ended before after
 words_made words number known ended {before} after nothing is same ends = record {
   reads = [];
-  gave = gave_none {before = before} {after = after} same;
+  gave = gave_nothing (ap (λ (f : FolderState). f.gave) same);
   woven = None;
   printed = tt;
   told = none_told known (λ histories. RunTells words (ended ≡ Err stop.OutOfMemory) [] histories after.ends) nothing;

@@ -121,9 +121,9 @@ read_still read did = record {
 }
 
 -- what was given is so behind steps that read nothing
-still_gave : {before mid after : Progress} {given : Files} → mid.folder.gave ≡ before.folder.gave ++ given
-    → after.folder.gave ≡ mid.folder.gave ++ [] → after.folder.gave ≡ before.folder.gave ++ given
-still_gave {mid = mid} gave still = still ∙ append-nil mid.folder.gave ∙ gave
+still_gave : (before given : Files) {mid after : Files} → mid ≡ before ++ given → after ≡ mid ++ []
+    → after ≡ before ++ given
+still_gave before given {mid} gave still = still ∙ append-nil mid ∙ gave
 
 -- ---- a line alone
 
@@ -153,7 +153,7 @@ module _ {config : Config} {what : LineForm} {content : List ℕ} {trace : LineT
   ended_behind = ends.ends ∙ ap (λ (xs : List LineTrace). xs ++ trace ∷ []) first
 
   gave_there : ended.folder.gave ≡ before.folder.gave ++ has_read.given
-  gave_there = still_gave has_read.gave ends.gave
+  gave_there = still_gave before.folder.gave has_read.given has_read.gave ends.gave
 
   pub alone_ran : (after : Progress) → Did (Write text ∷ []) ended after → after.ends ≡ ended.ends
       → AloneRan config what know.seen known.seen before after
@@ -161,7 +161,7 @@ module _ {config : Config} {what : LineForm} {content : List ℕ} {trace : LineT
     content = content;
     trace = trace;
     went = part_went (has_read.read.steps ++ End trace ∷ []) did same has_read.given has_read.have after
-        (last ∙ ended_behind) (still_gave gave_there wrote.gave) (did_then has_read.read.did ends)
+        (last ∙ ended_behind) (still_gave before.folder.gave has_read.given gave_there wrote.gave) (did_then has_read.read.did ends)
         (did_print text wrote);
   }
 
@@ -275,7 +275,7 @@ module _ (config : Config) (lines : List ScriptLine) (contents : List (List ℕ)
   block_noted = noted ∙ ap (λ (xs : List LineTrace). xs ++ block_traces traces) first
 
   block_gave : ended.folder.gave ≡ before.folder.gave ++ has_read.given
-  block_gave = still_gave has_read.gave
+  block_gave = still_gave before.folder.gave has_read.given has_read.gave
       (ends.gave ∙ ap (λ (more : Files). read.folder.gave ++ more)
       (sym (no_items given_in (λ trace. refl) (block_traces traces))))
 
@@ -289,7 +289,7 @@ module _ (config : Config) (lines : List ScriptLine) (contents : List (List ℕ)
     went = part_went (has_read.read.steps ++ map (λ trace. End trace) (block_traces traces)) did block_plan
         has_read.given (block_have lines contents traces has_read.given held count has_read.have) after
         (last ∙ block_noted)
-        (still_gave block_gave (wrote.gave ∙ ap (λ (more : Files). ended.folder.gave ++ more) (no_reads texts)))
+        (still_gave before.folder.gave has_read.given block_gave (wrote.gave ∙ ap (λ (more : Files). ended.folder.gave ++ more) (no_reads texts)))
         (did_then has_read.read.did ends) wrote;
   }
 

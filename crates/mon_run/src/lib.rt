@@ -5,6 +5,7 @@
 mod blocks;
 mod command;
 mod entry;
+mod look;
 mod outcome;
 mod outside;
 mod parts;

@@ -31,7 +31,7 @@ returns-in_err-config-clause-stops g c =
     (config_stop c.in_err-config.field-0.0)
     (err_from_is_err_and c.from_residual-in_err-config.result c.from_residual-in_err-config.ensures.1)
     (config_refused name text c.in_err-config.field-0.0
-    (subst (λ (t : List ℕ). is_too_long t ≡ false) (sym c.as_slice.ensures.value) (short_by c.in_ok-text.ensures.bounded))
+    (subst (λ (t : List ℕ). is_too_long t ≡ false) (sym c.as_slice.ensures.value) (short_by _ c.in_ok-text.ensures.bounded))
     c.in_err-config.ensures.exact
     (subst (λ (t : List ℕ). Did (Ask name t ∷ []) before after) (sym c.as_slice.ensures.value)
     c.in_ok-text.ensures.asked))
@@ -43,7 +43,7 @@ returns-clause-config g c =
     record {
       content = c.as_slice.result.now;
       short = subst (λ (t : List ℕ). is_too_long t ≡ false) (sym c.as_slice.ensures.value)
-          (short_by c.in_ok-text.ensures.bounded);
+          (short_by _ c.in_ok-text.ensures.bounded);
       is = c.in_ok-config.ensures.exact;
       did = subst (λ (t : List ℕ). Did (Ask c.args.name.now t ∷ []) before after) (sym c.as_slice.ensures.value)
           c.in_ok-text.ensures.asked;

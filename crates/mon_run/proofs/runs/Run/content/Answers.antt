@@ -16,7 +16,7 @@ returns-in_ok-content-in-Feed-clause-read g c =
     let after : Progress = seen g.F.Folder.state g.O.Sink.state c.read.new.self in
     let content : List ℕ = c.in_ok-content-in-Feed.content.items in
     feed_read c.args.what.now c.in-Feed.name content _ {before = before} {after = after} c.in-Feed.is
-    c.from_vec.ensures.items (short_by c.in_ok-content-in-Feed.ensures.bounded)
+    c.from_vec.ensures.items (short_by _ c.in_ok-content-in-Feed.ensures.bounded)
     (subst (λ (n : List ℕ). Did (Ask n content ∷ []) before after) c.as_str.ensures.bytes
     c.in_ok-content-in-Feed.ensures.asked)
 

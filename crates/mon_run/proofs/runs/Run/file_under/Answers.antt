@@ -25,7 +25,7 @@ returns-in-Ok-clause-ended g c =
     let name : List ℕ = c.args.name.now in
     named_weave c.args.config c.args.verb name c.as_slice.result.now (noted c.text_under.new.self) c.text_under.result
     after
-    (subst (λ (t : List ℕ). is_too_long t ≡ false) (sym c.as_slice.ensures.value) (short_by c.in-Ok.ensures.bounded))
+    (subst (λ (t : List ℕ). is_too_long t ≡ false) (sym c.as_slice.ensures.value) (short_by _ c.in-Ok.ensures.bounded))
     (subst (λ (t : List ℕ). Did (Ask name t ∷ []) before read) (sym c.as_slice.ensures.value) c.in-Ok.ensures.asked)
     c.read.ensures.continues.counts c.text_under.ensures.ended
 

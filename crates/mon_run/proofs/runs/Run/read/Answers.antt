@@ -1,14 +1,28 @@
-use Rattle.std.proofs.Common.{◌≡◌, inl, inr, ◌∷◌, [], List, ℕ, Err, refl, sym, subst, rules}
+use Rattle.std.proofs.Common.{◌≡◌, append-nil, inl, inr, ◌∷◌, [], List, ℕ, Err, refl, sym, subst, rules}
 use Rattle.mon_run.specs.Endings.{Did, Progress, progress}
 use Rattle.mon_run.specs.Steps.{Ask, Miss}
+use Rattle.mon_run.specs.declared.stop.Stop.{Stop}
 use Rattle.mon_run.specs.declared.stop.Stop.TheVariants as stop
+use Rattle.std.proofs.lemmas.Result.{err_from_is_err_and}
 use Rattle.mon_run.specs.declared.outside.folder.FolderFault.TheVariants as fault
 use Rattle.mon_run.specs.within.Stops.{ReadStops, seen}
 use Rattle.mon_run.proofs.ReadLemmas.{asks_failed, asks_starved, asks_too_long, long_by}
 use Rattle.mon_run.proofs.EndLemmas.{last_read_failed}
-use Rattle.mon_run.proofs.RunLemmas.{read_starved, unread}
-use Rattle.mon_run.proofs.StepLemmas.{gave_nothing, read_alone, stops_at_miss, stops_too_long}
+use Rattle.mon_run.proofs.RunLemmas.{handed_on, read_starved, unread}
+use Rattle.mon_run.proofs.StepLemmas.{did_none, gave_nothing, read_alone, stops_at_miss, stops_too_long}
 use Rattle.mon_run.proofs.runs.Run.read.Goals as goal
+
+pub returns-in_err-kept-clause-stops : goal.returns-in_err-kept-clause-stops
+returns-in_err-kept-clause-stops g c =
+    let before : Progress = seen g.F.Folder.state g.O.Sink.state c.args.self.now in
+    let name = c.args.name.now in
+    let fact : ReadStops name stop.OutOfMemory before before = λ rest. record {
+      reads = [];
+      gave = sym (append-nil before.folder.gave);
+      halts = record { stops = read_starved name rest {before = before} {after = before} (inl (did_none before)); causes = tt };
+    } in
+    handed_on c.from_residual.result (λ (s : Stop). ReadStops name s before before) stop.OutOfMemory
+    (err_from_is_err_and c.from_residual.result c.from_residual.ensures.1) fact
 
 pub returns-in-Ok-clause-asked : goal.returns-in-Ok-clause-asked
 returns-in-Ok-clause-asked g c =
@@ -52,7 +66,7 @@ returns-in-Err-TooLong-clause-stops g c =
       reads = (name, much.content) ∷ [];
       gave = much.gave;
       halts = record {
-        stops = stops_too_long name much.content (rest much.content []) (long_by much.long) did;
+        stops = stops_too_long name much.content (rest much.content []) (long_by _ much.long) did;
         causes = tt;
       };
     } in
