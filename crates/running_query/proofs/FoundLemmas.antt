@@ -165,7 +165,10 @@ module _ (store : Setting) (setting : QuerySetting) (moment : ℤ) where
         get_or_past exit.leaves leaf.0 [] (omega (arith, counted)) in
         noted_up leaf n (ap (λ (h : List Entry). is_down (take n h)) none ∙ nothing_down n)
       where
-        nothing_down : (n : ℕ) → is_down (take n ([] : List Entry)) ≡ false
+        no_entries : List Entry
+        no_entries = []
+
+        nothing_down : (n : ℕ) → is_down (take n no_entries) ≡ false
         nothing_down zero = refl
         nothing_down (suc n) = refl
 
