@@ -24,6 +24,21 @@ class Words(argparse.ArgumentParser):
         self.exit(REFUSED, f"{self.prog}: {message} (see --help)\n")
 
 
+def number(kind, low, high):
+    """How a word is read that is a number in bounds."""
+
+    def read(word):
+        try:
+            found = kind(word)
+        except ValueError:
+            found = None
+        if found is None or not low <= found <= high:
+            raise argparse.ArgumentTypeError(f"{word[:40]} is no number from {low} to {high}")
+        return found
+
+    return read
+
+
 def run(main):
     """Runs a tool, and ends it with its status; what stops it is told in one line on standard error."""
     try:
@@ -45,7 +60,7 @@ def run(main):
 
 def told(cause, status=0):
     """Tells a cause on standard error, and gives the status back."""
-    print(f"{pathlib.Path(sys.argv[0]).name}: {cause}", file=sys.stderr, flush=True)
+    print(printable(f"{pathlib.Path(sys.argv[0]).name}: {cause}"), file=sys.stderr, flush=True)
     return status
 
 

@@ -145,8 +145,8 @@ class Exposition:
 
 def labels(text):
     """The labels of a sample."""
-    found, place = {}, 0
-    while text[place:].strip():
+    found, place, text = {}, 0, text.strip()
+    while place < len(text):
         label = LABEL.match(text, place)
         if not label:
             raise Unfit('its labels are not written as NAME="VALUE" with commas between')
