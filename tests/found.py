@@ -8,6 +8,8 @@ from tables import Misspelled, read_table
 ROOT = pathlib.Path(__file__).resolve().parent.parent
 COMMANDS = {"script.txt": "run", "schedule.txt": "weave"}
 OF_A_CASE = {"config.json", "output.txt", "status", *COMMANDS}
+# The cases of tools, which `tests/with_tools` runs.
+OF_TOOLS = ROOT / "tests" / "tool_cases"
 
 
 class Folder:
@@ -49,7 +51,8 @@ class Found:
             self.faults.append(str(fault))
 
     def add_below(self, path):
-        below = [it for it in sorted(path.iterdir()) if it.is_dir() or it.suffix == ".txt"]
+        found = sorted(it for it in path.iterdir() if it.resolve() != OF_TOOLS)
+        below = [it for it in found if it.is_dir() or it.suffix == ".txt"]
         if not below:
             raise Misspelled(f"{path}: has no case")
         for it in below:

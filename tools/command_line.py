@@ -5,8 +5,8 @@ import os
 import pathlib
 import sys
 
-REFUSED, WRONG_WORDS, NOT_WRITTEN, SOME_LEFT_OUT, INTERRUPTED = 1, 2, 5, 7, 130
-ENDS = """exit status: 0 all was done, 1 the input is refused, 2 the words are, 5 the output could not be written,
+REFUSED, NOT_WRITTEN, SOME_LEFT_OUT, INTERRUPTED = 1, 5, 7, 130
+ENDS = """exit status: 0 all was done, 1 the words or the input are refused, 5 the output could not be written,
 130 interrupted"""
 
 
@@ -21,7 +21,22 @@ class Words(argparse.ArgumentParser):
         super().__init__(formatter_class=argparse.RawDescriptionHelpFormatter, **how)
 
     def error(self, message):
-        self.exit(WRONG_WORDS, f"{self.prog}: {message} (see --help)\n")
+        self.exit(REFUSED, f"{self.prog}: {message} (see --help)\n")
+
+
+def number(kind, low, high):
+    """How a word is read that is a number in bounds."""
+
+    def read(word):
+        try:
+            found = kind(word)
+        except ValueError:
+            found = None
+        if found is None or not low <= found <= high:
+            raise argparse.ArgumentTypeError(f"{word[:40]} is no number from {low} to {high}")
+        return found
+
+    return read
 
 
 def run(main):
@@ -45,7 +60,7 @@ def run(main):
 
 def told(cause, status=0):
     """Tells a cause on standard error, and gives the status back."""
-    print(f"{pathlib.Path(sys.argv[0]).name}: {cause}", file=sys.stderr, flush=True)
+    print(printable(f"{pathlib.Path(sys.argv[0]).name}: {cause}"), file=sys.stderr, flush=True)
     return status
 
 
@@ -85,3 +100,8 @@ def shown(path):
 def reason(fault):
     """Why the system refused a call."""
     return getattr(fault, "strerror", None) or str(fault)
+
+
+def printable(line):
+    """A line in which each sign that a terminal would take as more than a sign is a question mark."""
+    return "".join(sign if sign.isprintable() else "?" for sign in line)

@@ -7,7 +7,9 @@ from mapping import Setting
 from points import Unfit, whole
 
 SAMPLE = re.compile(
-    r'[ \t]*([a-zA-Z_:][a-zA-Z0-9_:]*)[ \t]*(?:\{((?:[^"}]|"(?:[^"\\]|\\.)*")*)\})?[ \t]*(\S+)(?:[ \t]+(\S+))?[ \t]*'
+    r"[ \t]*([a-zA-Z_:][a-zA-Z0-9_:]*)"
+    r'(?:[ \t]*\{((?:[^"}]|"(?:[^"\\]|\\.)*")*)\}[ \t]*|[ \t]+)'
+    r"([^\s{]+)(?:[ \t]+(\S+))?[ \t]*"
 )
 LABEL = re.compile(r'[ \t]*([a-zA-Z_][a-zA-Z0-9_]*)[ \t]*=[ \t]*"((?:[^"\\]|\\.)*)"[ \t]*(?:,|$)')
 TYPE = re.compile(r"#[ \t]+TYPE[ \t]+(\S+)[ \t]+(\S+)[ \t]*")
@@ -143,8 +145,8 @@ class Exposition:
 
 def labels(text):
     """The labels of a sample."""
-    found, place = {}, 0
-    while text[place:].strip():
+    found, place, text = {}, 0, text.strip()
+    while place < len(text):
         label = LABEL.match(text, place)
         if not label:
             raise Unfit('its labels are not written as NAME="VALUE" with commas between')

@@ -1,11 +1,14 @@
 """Draws series to a file, by matplotlib."""
 
 import datetime
+import logging
 import warnings
 
 import matplotlib
 
 matplotlib.use("Agg")
+# What the library does for itself, as collecting its fonts, is of no interest.
+logging.getLogger("matplotlib").setLevel(logging.ERROR)
 
 import matplotlib.dates
 import matplotlib.pyplot as pyplot
@@ -139,7 +142,7 @@ def save(figure, path):
     no_date = {"Date": None} if path.suffix == ".svg" else {"Software": None}
     try:
         figure.savefig(path, metadata=no_date)
-    except OSError as fault:
+    except (OSError, ValueError) as fault:
         raise Refusal(f"cannot write {path}: {reason(fault)}") from None
     finally:
         pyplot.close(figure)

@@ -114,7 +114,7 @@ class Points:
             raise Unfit(f"the start {start} is below 0, or not before the time {time}")
         target = self.target(labels)
         own = {name: typed(text, "text") for name, text in labels.items() if name not in self.mapping.fields}
-        series = (metric.name, target, tuple(sorted(own.items())))
+        series = (metric.name, target, tuple(sorted(pair for pair in own.items() if pair[1])))
         last = self.last.get(series)
         if last and time <= last.time:
             raise Unfit(f"the time {time} is not behind the series' last one, {last.time}")

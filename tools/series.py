@@ -3,7 +3,7 @@
 import re
 from dataclasses import dataclass
 
-from command_line import Refusal
+from command_line import Refusal, printable
 
 NUMBER = re.compile(r"-?\d{1,40}", re.ASCII)
 COUNTS = re.compile(r"\d{1,40}(;\d{1,40})+", re.ASCII)
@@ -136,5 +136,5 @@ def greatest(one, most):
 
 def label(group):
     """How a group is called: its cells, in one line of at most 40 characters."""
-    plain = "".join(sign if sign.isprintable() else "?" for sign in ",".join(group))
+    plain = printable(",".join(group))
     return plain if len(plain) <= 40 else plain[:39] + "…"

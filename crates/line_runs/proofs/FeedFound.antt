@@ -177,14 +177,14 @@ module _ (config : Config) (first last : Knowledge) (sources : AreSources config
   all_taken_found n (read.Row row ∷ reads) b rows more refusals done fed = elim fed.1 [
     | inl t ↦ subst (λ (some : List Row). AllTakenFound config last.seen (lengths first) (lengths last) (pass_of first)
         (rows ++ some) (length rows) some) (sym t.1) (
-      taken_found b fed.0 rows t.0 row done t.2 (part_of config (n + 1) reads t.0 refusals fed.0 last t.3),
-      subst (λ k. AllTakenFound config last.seen (lengths first) (lengths last) (pass_of first) (rows ++ row ∷ t.0) k t.0)
-          (length-append rows (row ∷ []))
-          (subst (λ (all : List Row). AllTakenFound config last.seen (lengths first) (lengths last) (pass_of first) all
-          (length (rows ++ row ∷ [])) t.0) (append_assoc rows (row ∷ []) t.0)
-          (all_taken_found (n + 1) reads fed.0 (rows ++ row ∷ []) t.0 refusals
-          (part_both config first b fed.0 rows (row ∷ []) done (part_taken config row b fed.0 t.2)) t.3)),
-    )
+          taken_found b fed.0 rows t.0 row done t.2 (part_of config (n + 1) reads t.0 refusals fed.0 last t.3),
+          subst (λ k. AllTakenFound config last.seen (lengths first) (lengths last) (pass_of first) (rows ++ row ∷ t.0) k t.0)
+              (length-append rows (row ∷ []))
+              (subst (λ (all : List Row). AllTakenFound config last.seen (lengths first) (lengths last) (pass_of first) all
+              (length (rows ++ row ∷ [])) t.0) (append_assoc rows (row ∷ []) t.0)
+              (all_taken_found (n + 1) reads fed.0 (rows ++ row ∷ []) t.0 refusals
+              (part_both config first b fed.0 rows (row ∷ []) done (part_taken config row b fed.0 t.2)) t.3)),
+        )
     | inr t ↦ all_taken_found (n + 1) reads fed.0 rows more t.1
         (subst (λ (some : List Row). Part config first fed.0 some) (append-nil rows)
         (part_both config first b fed.0 rows [] done (part_refused config b fed.0 t.3.unwritten))) t.4

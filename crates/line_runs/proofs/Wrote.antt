@@ -184,14 +184,15 @@ module _ (config : Config) (what : Asked) (moment : ℤ) (text content : List �
     forth = forth before.seen after.seen owns.fronts;
     suits = suits_asked what moment text trace;
     told = tt;
-    cuts = λ leaf there.
-        (record { from = look.fresh.cuts leaf there; to = look.of.within leaf there },
-        between config (question what moment text) content before after owns leaf (found_cuts leaf trace.down)
-        (founds_between before.seen after.seen leaf trace.down
-        (subst (λ (low : Lengths). AllByRecursion (IsFoundBetween low (lengths_of after.seen) after.seen) trace.down)
-        (marks before.seen)
-        (subst (λ (high : Lengths). AllByRecursion (IsFoundBetween (marked since) high after.seen) trace.down)
-        (marks after.seen) look.down))));
+    cuts = λ leaf there. (
+      record { from = look.fresh.cuts leaf there; to = look.of.within leaf there },
+      between config (question what moment text) content before after owns leaf (found_cuts leaf trace.down)
+          (founds_between before.seen after.seen leaf trace.down
+          (subst (λ (low : Lengths). AllByRecursion (IsFoundBetween low (lengths_of after.seen) after.seen) trace.down)
+          (marks before.seen)
+          (subst (λ (high : Lengths). AllByRecursion (IsFoundBetween (marked since) high after.seen) trace.down)
+          (marks after.seen) look.down))),
+    );
     found =
         subst (λ asked. LookFound config after.seen since until asked moment trace) (sym (text_is what moment text)) look;
   }

@@ -85,7 +85,10 @@ fn fault_text(alloc: Global, topology: &Topology, fault: &LineFault) -> Result<S
         LineFault::SwitchesSpent(most) => control_text(alloc, ControlRefusal::SwitchesSpent(*most)),
         LineFault::Serving(slot) => control_text(alloc, ControlRefusal::Serving(*slot)),
         LineFault::ThreeServing => control_text(alloc, ControlRefusal::ThreeServing),
-        LineFault::SlotsSpent(count) => control_text(alloc, ControlRefusal::SlotsSpent(*count)),
+        LineFault::SlotsSpent(count) => control_text(
+            alloc,
+            ControlRefusal::SlotsSpent(*count as u64),
+        ),
         LineFault::SourceDown(founds) => source_down_text(alloc, topology, founds.as_slice()),
         LineFault::TargetDown(cut) => control_text(alloc, ControlRefusal::TargetDown(*cut)),
         LineFault::NameTaken => String::from_str(alloc, "NameTaken"),

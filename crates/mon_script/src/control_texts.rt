@@ -21,7 +21,7 @@ pub enum ControlRefusal {
     /// Three slots of the range serve.
     ThreeServing,
     /// The range has had so many slots, and opens no more.
-    SlotsSpent(u32),
+    SlotsSpent(u64),
     /// The leaf that was to have the replica is down, after so many entries.
     TargetDown(u64),
 }

@@ -166,7 +166,8 @@ module _ (store : Setting) (raise : RaiseIdentity) (setting : QuerySetting) (mom
     notes = is.lengths;
     named = subst (λ (founds : List FoundDown). NamesAll store.zones founds end)
         (sym (downs_are_noted store setting moment now.seen is.goes.sound.held.all_leaves is.events first
-        (new_query setting) is.licensed (now_by (λ seen. AreWithin seen now.seen) (seen_within_itself now.seen))))
+        (new_query setting) is.licensed (subst (λ (v : View). AreWithin v.seen now.seen) (sym is.now_is)
+        (seen_within_itself now.seen))))
         (names_all store setting moment first is.events end is.here.asked is.here.sound is.licensed (ended_at end e));
   }
 

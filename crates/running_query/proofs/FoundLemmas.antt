@@ -165,41 +165,44 @@ module _ (store : Setting) (setting : QuerySetting) (moment : ℤ) where
         get_or_past exit.leaves leaf.0 [] (omega (arith, counted)) in
         noted_up leaf n (ap (λ (h : List Entry). is_down (take n h)) none ∙ nothing_down n)
       where
-        nothing_down : (n : ℕ) → is_down (take n ([] : List Entry)) ≡ false
+        no_entries : List Entry
+        no_entries = []
+
+        nothing_down : (n : ℕ) → is_down (take n no_entries) ≡ false
         nothing_down zero = refl
         nothing_down (suc n) = refl
 
     module _ (before after : View) (within : AreWithin after.seen exit) (avoided : List Leaf) (slots : List RangeSlot)
-        where
-      found_then : (leaf : Leaf) (cut : ℕ) (down : Bool) → session.IsFoundSo before after leaf cut down
-          → is_down (take (length (leaf_history after.seen leaf)) (leaf_history exit leaf)) ≡ down
-      found_then leaf cut down is =
-          ap (λ (n : ℕ). is_down (take n (leaf_history exit leaf))) (sym is.whole)
-          ∙ ap (λ (h : List Entry). is_down h)
-          (take_on (leaf_history exit leaf) (leaf_history after.seen leaf) cut (within.leaves leaf) is.between.to)
-          ∙ is.is
+      where
+        found_then : (leaf : Leaf) (cut : ℕ) (down : Bool) → session.IsFoundSo before after leaf cut down
+            → is_down (take (length (leaf_history after.seen leaf)) (leaf_history exit leaf)) ≡ down
+        found_then leaf cut down is =
+            ap (λ (n : ℕ). is_down (take n (leaf_history exit leaf))) (sym is.whole)
+            ∙ ap (λ (h : List Entry). is_down h)
+            (take_on (leaf_history exit leaf) (leaf_history after.seen leaf) cut (within.leaves leaf) is.between.to)
+            ∙ is.is
 
-      one_noted : (stage : Stage) (answer : Told)
-          → session.IsTrueAnswer store setting moment before after avoided slots (ask_of setting stage) answer
-          → downs_noted exit (lengths_of store (ask_of setting stage) after) ≡ down_told stage answer
-      one_noted (at.Visiting course round visits leaf) (told.Down cut) is =
-          noted_down leaf (length (leaf_history after.seen leaf)) (found_then leaf cut true is)
-          ∙ ap (λ (n : ℕ). found_down leaf n ∷ []) (sym is.whole)
-      one_noted (at.Visiting course round visits leaf) (told.Unread cut) is =
-          noted_up leaf (length (leaf_history after.seen leaf)) (found_then leaf cut false is.0)
-      one_noted (at.Visiting course round visits leaf) (told.Read cut part) is =
-          noted_up leaf (length (leaf_history after.seen leaf)) (found_then leaf cut false is.0)
-      one_noted (at.Visiting course round visits leaf) (told.Over load cut) is =
-          noted_up leaf (length (leaf_history after.seen leaf)) (found_then leaf cut false is.0)
-      one_noted (at.Visiting course round visits leaf) (told.Word word seen) is = absurd is
-      one_noted (at.Visiting course round visits leaf) (told.Slot slot other) is = absurd is
-      one_noted (at.Visiting course round visits leaf) told.NoSlot is = absurd is
-      one_noted (at.Resolving course round range) answer is =
-          noted_range range (length (range_history after.seen range))
-      one_noted (at.Rooting loading) answer is = refl
-      one_noted (at.Entering course round loading) answer is = refl
-      one_noted (at.Reloading course round loading) answer is = refl
-      one_noted (at.Ended end) answer is = refl
+        one_noted : (stage : Stage) (answer : Told)
+            → session.IsTrueAnswer store setting moment before after avoided slots (ask_of setting stage) answer
+            → downs_noted exit (lengths_of store (ask_of setting stage) after) ≡ down_told stage answer
+        one_noted (at.Visiting course round visits leaf) (told.Down cut) is =
+            noted_down leaf (length (leaf_history after.seen leaf)) (found_then leaf cut true is)
+            ∙ ap (λ (n : ℕ). found_down leaf n ∷ []) (sym is.whole)
+        one_noted (at.Visiting course round visits leaf) (told.Unread cut) is =
+            noted_up leaf (length (leaf_history after.seen leaf)) (found_then leaf cut false is.0)
+        one_noted (at.Visiting course round visits leaf) (told.Read cut part) is =
+            noted_up leaf (length (leaf_history after.seen leaf)) (found_then leaf cut false is.0)
+        one_noted (at.Visiting course round visits leaf) (told.Over load cut) is =
+            noted_up leaf (length (leaf_history after.seen leaf)) (found_then leaf cut false is.0)
+        one_noted (at.Visiting course round visits leaf) (told.Word word seen) is = absurd is
+        one_noted (at.Visiting course round visits leaf) (told.Slot slot other) is = absurd is
+        one_noted (at.Visiting course round visits leaf) told.NoSlot is = absurd is
+        one_noted (at.Resolving course round range) answer is =
+            noted_range range (length (range_history after.seen range))
+        one_noted (at.Rooting loading) answer is = refl
+        one_noted (at.Entering course round loading) answer is = refl
+        one_noted (at.Reloading course round loading) answer is = refl
+        one_noted (at.Ended end) answer is = refl
 
     pub downs_are_noted : (events : List (session.Event store setting moment)) (before : View) (query : Query)
         → session.IsLicensed store setting moment before query events
