@@ -172,6 +172,7 @@ module _ (config : Config) (lines : List ScriptLine) (ended : Histories) (before
             known = ended;
             front = same_fronts ended;
             whole = inr refl;
+            few = omega (arith, ran.count);
             held = sound;
             holds = holds ran.given ended ran.traces (traces_are ran.traces ran.ends) (same_fronts ended) ran.grown
                 (λ parts all. subst (λ (one : List RanLine). AllRan config ended (parts ++ asked_parts (parts_of one)))
@@ -205,6 +206,7 @@ module _ (config : Config) (lines : List ScriptLine) (ended : Histories) (before
               known = stops.known;
               front = stops.front;
               whole = early_as ended stopped stops.known stops.whole;
+              few = stops.few;
               held = sound;
               holds = holds stops.reads stops.known stops.traces (traces_are stops.traces stops.ends) stops.front
                   stops.grown stops.ran;
@@ -307,6 +309,7 @@ lines_tell {early} {other} {config} {reads} {script} {ended} as_other tells = re
     | inl was ↦ inl (as_other was)
     | inr same ↦ inr same
   ];
+  few = tells.few;
   held = tells.held;
   holds = tells.holds;
 }

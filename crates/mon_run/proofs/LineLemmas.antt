@@ -1,6 +1,6 @@
 -- Lines that ran, part behind part, and how a part ran.
 use Rattle.std.proofs.Common.{◌≡◌, ◌∙◌, inr, ℕ, ◌+◌, List, [], ◌∷◌, ◌++◌, length, drop, take, refl, sym, ap, subst}
-use Rattle.std.proofs.Common.{append_assoc, append-nil}
+use Rattle.std.proofs.Common.{append_assoc, append-nil, arith}
 use Rattle.std.proofs.lemmas.List.{length-append, length-map}
 use Rattle.std.proofs.lemmas.List.Concat.{flat_map-append}
 use Rattle.history_book.specs.Histories.{AreFronts}
@@ -231,6 +231,7 @@ module _ {config : Config} {part : Part RanLine} {traces : List LineTrace} {from
   lines_cut left stopped fronts cut gave = record {
     traces = traces;
     ends = cut.done.ends;
+    few = omega (arith, count, length-append lines left);
     reads = given;
     gave = gave;
     known = known;
@@ -267,6 +268,7 @@ pub lines_early : (config : Config) (line : ScriptLine) (behind : List ScriptLin
 lines_early config line behind forms from ended stopped {before} {after} next early = record {
   traces = [];
   ends = early.ends ∙ sym (append-nil before.ends);
+  few = omega arith;
   reads = early.halts.reads;
   gave = early.halts.gave;
   known = from;

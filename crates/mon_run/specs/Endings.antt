@@ -1,5 +1,5 @@
 -- How far a run comes in its plan, how it ends, and what its lines came to.
-use Rattle.std.specs.Prelude.{◌≡◌, ◌<◌, ◌==◌, ◌||◌, ◌⊎◌, ℕ, Bool, true, false, List, [], ◌∷◌, ◌++◌, length, Option}
+use Rattle.std.specs.Prelude.{◌≡◌, ◌<◌, ◌==◌, ◌||◌, ◌⊎◌, ℕ, Bool, true, false, List, [], ◌∷◌, ◌++◌, length, Option, ◌≤◌}
 use Rattle.std.specs.Prelude.{IfSome, Some, Ok, option_map}
 use Rattle.std.specs.List.{AllByRecursion, flat_map}
 use Rattle.mon_value.specs.declared.histories.Histories.{Histories}
@@ -147,12 +147,13 @@ seen_by = option_map (λ (ended : Ending). ended.seen)
 
 -- The headline holds of the lines that ran, over all that the script's caller had seen at the end; or, where memory ran
 -- out early, over what it had seen before the part in which it did. The histories at the end bear one another out: what
--- a range acknowledged, its leaves took. What the lines' files held is what the reads gave, one after another
+-- a range acknowledged, its leaves took. No line beyond the script came to anything. What the lines' files held is what the reads gave, one after another
 pub record LinesTell (early : Type 0) (config : Config) (reads : Files) (script : List ScriptLine) (ended : Histories)
     (traces : List LineTrace) : Type 0 where
   pub known : Histories
   pub front : AreFronts known ended
   pub whole : early ⊎ (known ≡ ended)
+  pub few : length traces ≤ length script
   pub held : AreHeld config.schemas config.topology config.range_points ended
   pub holds : ScriptHolds config (contents_of (forms_of script) reads) known script traces
 

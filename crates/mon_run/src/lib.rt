@@ -5,7 +5,6 @@
 mod blocks;
 mod command;
 mod entry;
-mod look;
 mod outcome;
 mod outside;
 mod parts;

@@ -1,5 +1,5 @@
 -- How the lines of a script run, one part after another.
-use Rattle.std.specs.Prelude.{◌≡◌, ◌⊎◌, ℕ, Bool, List, [], ◌∷◌, ◌++◌, length, map, Option, IfSome, Result, Err}
+use Rattle.std.specs.Prelude.{◌≡◌, ◌⊎◌, ℕ, Bool, List, [], ◌∷◌, ◌++◌, length, map, Option, IfSome, Result, Err, ◌≤◌}
 use Rattle.history_book.specs.Histories.{AreFronts}
 use Rattle.mon_config.specs.declared.config.Config.{Config}
 use Rattle.mon_script.specs.Scripts.{script_in}
@@ -104,6 +104,7 @@ module _ (config : Config) where
       (before after : Progress) : Type 0 where
     pub traces : List LineTrace
     pub ends : after.ends ≡ before.ends ++ traces
+    pub few : length traces ≤ length lines
     pub reads : Files
     pub gave : after.folder.gave ≡ before.folder.gave ++ reads
     pub known : Histories
