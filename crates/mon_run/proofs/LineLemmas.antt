@@ -1,5 +1,5 @@
 -- Lines that ran, part behind part, and how a part ran.
-use Rattle.std.proofs.Common.{◌≡◌, ◌∙◌, inr, ℕ, ◌+◌, List, [], ◌∷◌, ◌++◌, length, drop, take, refl, sym, ap, subst}
+use Rattle.std.proofs.Common.{◌≡◌, ◌≤◌, ◌∙◌, inr, ℕ, ◌+◌, List, [], ◌∷◌, ◌++◌, length, drop, take, refl, sym, ap, subst}
 use Rattle.std.proofs.Common.{append_assoc, append-nil, arith}
 use Rattle.std.proofs.lemmas.List.{length-append, length-map}
 use Rattle.std.proofs.lemmas.List.Concat.{flat_map-append}
@@ -132,7 +132,10 @@ module _ {config : Config} {lines more : List ScriptLine} {from mid known : Hist
       traces = first.traces ++ second.traces;
       ends = second.ends ∙ ap (λ (ends : List LineTrace). ends ++ second.traces) first.ends
           ∙ append_assoc before.ends first.traces second.traces;
-      reads = reads;
+      few = subst (λ (n : ℕ). n ≤ length (lines ++ more)) (sym (length-append first.traces second.traces))
+        (subst (λ (n : ℕ). length first.traces + length second.traces ≤ n) (sym (length-append lines more))
+        (let count = first.count in let behind = second.few in omega (arith, count, behind)));
+    reads = reads;
       gave = second.gave ∙ ap (λ (front : Files). front ++ second.reads) first.gave
           ∙ append_assoc before.folder.gave first.given second.reads;
       known = second.known;
