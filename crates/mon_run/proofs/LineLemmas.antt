@@ -133,9 +133,9 @@ module _ {config : Config} {lines more : List ScriptLine} {from mid known : Hist
       ends = second.ends ∙ ap (λ (ends : List LineTrace). ends ++ second.traces) first.ends
           ∙ append_assoc before.ends first.traces second.traces;
       few = subst (λ (n : ℕ). n ≤ length (lines ++ more)) (sym (length-append first.traces second.traces))
-        (subst (λ (n : ℕ). length first.traces + length second.traces ≤ n) (sym (length-append lines more))
-        (let count = first.count in let behind = second.few in omega (arith, count, behind)));
-    reads = reads;
+          (subst (λ (n : ℕ). length first.traces + length second.traces ≤ n) (sym (length-append lines more))
+          (let count = first.count in let behind = second.few in omega (arith, count, behind)));
+      reads = reads;
       gave = second.gave ∙ ap (λ (front : Files). front ++ second.reads) first.gave
           ∙ append_assoc before.folder.gave first.given second.reads;
       known = second.known;
