@@ -82,7 +82,10 @@ fn fault_text(alloc: Global, topology: &Topology, fault: &LineFault) -> Result<S
         LineFault::StepLimit(limit, _trace) => format!(in alloc; "StepLimit {limit}"),
         LineFault::AlreadyDown(cut) => control_text(alloc, ControlRefusal::AlreadyDown(*cut)),
         LineFault::AlreadyUp(cut) => control_text(alloc, ControlRefusal::AlreadyUp(*cut)),
-        LineFault::SwitchesSpent(most) => control_text(alloc, ControlRefusal::SwitchesSpent(*most)),
+        LineFault::SwitchesSpent(most) => control_text(
+            alloc,
+            ControlRefusal::SwitchesSpent(*most as u64),
+        ),
         LineFault::Serving(slot) => control_text(alloc, ControlRefusal::Serving(*slot)),
         LineFault::ThreeServing => control_text(alloc, ControlRefusal::ThreeServing),
         LineFault::SlotsSpent(count) => control_text(
