@@ -98,7 +98,7 @@ follows_own before mid after p done code text status is did counts (inr (inl cut
       cut.0,
       record {
         done = done;
-        text = text;
+        step = Write text;
         left = [];
         split = ap steps_in is;
         front = cut.1.front;
@@ -116,6 +116,7 @@ follows_own before mid after p done code text status is did counts (inr (inr sta
         done = done;
         left = Write text ∷ [];
         split = ap steps_in is;
+        whole = (refl, tt);
         did = did_by (append-nil done)
             (did_then did starved.1);
       },
@@ -155,7 +156,7 @@ ends_cut p before mid after status cut rose le closes = inl (inr (inl (
   closes.0,
   record {
     done = cut.done;
-    text = cut.text;
+    step = cut.step;
     left = cut.left;
     split = cut.split;
     front = cut.front;
@@ -175,6 +176,7 @@ ends_starved p before mid after status starved closes = inl (inr (inr (
     done = starved.done;
     left = starved.left;
     split = starved.split;
+    whole = starved.whole;
     did = did_by (append-nil starved.done)
         (did_then starved.did closes.1);
   },

@@ -28,6 +28,7 @@ use Rattle.mon_run.specs.within.Stops.{Closes, Done, Ends, Stops, script_stop}
 use Rattle.mon_run.proofs.EndLemmas.{refused_script}
 use Rattle.part_runs.proofs.GrownLemmas.{fronts_grown, grown_fronts, grown_none}
 use Rattle.mon_run.proofs.PartLemmas.{behind_all}
+use Rattle.mon_run.proofs.RunLemmas.{none_stored}
 use Rattle.mon_run.proofs.StepLemmas.{did_by, did_none}
 use Rattle.run_theory.specs.Parts.{Part}
 use Rattle.run_traces.specs.Headline.{RunHolds, ScriptHolds}
@@ -207,7 +208,7 @@ script_unmade config lines known {before} after none same =
       ends = record {
         completes = tt;
         halts = record {
-          told = λ files told. record { done = []; left = []; split = refl; did = did_none before };
+          told = λ files told. record { done = []; left = []; split = refl; whole = tt; did = did_none before };
           causes = tt;
         };
       };
@@ -262,6 +263,7 @@ text_refused config text fault known {before} after none same withheld =
       done = [];
       left = (script_plan config files None before.ends (script_in config.topology text)).steps;
       split = refl;
+      whole = none_stored before.ends config files (script_in config.topology text);
       did = did_none before;
     }
 

@@ -7,7 +7,7 @@ use Rattle.std.specs.Result.{result_ok}
 use Rattle.std.specs.Str.{all_ascii_digits}
 use Rattle.std.specs.Str.Parse.{ParsesUnsigned, digits_value}
 use Rattle.mon_script.specs.Made.{made_pieces}
-use Rattle.mon_run.specs.Endings.{Did, Progress}
+use Rattle.mon_run.specs.Endings.{AreNoLines, Did, Progress}
 use Rattle.mon_run.specs.Plans.{made_plan, number_in}
 use Rattle.mon_run.specs.Steps.{Step, Write}
 use Rattle.mon_run.specs.declared.stop.Stop.{Stop}
@@ -48,11 +48,21 @@ written_all {number} {left} {before} {now} written none = record {
       ∙ append-nil written.steps)) written.did;
 }
 
+pub no_lines : (pieces : List (List ℕ)) → AreNoLines (writes pieces)
+no_lines [] = tt
+no_lines (piece ∷ pieces) = (refl, no_lines pieces)
+
 -- memory ran out in front of the next one
 pub written_starved : {number : ℕ} {left : List (List ℕ)} {before now : Progress} → Written number left before now
     → Halts (λ files. made_plan number) stop.OutOfMemory before now
 written_starved {number} {left} written = record {
-  told = λ files told. record { done = written.steps; left = writes left; split = written.split; did = written.did };
+  told = λ files told. record {
+    done = written.steps;
+    left = writes left;
+    split = written.split;
+    whole = no_lines left;
+    did = written.did;
+  };
   causes = tt;
 }
 
@@ -69,7 +79,7 @@ written_cut {number} {left} piece text rest stopped {before} {now} after written
     (record {
       told = λ files told. record {
         done = written.steps;
-        text = piece;
+        step = Write piece;
         left = writes rest;
         split = steps;
         front = cut.front;

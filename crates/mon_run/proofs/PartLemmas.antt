@@ -10,8 +10,8 @@ use Rattle.mon_script.specs.declared.script.ScriptLine.{ScriptLine}
 use Rattle.mon_run.specs.Outside.{Files}
 use Rattle.mon_run.specs.Plans.{block_read, block_steps, left_plan, line_read, lines_read, part_plan, parts_plan}
 use Rattle.mon_run.specs.Plans.{next_read, starved_plan}
-use Rattle.mon_run.specs.Steps.{End, Plan, Step, Write}
-use Rattle.mon_run.specs.within.Lines.{StandApart, block_traces, forms_of, writes}
+use Rattle.mon_run.specs.Steps.{End, Plan, Print, Step}
+use Rattle.mon_run.specs.within.Lines.{StandApart, block_traces, forms_of, prints}
 use Rattle.mon_run.proofs.BlockLemmas.{Acts}
 use Rattle.part_runs.specs.PartsDone.{ran_beside}
 use Rattle.run_theory.specs.Parts.{Alone, Beside, Part}
@@ -236,21 +236,21 @@ pub block_ends : (contents : List ℕ → List ℕ) (text : RanLine → List ℕ
     (traces : List LineTrace) (texts : List (List ℕ)) → length traces ≡ length lines
     → map text (ran_lines contents lines traces) ≡ texts
     → block_steps text (ran_lines contents lines traces)
-    ≡ map (λ trace. End trace) (block_traces traces) ++ writes texts
+    ≡ map (λ trace. End trace) (block_traces traces) ++ prints texts
 block_ends contents text lines traces texts same is =
     let ran : List RanLine = ran_lines contents lines traces in
     let ends : List Step = map (λ trace. End trace) traces in
-    ap (λ (front : List Step). End came.Done ∷ (front ++ End came.Done ∷ map (λ line. Write (text line)) ran))
+    ap (λ (front : List Step). End came.Done ∷ (front ++ End came.Done ∷ map (λ line. Print (text line)) ran))
     (ran_ends contents lines traces same)
     ∙ ap (λ (back : List Step). End came.Done ∷ (ends ++ End came.Done ∷ back)) (written text ran texts is)
-    ∙ ap (λ (steps : List Step). End came.Done ∷ steps) (sym (append_assoc ends (End came.Done ∷ []) (writes texts)))
-    ∙ ap (λ (steps : List Step). End came.Done ∷ (steps ++ writes texts)) (sym (ends_both traces (came.Done ∷ [])))
+    ∙ ap (λ (steps : List Step). End came.Done ∷ steps) (sym (append_assoc ends (End came.Done ∷ []) (prints texts)))
+    ∙ ap (λ (steps : List Step). End came.Done ∷ (steps ++ prints texts)) (sym (ends_both traces (came.Done ∷ [])))
   where
     written : (text : RanLine → List ℕ) (lines : List RanLine) (texts : List (List ℕ)) → map text lines ≡ texts
-        → map (λ line. Write (text line)) lines ≡ writes texts
-    written text lines texts is = both text lines ∙ ap writes is
+        → map (λ line. Print (text line)) lines ≡ prints texts
+    written text lines texts is = both text lines ∙ ap prints is
       where
         both : (text : RanLine → List ℕ) (lines : List RanLine)
-            → map (λ line. Write (text line)) lines ≡ writes (map text lines)
+            → map (λ line. Print (text line)) lines ≡ prints (map text lines)
         both text [] = refl
-        both text (line ∷ lines) = ap (λ (steps : List Step). Write (text line) ∷ steps) (both text lines)
+        both text (line ∷ lines) = ap (λ (steps : List Step). Print (text line) ∷ steps) (both text lines)

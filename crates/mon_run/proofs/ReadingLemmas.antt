@@ -3,18 +3,19 @@ use Rattle.std.proofs.Common.{◌≡◌, ◌∙◌, ℕ, List, [], ◌∷◌, �
 use Rattle.mon_script.specs.declared.forms.LineForm.{LineForm}
 use Rattle.mon_script.specs.declared.forms.LineForm.TheVariants as form
 use Rattle.mon_script.specs.declared.script.ScriptLine.{ScriptLine}
-use Rattle.mon_run.specs.Endings.{Did, Progress, Starved}
+use Rattle.mon_run.specs.Endings.{AreNoLines, Did, Progress, Starved}
 use Rattle.mon_run.specs.Outside.{Files, Told, content_of}
 use Rattle.mon_run.specs.Plans.{line_read, lines_read}
-use Rattle.mon_run.specs.Steps.{Ask, Plan, Step, Write, plan_behind}
+use Rattle.mon_run.specs.Steps.{Ask, Plan, Print, Step, Write, plan_behind}
 use Rattle.mon_run.specs.declared.stop.Stop.{Stop}
 use Rattle.mon_run.specs.declared.stop.Stop.TheVariants as stop
-use Rattle.mon_run.specs.within.Lines.{FileRead, FileStops, FilesStop, HaveRead, TextsStop, forms_of, writes}
+use Rattle.mon_run.specs.within.Lines.{FileRead, FileStops, FilesStop, HaveRead, TextsStop, forms_of, prints}
 use Rattle.mon_run.specs.within.Stops.{Counts, HasRead, Ran, ReadStops, Stops, WriteStops}
 use Rattle.mon_run.proofs.EndLemmas.{causes_earlier}
 use Rattle.mon_run.proofs.LineLemmas.{plans_ran}
 use Rattle.mon_run.proofs.RunLemmas.{cut_at}
-use Rattle.mon_run.proofs.StepLemmas.{did_by, did_none, did_then, not_long, plan_twice, starved, stops_behind}
+use Rattle.mon_run.proofs.StepLemmas.{did_by, did_none, did_print, did_then, none_read, not_long, plan_twice, starved}
+use Rattle.mon_run.proofs.StepLemmas.{stops_behind}
 use Rattle.run_traces.specs.RanLines.{content_for}
 
 -- ---- a line's file
@@ -126,13 +127,34 @@ read_all {files} {lines} {left} {contents} {before} {now} none so_far =
     subst (λ (l : List ScriptLine). HaveRead files l contents before now) (sym all)
     (record { held = so_far.held; read = so_far.read })
 
+-- reads are no line's
+none_line_read : (files : Files) (what : LineForm) (rest : Plan) → AreNoLines rest.steps
+    → AreNoLines (line_read files what rest).steps
+none_line_read files (form.Feed name) rest none = none_read files name rest none
+none_line_read files (form.Query moment text) rest none = none
+none_line_read files (form.Check moment text) rest none = none
+none_line_read files (form.Explain moment text) rest none = none
+none_line_read files (form.Down leaf) rest none = none
+none_line_read files (form.Up leaf) rest none = none
+none_line_read files (form.Recover range leaf) rest none = none
+none_line_read files (form.Standing name period text) rest none = none
+none_line_read files (form.Tick moment) rest none = none
+none_line_read files form.Together rest none = none
+none_line_read files form.End rest none = none
+
+none_lines_read : (files : Files) (forms : List LineForm) (rest : Plan) → AreNoLines rest.steps
+    → AreNoLines (lines_read files forms rest).steps
+none_lines_read files [] rest none = none
+none_lines_read files (what ∷ forms) rest none =
+    none_line_read files what (lines_read files forms rest) (none_lines_read files forms rest none)
+
 -- a read stopped them
 pub reads_stop : {lines left : List ScriptLine} {contents : Files → List (List ℕ)} (line : ScriptLine)
     (rest : List ScriptLine) {before now : Progress} (after : Progress) (stopped : Stop) → Counts before now
     → left ≡ line ∷ rest → Told before.folder (λ files. ReadTo files lines left (contents files) before now)
     → FileStops line.what stopped now after → FilesStop lines stopped before after
 reads_stop {lines} {left} line rest {before} {now} after stopped counts is so_far stops = record {
-  told = λ files told more.
+  told = λ files told more none.
       let one = so_far files told in
       let whole : forms_of lines ≡ forms_of one.front ++ line.what ∷ forms_of rest =
       ap forms_of (one.split ∙ ap (λ (l : List ScriptLine). one.front ++ l) is)
@@ -142,7 +164,8 @@ reads_stop {lines} {left} line rest {before} {now} after stopped counts is so_fa
       ∙ reads_both files (forms_of one.front) (line.what ∷ forms_of rest) more
       ∙ one.read.same (line_read files line.what (lines_read files (forms_of rest) more))))
       (stops_behind (line_read files line.what (lines_read files (forms_of rest) more)) after stopped one.read.did
-      (stops.told files (one.read.did.files ∙ told) (lines_read files (forms_of rest) more)));
+      (stops.told files (one.read.did.files ∙ told) (lines_read files (forms_of rest) more)
+      (none_lines_read files (forms_of rest) more none)));
   causes = causes_earlier before now after stopped counts stops.causes;
 }
 
@@ -152,7 +175,7 @@ pub reads_starved : {lines left : List ScriptLine} {contents : Files → List (L
     → Told before.folder (λ files. ReadTo files lines left (contents files) before now)
     → FileRead line.what now after → FilesStop lines stop.OutOfMemory before after
 reads_starved {lines} {left} line rest {before} {now} {after} is so_far ran = record {
-  told = λ files told more.
+  told = λ files told more none.
       let one = so_far files told in
       let other = ran files (one.read.did.files ∙ told) in
       let both = plans_ran one.read other in
@@ -163,7 +186,8 @@ reads_starved {lines} {left} line rest {before} {now} {after} is so_far ran = re
       (sym (ap (λ (f : List LineForm). lines_read files f more) whole
       ∙ reads_both files (forms_of one.front) (line.what ∷ forms_of rest) more
       ∙ both.same (lines_read files (forms_of rest) more)))
-      (starved both.steps (lines_read files (forms_of rest) more) both.did);
+      (starved both.steps (lines_read files (forms_of rest) more)
+      (none_lines_read files (forms_of rest) more none) both.did);
   causes = tt;
 }
 
@@ -173,11 +197,11 @@ reads_starved {lines} {left} line rest {before} {now} {after} is so_far ran = re
 pub record WroteTo (texts left : List (List ℕ)) (before now : Progress) : Type 0 where
   pub front : List (List ℕ)
   pub split : texts ≡ front ++ left
-  pub did : Did (writes front) before now
+  pub did : Did (prints front) before now
 
-writes_both : (front left : List (List ℕ)) → writes (front ++ left) ≡ writes front ++ writes left
-writes_both [] left = refl
-writes_both (text ∷ front) left = ap (λ (steps : List Step). Write text ∷ steps) (writes_both front left)
+prints_both : (front left : List (List ℕ)) → prints (front ++ left) ≡ prints front ++ prints left
+prints_both [] left = refl
+prints_both (text ∷ front) left = ap (λ (steps : List Step). Print text ∷ steps) (prints_both front left)
 
 pub wrote_none : (texts : List (List ℕ)) (p : Progress) → WroteTo texts texts p p
 wrote_none texts p = record { front = []; split = refl; did = did_none p }
@@ -189,14 +213,14 @@ wrote_more {texts} {left} {rest} text written {before} {now} after is same so_fa
   front = so_far.front ++ text ∷ [];
   split = so_far.split ∙ ap (λ (l : List (List ℕ)). so_far.front ++ l) is
       ∙ sym (append_assoc so_far.front (text ∷ []) rest);
-  did = did_by (sym (writes_both so_far.front (text ∷ [])))
-      (did_then so_far.did (subst (λ (t : List ℕ). Did (Write t ∷ []) now after) same did));
+  did = did_by (sym (prints_both so_far.front (text ∷ [])))
+      (did_then so_far.did (did_print text (subst (λ (t : List ℕ). Did (Write t ∷ []) now after) same did)));
 }
 
 pub wrote_all : {texts left : List (List ℕ)} {before now : Progress} → left ≡ [] → WroteTo texts left before now
-    → Did (writes texts) before now
+    → Did (prints texts) before now
 wrote_all {texts} {left} none so_far =
-    did_by (ap writes (sym (so_far.split ∙ ap (λ (l : List (List ℕ)). so_far.front ++ l) none
+    did_by (ap prints (sym (so_far.split ∙ ap (λ (l : List (List ℕ)). so_far.front ++ l) none
     ∙ append-nil so_far.front))) so_far.did
 
 pub texts_stop : {texts left rest : List (List ℕ)} (text written : List ℕ) {before now : Progress} (after : Progress)
@@ -206,15 +230,15 @@ texts_stop {texts} {left} {rest} text written {before} {now} after stopped count
     let cut = subst (λ (t : List ℕ). WriteStops t stopped now after) same stops in
     subst (λ (s : Stop). TextsStop texts s before after) (sym stops.failed)
     (record {
-      told = λ files told more.
-          let whole : plan_behind (writes texts) more
-          ≡ plan_behind (writes so_far.front ++ Write text ∷ []) (plan_behind (writes rest) more) =
-          ap (λ (t : List (List ℕ)). plan_behind (writes t) more)
+      stops = λ more.
+          let whole : plan_behind (prints texts) more
+          ≡ plan_behind (prints so_far.front ++ Print text ∷ []) (plan_behind (prints rest) more) =
+          ap (λ (t : List (List ℕ)). plan_behind (prints t) more)
           (so_far.split ∙ ap (λ (l : List (List ℕ)). so_far.front ++ l) is)
           ∙ ap (λ (steps : List Step). plan_behind steps more)
-          (writes_both so_far.front (text ∷ rest)
-          ∙ sym (append_assoc (writes so_far.front) (Write text ∷ []) (writes rest)))
-          ∙ sym (plan_twice (writes so_far.front ++ Write text ∷ []) (writes rest) more) in
-          cut_at (writes so_far.front) text (plan_behind (writes rest) more) whole so_far.did cut.front;
+          (prints_both so_far.front (text ∷ rest)
+          ∙ sym (append_assoc (prints so_far.front) (Print text ∷ []) (prints rest)))
+          ∙ sym (plan_twice (prints so_far.front ++ Print text ∷ []) (prints rest) more) in
+          cut_at (prints so_far.front) (Print text) (plan_behind (prints rest) more) whole so_far.did cut.front;
       causes = causes_earlier before now after stop.WriteFailed counts stops.rose;
     })

@@ -9,12 +9,16 @@ use Rattle.mon_value.specs.declared.refusals.Refusal.TheVariants as refusal
 use Rattle.mon_config.specs.Configs.{config_in}
 use Rattle.mon_config.specs.declared.config.Config.{Config}
 use Rattle.mon_config.specs.declared.faults.ConfigFault.{ConfigFault}
-use Rattle.mon_run.specs.Endings.{CutShort, Did, Progress, Starved, CommandTells, RunTells, ScriptTells, seen_by}
+use Rattle.mon_script.specs.Scripts.{script_in}
+use Rattle.mon_script.specs.declared.faults.ScriptFault.{ScriptFault}
+use Rattle.mon_script.specs.declared.script.ScriptLine.{ScriptLine}
+use Rattle.mon_run.specs.Endings.{AreNoLines, CutShort, Did, Progress, Starved, CommandTells, RunTells, ScriptTells}
+use Rattle.mon_run.specs.Endings.{seen_by, text_of_step}
 use Rattle.mon_run.specs.Steps.{Rose, Ask, Plan, Step, Write, ending, is_too_long, plan, plan_behind, read_plan}
 use Rattle.mon_run.specs.Steps.{too_long_text}
 use Rattle.mon_run.specs.Outside.{Files, Told, content_of}
 use Rattle.mon_run.specs.Plans.{Came, Command, IsRunWoven, IsWovenBy, came, command_of, command_plan, config_plan}
-use Rattle.mon_run.specs.Plans.{file_plan, made_number, made_plan, number_plan, schedule_end, schedule_plan}
+use Rattle.mon_run.specs.Plans.{file_plan, made_number, made_plan, number_plan, schedule_end, schedule_plan, script_plan}
 use Rattle.mon_run.specs.declared.runs.Run.{Run}
 use Rattle.mon_run.specs.declared.stop.Stop.{Stop}
 use Rattle.mon_run.specs.declared.stop.Stop.TheVariants as stop
@@ -22,35 +26,36 @@ use Rattle.mon_run.specs.declared.words.Verb.{Verb}
 use Rattle.mon_run.specs.declared.words.Verb.TheVariants as verb
 use Rattle.mon_run.specs.within.Lines.{NamedTells, TextEnds, TextTells}
 use Rattle.mon_run.specs.within.Stops.{Completes, Counts, Done, Ends, Halts, HasConfig, HasRead, Stops, Tells, Weaves}
-use Rattle.mon_run.specs.within.Stops.{WriteStops, WroteFront, config_stop, files_plan, named_plan, noted, words_plan}
+use Rattle.mon_run.specs.within.Stops.{WriteStops, WroteFront, config_stop, files_plan, named_plan, noted, nothing_came, words_plan}
 use Rattle.run_traces.specs.declared.traces.LineTrace.{LineTrace}
 use Rattle.weave_core.specs.Schedules.{IsPrinted, Printed}
 use Rattle.schedule_lines.specs.declared.calls.ScheduleFault.{ScheduleFault}
 use Rattle.mon_run.proofs.EndLemmas.{causes_earlier}
 use Rattle.mon_run.proofs.SinkLemmas.{nothing_written}
-use Rattle.mon_run.proofs.StepLemmas.{did_none, did_then, done_behind, not_long, stops_behind}
+use Rattle.mon_run.proofs.StepLemmas.{did_none, did_then, done_behind, none_read, not_long, stops_behind}
 
 -- ---- in the middle of a part
 
--- memory ran out behind the first steps of a part
-pub starved_at : {p : Plan} (xs ys : List Step) (rest : Plan) {before after : Progress} → p ≡ plan_behind (xs ++ ys)
-    rest → Did xs before after → Starved p.steps before after
-starved_at xs ys rest is did = record {
+-- memory ran out behind the first steps of a plan
+pub starved_at : {p : Plan} (xs : List Step) (rest : Plan) {before after : Progress} → p ≡ plan_behind xs rest
+    → AreNoLines rest.steps → Did xs before after → Starved p.steps before after
+starved_at xs rest is whole did = record {
   done = xs;
-  left = ys ++ rest.steps;
-  split = ap (λ (q : Plan). q.steps) is
-      ∙ append_assoc xs ys rest.steps;
+  left = rest.steps;
+  split = ap (λ (q : Plan). q.steps) is;
+  whole = whole;
   did = did;
 }
 
 -- the last text of a part was cut
-pub cut_at : {p : Plan} (xs : List Step) (text : List ℕ) (rest : Plan) {before mid after : Progress} → p ≡ plan_behind
-    (xs ++ Write text ∷ []) rest → Did xs before mid → WroteFront text mid after → CutShort p.steps before after
-cut_at xs text rest is did cut = record {
+pub cut_at : {p : Plan} (xs : List Step) (step : Step) (rest : Plan) {before mid after : Progress}
+    → p ≡ plan_behind (xs ++ step ∷ []) rest → Did xs before mid → WroteFront (text_of_step step) mid after
+    → CutShort p.steps before after
+cut_at xs step rest is did cut = record {
   done = xs;
-  text = text;
+  step = step;
   left = rest.steps;
-  split = ap (λ (q : Plan). q.steps) is ∙ append_assoc xs (Write text ∷ []) rest.steps;
+  split = ap (λ (q : Plan). q.steps) is ∙ append_assoc xs (step ∷ []) rest.steps;
   front = cut.front;
   rest = cut.rest;
   cut = cut.split;
@@ -128,7 +133,7 @@ schedule_cut woven text stopped {before} {after} same stops =
     let cut : WroteFront woven.text before after = subst (λ (t : List ℕ). WroteFront t before after) same stops.front in
     subst (λ (s : Stop). Halts (λ files. schedule_plan (Some woven)) s before after) (sym stops.failed)
     (record {
-      told = λ files told. cut_at [] woven.text (schedule_end woven.fault) refl (did_none before) cut;
+      told = λ files told. cut_at [] (Write woven.text) (schedule_end woven.fault) refl (did_none before) cut;
       causes =
           stops.rose;
     })
@@ -172,19 +177,43 @@ files_second : (of : Came) (what : Command) {files : Files} {content : List ℕ}
 files_second of what {files} has is = files_are of what has ∙ ap (λ answer. plan_behind (Ask what.config ∷ [])
     (config_plan of files what answer)) is
 
+-- where nothing came of a run, its plan behind the words has no line
+pub none_stored : (traces : List LineTrace) (config : Config) (files : Files)
+    (read : Result (List ScriptLine) ScriptFault) → AreNoLines (script_plan config files None traces read).steps
+none_stored traces config files (Ok script) = tt
+none_stored traces config files (Err fault) = (refl, tt)
+
+pub none_filed : (traces : List LineTrace) (config : Config) (files : Files) (what : Verb) (content : List ℕ)
+    → AreNoLines (file_plan (nothing_came traces) config files what content).steps
+none_filed traces config files verb.Run content =
+    none_stored traces config files (script_in config.topology content)
+none_filed traces config files verb.Weave content = tt
+
+pub none_named : (traces : List LineTrace) (config : Config) (files : Files) (what : Verb) (name : List ℕ)
+    → AreNoLines (named_plan config what name (nothing_came traces) files).steps
+none_named traces config files what name =
+    none_read files name (file_plan (nothing_came traces) config files what (content_of files name))
+    (none_filed traces config files what (content_of files name))
+
+pub none_configured : (traces : List LineTrace) (files : Files) (what : Command) (read : Result Config ConfigFault)
+    → AreNoLines (config_plan (nothing_came traces) files what read).steps
+none_configured traces files what (Ok config) = none_named traces config files what.verb what.file
+none_configured traces files what (Err fault) = (refl, tt)
+
 -- a configuration is refused, or wants memory
-pub files_refused : (of : Came) (what : Command) {files : Files} {content : List ℕ} {before after : Progress}
-    (fault : Refusal ConfigFault) → HasRead files what.config content → Withholds fault (config_in content)
-    → Did (Ask what.config ∷ []) before after →
-    Stops (files_plan what of files) (config_stop fault) before after
-files_refused of what {files} {content} (refusal.Fault fault) has is did = record {
+pub files_refused : (traces : List LineTrace) (what : Command) {files : Files} {content : List ℕ}
+    {before after : Progress} (fault : Refusal ConfigFault) → HasRead files what.config content
+    → Withholds fault (config_in content) → Did (Ask what.config ∷ []) before after
+    → Stops (files_plan what (nothing_came traces) files) (config_stop fault) before after
+files_refused traces what {files} {content} (refusal.Fault fault) has is did = record {
   done = Ask what.config ∷ [];
-  split = files_are of what has ∙ ap (λ answer. plan_behind (Ask what.config ∷ [])
-      (config_plan of files what answer)) is;
+  split = files_are (nothing_came traces) what has ∙ ap (λ answer. plan_behind (Ask what.config ∷ [])
+      (config_plan (nothing_came traces) files what answer)) is;
   did = did;
 }
-files_refused of what {files} {content} refusal.OutOfMemory has is did =
-    starved_at (Ask what.config ∷ []) [] (config_plan of files what (config_in content)) (files_are of what has) did
+files_refused traces what {files} {content} refusal.OutOfMemory has is did =
+    starved_at (Ask what.config ∷ []) (config_plan (nothing_came traces) files what (config_in content))
+    (files_are (nothing_came traces) what has) (none_configured traces files what (config_in content)) did
 
 -- what a schedule printed by its configuration's content, it printed by the names of both files
 woven_by : (woven : Option Printed) (what : Command) {files : Files} {content : List ℕ} {read : Config}
@@ -370,20 +399,20 @@ words_refused words known p nothing number none = record {
 -- ---- a read
 
 -- a read stopped for want of memory, before it was told or behind it
-pub read_starved : (files : Files) (name : List ℕ) (rest : Plan) {before after : Progress} → Did [] before after
-    ⊎ Did (Ask name ∷ []) before after → Starved (read_plan files name rest).steps before after
-read_starved files name rest (inl did) = record {
+pub read_starved : (files : Files) (name : List ℕ) (rest : Plan) {before after : Progress} → AreNoLines rest.steps
+    → Did [] before after ⊎ Did (Ask name ∷ []) before after → Starved (read_plan files name rest).steps before after
+read_starved files name rest none (inl did) = record {
   done = [];
   left = (read_plan files name rest).steps;
-  split =
-      refl;
+  split = refl;
+  whole = none_read files name rest none;
   did = did;
 }
-read_starved files name rest (inr did) = record {
+read_starved files name rest none (inr did) = record {
   done = Ask name ∷ [];
-  left =
-      (cond (is_too_long files name) (ending 8 (too_long_text name)) rest).steps;
+  left = (cond (is_too_long files name) (ending 8 (too_long_text name)) rest).steps;
   split = refl;
+  whole = (none_read files name rest none).1;
   did = did;
 }
 

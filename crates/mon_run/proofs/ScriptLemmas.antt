@@ -8,17 +8,17 @@ use Rattle.mon_config.specs.declared.config.Config.{Config}
 use Rattle.mon_script.specs.declared.forms.LineForm.{LineForm}
 use Rattle.mon_script.specs.declared.script.ScriptLine.{ScriptLine}
 use Rattle.mon_value.specs.declared.histories.Histories.{Histories}
-use Rattle.mon_run.specs.Endings.{Did, Progress, end_in, read_in, text_of_step}
+use Rattle.mon_run.specs.Endings.{AreNoLines, Did, Progress, end_in, read_in, text_of_step}
 use Rattle.mon_run.specs.Outside.{Files, FolderState, Told, content_of, SinkState, written_then}
 use Rattle.mon_run.specs.Plans.{left_plan, line_read, lines_read, part_plan, starved_plan}
-use Rattle.mon_run.specs.Steps.{End, Plan, Step, Write, plan_behind}
+use Rattle.mon_run.specs.Steps.{End, Plan, Print, Step, Write, plan_behind}
 use Rattle.mon_run.specs.declared.outside.folder.Asked.{Asked}
 use Rattle.mon_run.specs.declared.stop.Stop.{Stop}
 use Rattle.mon_run.specs.declared.stop.Stop.TheVariants as stop
 use Rattle.mon_run.specs.within.Lines.{AloneHalts, AloneRan, BlockHalts, BlockRan}
 use Rattle.mon_run.specs.within.Lines.{FileRead, FileStops, FilesRead, FilesStop, LinesHalt, LinesRanTo}
 use Rattle.mon_run.specs.within.Lines.{LinesStopped, PartCut, PartDone, PartWent, StoppedEarly, TextsStop}
-use Rattle.mon_run.specs.within.Lines.{alone_in, block_in, block_traces, forms_of, writes}
+use Rattle.mon_run.specs.within.Lines.{alone_in, block_in, block_traces, forms_of, prints}
 use Rattle.mon_run.specs.within.Stops.{Counts, Ran, Stops, WriteStops}
 use Rattle.mon_run.proofs.BlockLemmas.{IsBlock, IsLine}
 use Rattle.mon_run.proofs.EndLemmas.{causes_earlier}
@@ -27,7 +27,7 @@ use Rattle.mon_run.proofs.PartLemmas.{all_act, alone_left, alone_part, beside_ra
 use Rattle.mon_run.proofs.PartLemmas.{IsPart, ran_both, ran_forms}
 use Rattle.mon_run.proofs.RunLemmas.{cut_at}
 use Rattle.mon_run.proofs.SinkLemmas.{nothing_written}
-use Rattle.mon_run.proofs.StepLemmas.{did_by, did_none, did_then, plan_twice, starved, stops_behind}
+use Rattle.mon_run.proofs.StepLemmas.{did_by, did_none, did_print, did_then, plan_twice, starved, stops_behind}
 use Rattle.part_runs.specs.PartsDone.{PartTells, ran_beside}
 use Rattle.run_theory.specs.Parts.{Alone, Beside, Part, lines_of}
 use Rattle.run_traces.specs.LineClaims.{HaveGrown}
@@ -42,7 +42,7 @@ use Rattle.running_query.proofs.GoingLemmas.{same_fronts}
 module _ {config : Config} {files : Files} {part : Part RanLine} {traces : List LineTrace} {texts : List (List ℕ)}
     {know known : Knowledge} (steps : List Step) (did : PartTells config part texts know known)
     (same : (later : Histories) → HaveGrown known.seen later → (rest : Plan)
-    → part_plan files (line_text config later) part rest ≡ plan_behind steps (plan_behind (writes texts) rest)) where
+    → part_plan files (line_text config later) part rest ≡ plan_behind steps (plan_behind (prints texts) rest)) where
   part_done : {before after : Progress} → after.ends ≡ before.ends ++ traces
       → PartDone config files part traces know.seen known.seen before after
   part_done ends = record {
@@ -52,37 +52,37 @@ module _ {config : Config} {files : Files} {part : Part RanLine} {traces : List 
   }
 
   pub part_went : {before mid : Progress} (after : Progress) → after.ends ≡ before.ends ++ traces
-      → Did steps before mid → Did (writes texts) mid after
+      → Did steps before mid → Did (prints texts) mid after
       → PartWent config files part traces know.seen known.seen before after
   part_went after ends first second = record {
     done = part_done ends;
     did = λ later grown. record {
-      steps = steps ++ writes texts;
-      same = λ rest. same later grown rest ∙ plan_twice steps (writes texts) rest;
+      steps = steps ++ prints texts;
+      same = λ rest. same later grown rest ∙ plan_twice steps (prints texts) rest;
       did = did_then first second;
     };
   }
 
   pub part_cut : {before mid : Progress} (after : Progress) (stopped : Stop) → after.ends ≡ before.ends ++ traces
-      → Did steps before mid → ((rest : Plan) → Stops (plan_behind (writes texts) rest) stopped mid after)
+      → Did steps before mid → ((rest : Plan) → Stops (plan_behind (prints texts) rest) stopped mid after)
       → PartCut config files part traces know.seen known.seen before after stopped
   part_cut {before} after stopped ends first stops = record {
     done = part_done ends;
     stops = λ later grown rest.
         subst (λ (p : Plan). Stops p stopped before after) (sym (same later grown rest))
-        (stops_behind (plan_behind (writes texts) rest) after stopped first (stops rest));
+        (stops_behind (plan_behind (prints texts) rest) after stopped first (stops rest));
   }
 
 -- ---- stops before a part came to something
 
 pub early_read : (reads : Plan → Plan) (known : Histories) (stopped : Stop) {before after : Progress}
-    → after.ends ≡ before.ends → ((rest : Plan) → Stops (reads rest) stopped before after)
+    → after.ends ≡ before.ends → ((rest : Plan) → AreNoLines rest.steps → Stops (reads rest) stopped before after)
     → StoppedEarly reads known known stopped before after
 early_read reads known stopped ends stops = record {
   ends = ends;
   front = same_fronts known;
   whole = inr refl;
-  stops = stops starved_plan;
+  stops = stops starved_plan tt;
 }
 
 pub early_starved : {reads : Plan → Plan} (from ended : Histories) {before after : Progress}
@@ -93,7 +93,7 @@ early_starved {reads} from ended {before} {after} ends front ran = record {
   front = front;
   whole = inl refl;
   stops = subst (λ (p : Plan). Stops p stop.OutOfMemory before after) (sym (ran.same starved_plan))
-      (starved ran.steps starved_plan ran.did);
+      (starved ran.steps starved_plan tt ran.did);
 }
 
 -- behind steps that change nothing
@@ -111,14 +111,14 @@ alone_same : (config : Config) (files : Files) (what : LineForm) (trace : LineTr
     {before after : Progress} (read : Ran (line_read files what) before after)
     → map (line_text config later) (lines_of (alone_in files what trace)) ≡ text ∷ [] → (rest : Plan)
     → part_plan files (line_text config later) (alone_in files what trace) rest
-    ≡ plan_behind (read.steps ++ End trace ∷ []) (plan_behind (writes (text ∷ [])) rest)
+    ≡ plan_behind (read.steps ++ End trace ∷ []) (plan_behind (prints (text ∷ [])) rest)
 alone_same config files what trace text later read prints rest =
-    ap (λ (texts : List (List ℕ)). line_read files what (plan_behind (End trace ∷ writes texts) rest)) prints
-    ∙ read.same (plan_behind (End trace ∷ Write text ∷ []) rest)
-    ∙ plan_twice read.steps (End trace ∷ Write text ∷ []) rest
+    ap (λ (texts : List (List ℕ)). line_read files what (plan_behind (End trace ∷ prints texts) rest)) prints
+    ∙ read.same (plan_behind (End trace ∷ Print text ∷ []) rest)
+    ∙ plan_twice read.steps (End trace ∷ Print text ∷ []) rest
     ∙ ap (λ (steps : List Step). plan_behind steps rest)
-    (sym (append_assoc read.steps (End trace ∷ []) (Write text ∷ [])))
-    ∙ sym (plan_twice (read.steps ++ End trace ∷ []) (Write text ∷ []) rest)
+    (sym (append_assoc read.steps (End trace ∷ []) (Print text ∷ [])))
+    ∙ sym (plan_twice (read.steps ++ End trace ∷ []) (Print text ∷ []) rest)
 
 alone_did : (config : Config) (files : Files) (what : LineForm) (content : List ℕ) (trace : LineTrace)
     (texts : List (List ℕ)) (know known : Knowledge) → content ≡ content_for (content_of files) what
@@ -140,7 +140,7 @@ module _ {config : Config} {what : LineForm} {content : List ℕ} {trace : LineT
 
     same : (later : Histories) → HaveGrown known.seen later → (rest : Plan)
         → part_plan files (line_text config later) (alone_in files what trace) rest
-        ≡ plan_behind ((has_read files told).steps ++ End trace ∷ []) (plan_behind (writes (text ∷ [])) rest)
+        ≡ plan_behind ((has_read files told).steps ++ End trace ∷ []) (plan_behind (prints (text ∷ [])) rest)
     same later grown rest =
         alone_same config files what trace text later (has_read files told)
         (there.prints later grown) rest
@@ -153,7 +153,7 @@ module _ {config : Config} {what : LineForm} {content : List ℕ} {trace : LineT
   alone_ran after wrote last = λ files told. record {
     trace = trace;
     went = part_went ((has_read files told).steps ++ End trace ∷ []) (there files told) (same files told) after
-        (last ∙ ended_behind) (did_then (has_read files told).did ends) wrote;
+        (last ∙ ended_behind) (did_then (has_read files told).did ends) (did_print text wrote);
   }
 
   pub alone_cut : (after : Progress) (stopped : Stop) → Counts before ended → after.ends ≡ ended.ends
@@ -166,7 +166,7 @@ module _ {config : Config} {what : LineForm} {content : List ℕ} {trace : LineT
           trace = trace;
           cut = part_cut ((has_read files told).steps ++ End trace ∷ []) (there files told) (same files told)
               after stop.WriteFailed (last ∙ ended_behind) (did_then (has_read files told).did ends)
-              (λ rest. cut_at [] text rest refl (did_none ended) stops.front);
+              (λ rest. cut_at [] (Print text) rest refl (did_none ended) stops.front);
         });
         causes = causes_earlier before ended after stop.WriteFailed counts stops.rose;
       })
@@ -218,21 +218,21 @@ block_same : (config : Config) (files : Files) (lines : List ScriptLine) (traces
     (read : Ran (lines_read files (forms_of lines)) before after) → length traces ≡ length lines
     → map (line_text config later) (lines_of (block_in files lines traces)) ≡ texts → (rest : Plan)
     → part_plan files (line_text config later) (block_in files lines traces) rest
-    ≡ plan_behind (read.steps ++ map (λ trace. End trace) (block_traces traces)) (plan_behind (writes texts) rest)
+    ≡ plan_behind (read.steps ++ map (λ trace. End trace) (block_traces traces)) (plan_behind (prints texts) rest)
 block_same config files lines traces texts later read count prints rest =
     let ends : List Step = map (λ trace. End trace) (block_traces traces) in
     ap (λ (forms : List LineForm). lines_read files forms (plan_behind (block_steps_of later) rest))
     (ran_forms (content_of files) lines traces count)
     ∙ ap (λ (steps : List Step). lines_read files (forms_of lines) (plan_behind steps rest))
     (block_ends (content_of files) (line_text config later) lines traces texts count prints)
-    ∙ read.same (plan_behind (ends ++ writes texts) rest)
-    ∙ plan_twice read.steps (ends ++ writes texts) rest
-    ∙ ap (λ (steps : List Step). plan_behind steps rest) (sym (append_assoc read.steps ends (writes texts)))
-    ∙ sym (plan_twice (read.steps ++ ends) (writes texts) rest)
+    ∙ read.same (plan_behind (ends ++ prints texts) rest)
+    ∙ plan_twice read.steps (ends ++ prints texts) rest
+    ∙ ap (λ (steps : List Step). plan_behind steps rest) (sym (append_assoc read.steps ends (prints texts)))
+    ∙ sym (plan_twice (read.steps ++ ends) (prints texts) rest)
   where
     block_steps_of : Histories → List Step
     block_steps_of at = End came.Done ∷ (map (λ line. End line.trace) (ran_lines (content_of files) lines traces)
-        ++ End came.Done ∷ map (λ line. Write (line_text config at line)) (ran_lines (content_of files) lines traces))
+        ++ End came.Done ∷ map (λ line. Print (line_text config at line)) (ran_lines (content_of files) lines traces))
 
 block_did : (config : Config) (files : Files) (lines : List ScriptLine) (contents : List (List ℕ))
     (traces : List LineTrace) (texts : List (List ℕ)) (know known : Knowledge)
@@ -256,7 +256,7 @@ module _ (config : Config) (lines : List ScriptLine) (contents : List (List ℕ)
     block_plan : (later : Histories) → HaveGrown known.seen later → (rest : Plan)
         → part_plan files (line_text config later) (block_in files lines traces) rest
         ≡ plan_behind ((has_read files told).read.steps ++ map (λ trace. End trace) (block_traces traces))
-        (plan_behind (writes texts) rest)
+        (plan_behind (prints texts) rest)
     block_plan later grown rest =
         block_same config files lines traces texts later (has_read files told).read count
         (block_there.prints later grown) rest
@@ -264,7 +264,7 @@ module _ (config : Config) (lines : List ScriptLine) (contents : List (List ℕ)
   block_noted : ended.ends ≡ before.ends ++ block_traces traces
   block_noted = noted ∙ ap (λ (xs : List LineTrace). xs ++ block_traces traces) first
 
-  pub block_ran : (after : Progress) → Did (writes texts) ended after → after.ends ≡ ended.ends
+  pub block_ran : (after : Progress) → Did (prints texts) ended after → after.ends ≡ ended.ends
       → BlockRan config lines know.seen known.seen before after
   block_ran after wrote last = λ files told. record {
     traces = traces;
@@ -283,8 +283,7 @@ module _ (config : Config) (lines : List ScriptLine) (contents : List (List ℕ)
       count = count;
       cut = part_cut ((has_read files told).read.steps ++ map (λ trace. End trace) (block_traces traces))
           (block_there files told) (block_plan files told) after stopped (last ∙ block_noted)
-          (did_then (has_read files told).read.did ends)
-          (stops.told files (ends.files ∙ (has_read files told).read.did.files ∙ told));
+          (did_then (has_read files told).read.did ends) stops.stops;
     });
     causes = causes_earlier before ended after stopped counts stops.causes;
   }

@@ -3,9 +3,9 @@ use Rattle.std.proofs.Common.{◌≡◌, ◌∙◌, ℕ, Bool, true, false, cond
 use Rattle.std.proofs.Common.{append_assoc, append-nil}
 use Rattle.std.specs.List.{flat_map}
 use Rattle.std.proofs.lemmas.Grind.{flat_map-append}
-use Rattle.mon_run.specs.Endings.{CutShort, Did, Progress, Starved, end_in, read_in, text_of_step}
+use Rattle.mon_run.specs.Endings.{AreNoLines, CutShort, Did, Progress, Starved, end_in, read_in, text_of_step}
 use Rattle.mon_run.specs.Outside.{Files, written_then}
-use Rattle.mon_run.specs.Steps.{Ask, Miss, Plan, Step, Write, ending, is_too_long, plan, plan_behind, read_plan}
+use Rattle.mon_run.specs.Steps.{Ask, Miss, Plan, Print, Step, Write, ending, is_too_long, plan, plan_behind, read_plan}
 use Rattle.mon_run.specs.Steps.{too_long_text}
 use Rattle.mon_run.specs.declared.stop.Stop.{Stop}
 use Rattle.mon_run.specs.declared.stop.Stop.TheVariants as stop
@@ -114,10 +114,10 @@ cut_behind : {xs : List Step} (p : Plan) {before mid after : Progress} → Did x
     → CutShort (plan_behind xs p).steps before after
 cut_behind {xs} p did stops = record {
   done = xs ++ stops.done;
-  text = stops.text;
+  step = stops.step;
   left = stops.left;
   split = ap (λ (steps : List Step). xs ++ steps) stops.split
-      ∙ sym (append_assoc xs stops.done (Write stops.text ∷ stops.left));
+      ∙ sym (append_assoc xs stops.done (stops.step ∷ stops.left));
   front = stops.front;
   rest = stops.rest;
   cut = stops.cut;
@@ -131,6 +131,7 @@ starved_behind {xs} p did stops = record {
   done = xs ++ stops.done;
   left = stops.left;
   split = ap (λ (steps : List Step). xs ++ steps) stops.split ∙ sym (append_assoc xs stops.done stops.left);
+  whole = stops.whole;
   did = did_then did stops.did;
 }
 
@@ -148,9 +149,27 @@ stops_behind p after (stop.TooLong name) did stops = before_behind 8 _ did stops
 -- ---- stops
 
 -- memory ran out behind steps, in front of what was left
-pub starved : (xs : List Step) (rest : Plan) {before after : Progress} → Did xs before after
+pub starved : (xs : List Step) (rest : Plan) {before after : Progress} → AreNoLines rest.steps → Did xs before after
     → Starved (plan_behind xs rest).steps before after
-starved xs rest did = record { done = xs; left = rest.steps; split = refl; did = did }
+starved xs rest whole did = record { done = xs; left = rest.steps; split = refl; whole = whole; did = did }
+
+-- a text that was written is that of a line
+pub did_print : (text : List ℕ) {before after : Progress} → Did (Write text ∷ []) before after
+    → Did (Print text ∷ []) before after
+did_print text did = record { files = did.files; asked = did.asked; ends = did.ends; wrote = did.wrote }
+
+-- ---- what is left is no line's
+
+-- a choice between two plans that have none
+pub none_chosen : (b : Bool) (p q : Plan) → AreNoLines p.steps → AreNoLines q.steps → AreNoLines (cond b p q).steps
+none_chosen true p q one other = one
+none_chosen false p q one other = other
+
+-- behind a read
+pub none_read : (files : Files) (name : List ℕ) (rest : Plan) → AreNoLines rest.steps
+    → AreNoLines (read_plan files name rest).steps
+none_read files name rest none =
+    (refl, none_chosen (is_too_long files name) (ending 8 (too_long_text name)) rest (refl, tt) none)
 
 pub stops_at_miss : (files : Files) (name : List ℕ) (rest : Plan) {before after : Progress} → Did (Miss name ∷ [])
     before after → StopsAtRead (read_plan files name rest).steps name before after

@@ -1,23 +1,28 @@
 -- Trials: what was done, and the status behind it.
-use Rattle.std.proofs.Common.{◌≡◌, ◌∙◌, ◌==◌, ℕ, true, false, List, [], ◌∷◌, ◌++◌, map, Some, None}
+use Rattle.std.proofs.Common.{◌≡◌, ◌∙◌, ◌==◌, ℕ, true, false, cond, List, [], ◌∷◌, ◌++◌, map, Option, Some, None}
 use Rattle.std.proofs.Common.{IfSome, inl, inr, refl, sym, ap, subst, append-nil}
 use Rattle.std.proofs.lemmas.Bool.{false≢true}
 use Rattle.std.specs.List.{flat_map}
-use Rattle.mon_run.specs.Endings.{Did, Follows, Progress, Runs, end_in, progress, read_in, text_of_step, RunTells}
+use Rattle.mon_config.specs.Configs.{config_in}
+use Rattle.mon_script.specs.Made.{made_pieces}
+use Rattle.mon_run.specs.Endings.{AreNoLines, Did, Follows, Progress, Runs, end_in, progress, read_in, text_of_step, RunTells}
 use Rattle.mon_run.specs.Endings.{seen_by}
-use Rattle.mon_run.specs.Steps.{Rose, End, Plan, Step, ending, plan_behind}
-use Rattle.mon_run.specs.Outside.{FolderState, Told, calm_folder_state, SinkState, Takes, TakesFront, sink_state}
+use Rattle.mon_run.specs.Steps.{Rose, End, Plan, Step, Write, ending, plan, plan_behind}
+use Rattle.mon_run.specs.Outside.{Files, FolderState, Told, content_of, calm_folder_state, SinkState, Takes, TakesFront, sink_state}
 use Rattle.mon_run.specs.Outside.{written_then}
-use Rattle.mon_run.specs.Plans.{came, run_plan}
-use Rattle.mon_run.specs.Trials.{Tries, made_files, made_words, trial_end, trial_plan, trial_start}
+use Rattle.mon_run.specs.Plans.{Command, came, command_of, config_plan, made_number, number_plan, run_plan}
+use Rattle.mon_run.specs.Trials.{Tries, made_files, made_words, ran_all, says_why, trial_end, trial_plan, trial_start}
 use Rattle.mon_run.specs.declared.outcome.Outcome.{Outcome}
 use Rattle.mon_run.specs.declared.stop.Stop.TheVariants as stop
+use Rattle.mon_run.specs.within.Stops.{nothing_came}
 use Rattle.mon_run.specs.within.Tried.{RanMade}
 use Rattle.mon_run.proofs.EndingLemmas.{run_tells}
-use Rattle.mon_run.proofs.RunLemmas.{told_as}
+use Rattle.mon_run.proofs.MadeLemmas.{no_lines}
+use Rattle.mon_run.proofs.RunLemmas.{none_configured, told_as}
 use Rattle.mon_run.proofs.SinkLemmas.{nothing_written}
-use Rattle.mon_run.proofs.StepLemmas.{did_none, did_then, stops_behind}
+use Rattle.mon_run.proofs.StepLemmas.{did_none, did_then, none_chosen, none_read, stops_behind}
 use Rattle.run_traces.specs.declared.traces.LineTrace.{LineTrace}
+use Rattle.trials.specs.Summaries.{summary_text}
 
 -- ---- lines end
 
@@ -75,7 +80,7 @@ text_cut status text folder ends before after takes rose = inr (inl (
   refl,
   record {
     done = [];
-    text = text;
+    step = Write text;
     left = [];
     split = refl;
     front = takes.front;
@@ -93,17 +98,32 @@ text_cut status text folder ends before after takes rose = inr (inl (
 ))
 
 -- memory ran out in front of what was to be said
-pub says_nothing : (p : Plan) (folder : FolderState) (ends : List LineTrace) (sink : SinkState)
+pub says_nothing : (p : Plan) (folder : FolderState) (ends : List LineTrace) (sink : SinkState) → AreNoLines p.steps
     → Follows p 6 (progress folder sink ends) (progress folder sink ends)
-says_nothing p folder ends sink = inr (inr (
+says_nothing p folder ends sink none = inr (inr (
   refl,
   record {
     done = [];
     left = p.steps;
     split = refl;
+    whole = none;
     did = did_none (progress folder sink ends);
   },
 ))
+
+-- what is said of a run is no line's
+none_said : (status : ℕ) (traces : List LineTrace) (printed : List ℕ)
+    → AreNoLines (trial_end status traces printed).steps
+none_said status traces printed =
+    none_chosen (ran_all status) (ending status (summary_text traces printed))
+    (cond (says_why status) (ending status printed) (plan [] 6)) (refl, tt)
+    (none_chosen (says_why status) (ending status printed) (plan [] 6) (refl, tt) tt)
+
+pub nothing_said : (status : ℕ) (traces : List LineTrace) (printed : List ℕ) (folder : FolderState)
+    (ends : List LineTrace) (sink : SinkState)
+    → Follows (trial_end status traces printed) 6 (progress folder sink ends) (progress folder sink ends)
+nothing_said status traces printed folder ends sink =
+    says_nothing (trial_end status traces printed) folder ends sink (none_said status traces printed)
 
 -- ---- the run from memory
 
@@ -127,6 +147,14 @@ ran_made number words folder behind sink after outcome by_words by_folder by_sin
       (tells (made_files number) (ap (λ (f : FolderState). f.files) by_folder));
 }
 
+none_numbered : (files : Files) (number : Option ℕ) (what : Option Command)
+    → AreNoLines (number_plan (nothing_came []) files number what).steps
+none_numbered files (Some number) what = no_lines (made_pieces number)
+none_numbered files None None = (refl, tt)
+none_numbered files None (Some what) =
+    none_read files what.config (config_plan (nothing_came []) files what (config_in (content_of files what.config)))
+    (none_configured [] files what (config_in (content_of files what.config)))
+
 -- memory ran out before the run
 pub not_tried : (number : ℕ) (folder : FolderState) (sink : SinkState) (lines : List LineTrace) → lines ≡ []
     → Tries number 6 None (progress folder sink []) (progress folder sink lines)
@@ -141,9 +169,10 @@ not_tried number folder sink lines none = subst (λ (ends : List LineTrace).
         woven = None;
         printed = tt;
         is = inl (says_nothing (run_plan (came None None []) (made_files number) made_words)
-            (calm_folder_state (made_files number) []) [] (sink_state (Some []) 0));
+            (calm_folder_state (made_files number) []) [] (sink_state (Some []) 0)
+            (none_numbered (made_files number) (made_number made_words) (command_of made_words)));
       };
-      said = says_nothing (trial_plan 6 [] []) folder [] sink;
+      said = says_nothing (trial_plan 6 [] []) folder [] sink tt;
     })
 
 -- ---- statuses

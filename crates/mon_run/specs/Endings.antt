@@ -1,7 +1,7 @@
 -- How far a run comes in its plan, how it ends, and what its lines came to.
 use Rattle.std.specs.Prelude.{◌≡◌, ◌<◌, ◌==◌, ◌||◌, ◌⊎◌, ℕ, Bool, true, false, List, [], ◌∷◌, ◌++◌, length, Option}
 use Rattle.std.specs.Prelude.{IfSome, Some, Ok, option_map}
-use Rattle.std.specs.List.{flat_map}
+use Rattle.std.specs.List.{AllByRecursion, flat_map}
 use Rattle.mon_value.specs.declared.histories.Histories.{Histories}
 use Rattle.run_traces.specs.declared.traces.LineTrace.{LineTrace}
 use Rattle.weave_core.specs.Schedules.{Printed}
@@ -13,7 +13,7 @@ use Rattle.mon_script.specs.Scripts.{script_in}
 use Rattle.mon_script.specs.declared.script.ScriptLine.{ScriptLine}
 use Rattle.mon_topo.specs.HeldHistories.{AreHeld}
 use Rattle.run_traces.specs.Headline.{ScriptHolds}
-use Rattle.mon_run.specs.Steps.{Rose, Ask, End, Miss, Plan, Step, Write, plan, read_text}
+use Rattle.mon_run.specs.Steps.{Rose, Ask, End, Miss, Plan, Print, Step, Write, is_of_line, plan, read_text}
 use Rattle.mon_run.specs.Outside.{Files, FolderState, asking, SinkState, written_then, content_of}
 use Rattle.mon_run.specs.Plans.{IsRunWoven, came, run_plan, Command, command_of}
 use Rattle.mon_run.specs.declared.outside.folder.Asked.{Asked}
@@ -36,18 +36,21 @@ abbrev pub read_in : Step → List Asked
 read_in (Ask name) = asking name false ∷ []
 read_in (Miss name) = asking name true ∷ []
 read_in (End trace) = []
+read_in (Print text) = []
 read_in (Write text) = []
 
 abbrev pub end_in : Step → List LineTrace
 end_in (Ask name) = []
 end_in (Miss name) = []
 end_in (End trace) = trace ∷ []
+end_in (Print text) = []
 end_in (Write text) = []
 
 abbrev pub text_of_step : Step → List ℕ
 text_of_step (Ask name) = []
 text_of_step (Miss name) = []
 text_of_step (End trace) = []
+text_of_step (Print text) = text
 text_of_step (Write text) = text
 
 -- the steps were done, and nothing else: just their files were read, their lines ended and their texts written, in
@@ -63,20 +66,26 @@ pub record Did (steps : List Step) (before after : Progress) : Type 0 where
 -- a write failed: the steps before it were done, and of its own text a front was written, and not all
 pub record CutShort (steps : List Step) (before after : Progress) : Type 0 where
   pub done : List Step
-  pub text : List ℕ
+  pub step : Step
   pub left : List Step
-  pub split : steps ≡ done ++ Write text ∷ left
+  pub split : steps ≡ done ++ step ∷ left
   pub front : List ℕ
   pub rest : List ℕ
-  pub cut : text ≡ front ++ rest
+  pub cut : text_of_step step ≡ front ++ rest
   pub some : 0 < length rest
   pub did : Did (done ++ Write front ∷ []) before after
 
--- memory ran out: the steps before were done
+-- what is left of a plan is no line's
+abbrev pub AreNoLines : List Step → Type 0
+AreNoLines = AllByRecursion (λ step. is_of_line step ≡ false)
+
+-- memory ran out: the steps before were done, and what is left is no line's, so each line that came to something has
+-- its text, and of a block that was cut no line came to anything
 pub record Starved (steps : List Step) (before after : Progress) : Type 0 where
   pub done : List Step
   pub left : List Step
   pub split : steps ≡ done ++ left
+  pub whole : AreNoLines left
   pub did : Did done before after
 
 -- A run follows a plan: it does all of it; or a write failed, and the count of the sink's faults rose (status

@@ -26,7 +26,7 @@ use Rattle.mon_script.specs.Scripts.{script_in}
 use Rattle.weave_core.specs.Schedules.{IsPrinted, Printed}
 use Rattle.schedule_lines.specs.declared.calls.ScheduleFault.{ScheduleFault}
 use Rattle.mon_run.specs.Outside.{Files, content_of}
-use Rattle.mon_run.specs.Steps.{End, Plan, Step, Write, ending, plan, plan_behind, read_plan, script_text, end_status}
+use Rattle.mon_run.specs.Steps.{End, Plan, Print, Step, Write, ending, plan, plan_behind, read_plan, script_text, end_status}
 use Rattle.mon_run.specs.Steps.{config_text, schedule_text, usage_text}
 use Rattle.mon_run.specs.declared.words.Verb.{Verb}
 use Rattle.mon_run.specs.declared.words.Verb.TheVariants as verb
@@ -41,7 +41,7 @@ starved_plan = plan [] 6
 -- the lines of a block end, with what begins and what ends it, and then their texts are written
 abbrev pub block_steps : (RanLine → List ℕ) → List RanLine → List Step
 block_steps text lines = End a_trace.Done ∷ (map (λ line. End line.trace) lines ++ End a_trace.Done
-    ∷ map (λ line. Write (text line)) lines)
+    ∷ map (λ line. Print (text line)) lines)
 
 module _ (files : Files) where
   -- ---- the files of lines
@@ -89,7 +89,7 @@ module _ (files : Files) where
     -- the files of a part are read, its lines end, and their texts are written, before the rest
     abbrev pub part_plan : Part RanLine → Plan → Plan
     part_plan (Alone line) rest =
-        line_read line.what (plan_behind (End line.trace ∷ Write (text line) ∷ []) rest)
+        line_read line.what (plan_behind (End line.trace ∷ Print (text line) ∷ []) rest)
     part_plan (Beside lines) rest =
         lines_read (map (λ line. line.what) lines) (plan_behind (block_steps text lines) rest)
 

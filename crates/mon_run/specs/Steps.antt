@@ -54,12 +54,21 @@ too_long_text name = codes "too long: " ++ (name ++ newline)
 
 -- The steps of a run, and plans of them.
 
--- a file is read, or its read fails; a line has run, and came to this; a text is written
+-- a file is read, or its read fails; a line has run, and came to this; its text is written; or another text is
 pub data Step : Type 0 where
   Ask : (name : List ℕ) → Step
   Miss : (name : List ℕ) → Step
   End : (trace : LineTrace) → Step
+  Print : (text : List ℕ) → Step
   Write : (text : List ℕ) → Step
+
+-- whether a line of the script ends there, or its text is written
+abbrev pub is_of_line : Step → Bool
+is_of_line (Ask name) = false
+is_of_line (Miss name) = false
+is_of_line (End trace) = true
+is_of_line (Print text) = true
+is_of_line (Write text) = false
 
 -- the steps of a run, and the status that it ends with
 pub record Plan : Type 0 where

@@ -13,7 +13,7 @@ ghost use Rattle.mon_run.specs.within.Blocks.{block_behind as block, left_behind
 ghost use Rattle.mon_run.specs.within.Dues.{AloneDue, BlockDue, DueSoFar, DueTo};
 ghost use Rattle.mon_run.specs.within.Lines.{AloneHalts, AloneRan, BlockHalts, BlockRan, FileRead, FileStops};
 ghost use Rattle.mon_run.specs.within.Lines.{FilesRead};
-ghost use Rattle.mon_run.specs.within.Lines.{FilesStop, LinesHalt, LinesRanTo, Noted, TextsStop, block_traces, writes};
+ghost use Rattle.mon_run.specs.within.Lines.{FilesStop, LinesHalt, LinesRanTo, Noted, TextsStop, block_traces, prints};
 ghost use Rattle.mon_run.specs.within.Stops.{Between, Continues, StopsBetween};
 ghost use Rattle.part_runs.specs.PartsDone.{CanSplit};
 ghost use Rattle.run_traces.specs.RanLines.{acts_by, content_for};
@@ -210,7 +210,7 @@ impl<'f, 'o, 'l, F: Folder, O: Sink> Run<'f, 'o, 'l, F, O> {
     fn texts(&mut self, texts: &[Text]) -> Result<(), Stop>
         ensures continues { Continues F.state O.state self.old self.new }
         ensures log { self.new.log.now ≡ self.old.log.now }
-        ensures wrote { OnOk result (Between F.state O.state (Did (writes texts.now)) self.old self.new) }
+        ensures wrote { OnOk result (Between F.state O.state (Did (prints texts.now)) self.old self.new) }
         ensures stops { IfErr result (StopsBetween F.state O.state (TextsStop texts.now) self.old self.new) }
     {
         for text in texts {

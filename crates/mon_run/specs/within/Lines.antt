@@ -10,7 +10,7 @@ use Rattle.mon_run.specs.Endings.{Progress, LinesTell, ScriptTells}
 use Rattle.mon_run.specs.Outside.{Files, Told, content_of}
 use Rattle.mon_run.specs.Plans.{line_read, lines_plan, lines_read, part_plan, parts_plan, script_plan, starved_plan}
 use Rattle.mon_run.specs.Plans.{store_plan}
-use Rattle.mon_run.specs.Steps.{Plan, Step, Write, plan_behind}
+use Rattle.mon_run.specs.Steps.{Plan, Print, Step, plan_behind}
 use Rattle.mon_run.specs.declared.stop.Stop.{Stop}
 use Rattle.mon_run.specs.declared.stop.Stop.TheVariants as stop
 use Rattle.mon_run.specs.declared.words.Verb.{Verb}
@@ -52,11 +52,13 @@ FilesStop lines stopped before after = PartStops (λ files. lines_read files (fo
 
 -- ---- texts
 
-abbrev pub writes : List (List ℕ) → List Step
-writes = map (λ text. Write text)
+abbrev pub prints : List (List ℕ) → List Step
+prints = map (λ text. Print text)
 
-abbrev pub TextsStop : List (List ℕ) → Stop → Progress → Progress → Type 0
-TextsStop texts stopped before after = PartStops (λ files. plan_behind (writes texts)) stopped before after
+-- texts stop, before any rest, and there is a cause
+pub record TextsStop (texts : List (List ℕ)) (stopped : Stop) (before after : Progress) : Type 0 where
+  pub stops : (rest : Plan) → Stops (plan_behind (prints texts) rest) stopped before after
+  pub causes : Causes stopped before after
 
 -- ---- lines
 

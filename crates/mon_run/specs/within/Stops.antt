@@ -1,6 +1,6 @@
 -- How a part of a run leaves it: it did its steps, or it stopped.
 use Rattle.std.specs.Prelude.{◌≡◌, ◌≤◌, ◌<◌, ◌⊎◌, ℕ, Bool, true, false, List, [], ◌∷◌, ◌++◌, length, Option, IfSome}
-use Rattle.std.specs.Prelude.{Some, Result, Ok, Err, IfOk, IfErr}
+use Rattle.std.specs.Prelude.{None, Some, Result, Ok, Err, IfOk, IfErr}
 use Rattle.std.specs.Bool.{⊤}
 use Rattle.mon_value.specs.declared.histories.Histories.{Histories}
 use Rattle.mon_value.specs.declared.refusals.Refusal.{Refusal}
@@ -9,7 +9,7 @@ use Rattle.mon_config.specs.Configs.{config_in}
 use Rattle.mon_config.specs.declared.config.Config.{Config}
 use Rattle.mon_config.specs.declared.faults.ConfigFault.{ConfigFault}
 use Rattle.mon_script.specs.declared.faults.ScriptFault.{ScriptFault}
-use Rattle.mon_run.specs.Endings.{CutShort, Did, LastFailed, Progress, Starved, progress, seen_by}
+use Rattle.mon_run.specs.Endings.{AreNoLines, CutShort, Did, LastFailed, Progress, Starved, progress, seen_by}
 use Rattle.mon_run.specs.Steps.{Rose, Ask, Miss, Plan, Step, Write, end_status, ending, is_too_long, plan_behind}
 use Rattle.mon_run.specs.Steps.{read_plan, config_text, read_text, schedule_text, script_text, too_long_text}
 use Rattle.mon_run.specs.Steps.{usage_text}
@@ -146,9 +146,10 @@ pub record HasConfig (files : Files) (name : List ℕ) (config : Config) : Type 
   pub has : HasRead files name content
   pub is : config_in content ≡ Ok config
 
--- a part of a plan stops, before any rest, and there is a cause
+-- a part of a plan stops, before any rest that is no line's, and there is a cause
 pub record PartStops (part : Files → Plan → Plan) (stopped : Stop) (before after : Progress) : Type 0 where
-  pub told : Told before.folder (λ files. (rest : Plan) → Stops (part files rest) stopped before after)
+  pub told : Told before.folder (λ files. (rest : Plan) → AreNoLines rest.steps
+      → Stops (part files rest) stopped before after)
   pub causes : Causes stopped before after
 
 -- a read stops
@@ -200,10 +201,15 @@ printed_by woven = record { text = woven.text; fault = woven.fault }
 abbrev pub files_plan : Command → Came → Files → Plan
 files_plan what of files = command_plan of files (Some what)
 
+-- nothing came of a run: no schedule came to its end, and no store was made
+abbrev pub nothing_came : List LineTrace → Came
+nothing_came traces = came None None traces
+
 -- the configuration of a command stops it, whatever it does with which second file
 abbrev pub ConfigStops : List ℕ → Stop → Progress → Progress → Type 0
 ConfigStops name stopped before after =
-    (verb : Verb) (file : List ℕ) (of : Came) → Halts (files_plan (command verb name file) of) stopped before after
+    (verb : Verb) (file : List ℕ) (traces : List LineTrace)
+    → Halts (files_plan (command verb name file) (nothing_came traces)) stopped before after
 
 -- the second file of a command, under a configuration
 abbrev pub named_plan : Config → Verb → List ℕ → Came → Files → Plan

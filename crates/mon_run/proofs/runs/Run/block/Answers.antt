@@ -5,7 +5,7 @@ use Rattle.line_runs.specs.declared.lines.LineRan.{LineRan}
 use Rattle.mon_run.specs.Endings.{Did, Progress}
 use Rattle.mon_run.specs.declared.stop.Stop.{Stop}
 use Rattle.mon_run.specs.declared.stop.Stop.TheVariants as stop
-use Rattle.mon_run.specs.within.Lines.{BlockHalts, Noted, TextsStop, block_traces, writes}
+use Rattle.mon_run.specs.within.Lines.{BlockHalts, Noted, TextsStop, block_traces, prints}
 use Rattle.mon_run.specs.within.Stops.{seen}
 use Rattle.mon_run.proofs.DueLemmas.{block_noted_due, on_err_of, on_ok_of}
 use Rattle.mon_run.proofs.EndLemmas.{counts_then}
@@ -94,7 +94,7 @@ returns-clause-ran g c =
     c.args.p.now
     c.run_beside.new.p) c.as_slice.ensures.items c.in_ok-rans.ensures.ran)
     (did_end (block_traces traces) put.folder put.sink put.ends) (ap (λ log. log.traces.items) c.contents.ensures.log)
-    put.ends after (subst (λ (t : List (List ℕ)). Did (writes t) noted after) printed wrote)
+    put.ends after (subst (λ (t : List (List ℕ)). Did (prints t) noted after) printed wrote)
     (ap (λ log. log.traces.items) c.texts.ensures.log)) c.texts.ensures.wrote
 
 pub returns-clause-stops : goal.returns-clause-stops

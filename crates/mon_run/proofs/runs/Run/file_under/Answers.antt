@@ -1,10 +1,11 @@
-use Rattle.std.proofs.Common.{◌∙◌, List, ℕ, None, ap, refl, sym, subst}
+use Rattle.std.proofs.Common.{◌≡◌, ◌∙◌, List, ℕ, Option, None, ap, refl, sym, subst}
+use Rattle.mon_value.specs.declared.histories.Histories.{Histories}
 use Rattle.mon_run.specs.Endings.{Progress}
 use Rattle.mon_run.specs.Outside.{Told, content_of}
 use Rattle.mon_run.specs.Plans.{came}
 use Rattle.mon_run.specs.within.Lines.{NamedTells}
 use Rattle.mon_run.specs.within.Stops.{Halts, HasRead, named_plan, noted, seen}
-use Rattle.mon_run.proofs.RunLemmas.{named_weave, none_noted, weaves_stopped}
+use Rattle.mon_run.proofs.RunLemmas.{named_weave, none_filed, none_noted, weaves_stopped}
 use Rattle.mon_run.proofs.runs.Run.file_under.Goals as goal
 use Rattle.weave_core.specs.Schedules.{IsPrinted}
 
@@ -33,14 +34,18 @@ returns-in-Err-clause-ended g c =
     let after : Progress = seen g.F.Folder.state g.O.Sink.state c.read.new.self in
     let name : List ℕ = c.args.name.now in
     let known = noted c.read.new.self in
-    let fact : Halts (named_plan c.args.config c.args.verb name (came None known after.ends)) c.in-Err.stop before
-    after =
+    let none : known ≡ None = none_noted c.read.new.self
+    (ap (λ log. log.ended) c.read.ensures.log ∙ c.requires.none_noted) in
+    let fact : Halts (named_plan c.args.config c.args.verb name (came None None after.ends)) c.in-Err.stop before after =
     record {
-      told = λ files told. c.in-Err.ensures.stops.told files told _;
+      told = λ files told.
+          c.in-Err.ensures.stops.told files told _
+          (none_filed after.ends c.args.config files c.args.verb (content_of files name));
       causes = c.in-Err.ensures.stops.causes;
     } in
     weaves_stopped (named_plan c.args.config c.args.verb name) (λ files. IsPrinted c.args.config (content_of files
     name))
     (NamedTells c.args.verb c.args.config name) known _ c.in-Err.stop after
-    (none_noted c.read.new.self (ap (λ log. log.ended) c.read.ensures.log ∙ c.requires.none_noted))
-    (c.in-Err.stop, refl, refl) fact
+    none (c.in-Err.stop, refl, refl)
+    (subst (λ (k : Option Histories). Halts (named_plan c.args.config c.args.verb name (came None k after.ends))
+    c.in-Err.stop before after) (sym none) fact)

@@ -24,7 +24,7 @@ returns-in-Err-Failed-clause-stops g c =
     let did : Did (Miss name ∷ []) before after = read_alone refl refl c.read.ensures.files asked refl refl in
     let cause = c.read.ensures.failed failed in
     let fact : ReadStops name (stop.CannotRead name) before after = record {
-      told = λ files told rest. stops_at_miss files name rest did;
+      told = λ files told rest none. stops_at_miss files name rest did;
       causes = (cause.1, last_read_failed name asked cause.0 cause.1);
     } in
     subst (λ (n : List ℕ). ReadStops name (stop.CannotRead n) before after) (sym c.in_ok-kept.ensures.bytes) fact
@@ -39,7 +39,7 @@ returns-in-Err-TooLong-clause-stops g c =
     let asked = asks_too_long c.read.result name before.folder.asked after.folder.asked failed c.read.ensures.asked in
     let did : Did (Ask name ∷ []) before after = read_alone refl refl c.read.ensures.files asked refl refl in
     let fact : ReadStops name (stop.TooLong name) before after = record {
-      told = λ files told rest.
+      told = λ files told rest none.
           let more : LONGEST_FILE < length (content_of files name) = c.read.ensures.too_long failed files told in
           let long : is_too_long files name ≡ true = grind (arith, nat_tests) in
           stops_too_long files name rest long did;
@@ -55,8 +55,8 @@ returns-in-Err-OutOfMemory-clause-stops g c =
     let name = c.args.name.now in
     let failed : c.read.result ≡ Err fault.OutOfMemory = cc in
     record {
-      told = λ files told rest.
-          read_starved files name rest {before = before} {after = after}
+      told = λ files told rest none.
+          read_starved files name rest none {before = before} {after = after}
           (elim (asks_starved c.read.result name before.folder.asked after.folder.asked failed c.read.ensures.asked) [
             | inl same ↦ inl (unread c.read.ensures.files same refl refl)
             | inr more ↦ inr (read_alone refl refl c.read.ensures.files more refl refl)

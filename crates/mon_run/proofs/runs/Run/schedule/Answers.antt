@@ -15,7 +15,7 @@ pub returns-in_err-woven-clause-ended : goal.returns-in_err-woven-clause-ended
 returns-in_err-woven-clause-ended g c =
     let before : Progress = seen g.F.Folder.state g.O.Sink.state c.args.self.now in
     let fact : Halts (λ files. schedule_plan None) stop.OutOfMemory before before = record {
-      told = λ files told. record { done = []; left = []; split = refl; did = did_none before };
+      told = λ files told. record { done = []; left = []; split = refl; whole = tt; did = did_none before };
       causes = tt;
     } in
     weaves_stopped (λ of files. schedule_plan of.woven) (λ files. IsPrinted c.args.config c.args.text.now)
