@@ -1,6 +1,6 @@
 -- How a run ends: as its plan says, or where it could not go on.
 use Rattle.std.proofs.Common.{◌≡◌, ◌∙◌, ◌≤◌, inl, inr, ℕ, true, false, List, [], ◌∷◌, ◌++◌, Bool, Result, Ok, Err}
-use Rattle.std.proofs.Common.{IfOk, IfErr, sym, ap, subst, append_assoc, append-nil, arith}
+use Rattle.std.proofs.Common.{IfOk, IfErr, refl, sym, ap, subst, append_assoc, append-nil, arith}
 use Rattle.mon_run.specs.Endings.{CutShort, Did, Follows, LastFailed, Progress, RunIs, Starved}
 use Rattle.mon_run.specs.Steps.{Rose, Miss, Plan, Step, Write, ending, plan, plan_behind, read_text}
 use Rattle.mon_run.specs.Outside.{SinkState, FolderState, asking}

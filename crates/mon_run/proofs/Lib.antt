@@ -3,6 +3,7 @@ mod ContentLemmas
 mod DueLemmas
 mod EndLemmas
 mod EndingLemmas
+mod LawLemmas
 mod LineLemmas
 mod MadeLemmas
 mod NumberLemmas

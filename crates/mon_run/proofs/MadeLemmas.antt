@@ -54,9 +54,9 @@ no_lines (piece ∷ pieces) = (refl, no_lines pieces)
 
 -- memory ran out in front of the next one
 pub written_starved : {number : ℕ} {left : List (List ℕ)} {before now : Progress} → Written number left before now
-    → Halts (λ files. made_plan number) stop.OutOfMemory before now
+    → Halts (made_plan number) stop.OutOfMemory before now
 written_starved {number} {left} written = record {
-  told = λ files told. record {
+  stops = record {
     done = written.steps;
     left = writes left;
     split = written.split;
@@ -70,14 +70,14 @@ written_starved {number} {left} written = record {
 pub written_cut : {number : ℕ} {left : List (List ℕ)} (piece text : List ℕ) (rest : List (List ℕ)) (stopped : Stop)
     {before now : Progress} (after : Progress) → Written number left before now → left ≡ piece ∷ rest → text ≡ piece
     → Counts before now → WriteStops text stopped now after
-    → Halts (λ files. made_plan number) stopped before after
+    → Halts (made_plan number) stopped before after
 written_cut {number} {left} piece text rest stopped {before} {now} after written is same counts stops =
     let cut : WroteFront piece now after = subst (λ (t : List ℕ). WroteFront t now after) same stops.front in
     let steps : writes (made_pieces number) ≡ written.steps ++ Write piece ∷ writes rest =
     written.split ∙ ap (λ (pieces : List (List ℕ)). written.steps ++ writes pieces) is in
-    subst (λ (s : Stop). Halts (λ files. made_plan number) s before after) (sym stops.failed)
+    subst (λ (s : Stop). Halts (made_plan number) s before after) (sym stops.failed)
     (record {
-      told = λ files told. record {
+      stops = record {
         done = written.steps;
         step = Write piece;
         left = writes rest;

@@ -1,5 +1,5 @@
 -- The parts of lines that ran, and the plans of parts.
-use Rattle.std.proofs.Common.{◌≡◌, ◌∙◌, ℕ, List, [], ◌∷◌, ◌++◌, length, map, drop, cond, true, Some, None, refl}
+use Rattle.std.proofs.Common.{◌≡◌, ◌∙◌, ℕ, List, [], ◌∷◌, ◌++◌, length, map, drop, take, cond, true, Some, None, refl}
 use Rattle.std.proofs.Common.{sym, ap, append_assoc, append-nil, arith}
 use Rattle.std.specs.List.{AllByRecursion}
 use Rattle.mon_script.specs.Blocks.{ends_by, mark_of}
@@ -8,66 +8,79 @@ use Rattle.mon_script.specs.declared.places.Mark.{Mark}
 use Rattle.mon_script.specs.declared.places.Mark.TheVariants as mark
 use Rattle.mon_script.specs.declared.script.ScriptLine.{ScriptLine}
 use Rattle.mon_run.specs.Outside.{Files}
-use Rattle.mon_run.specs.Plans.{block_read, block_steps, left_plan, line_read, lines_read, part_plan, parts_plan}
-use Rattle.mon_run.specs.Plans.{next_read, starved_plan}
+use Rattle.mon_run.specs.Plans.{block_forms, block_steps, forms_of, left_plan, next_forms, part_plan, parts_plan, sought}
 use Rattle.mon_run.specs.Steps.{End, Plan, Print, Step}
-use Rattle.mon_run.specs.within.Lines.{StandApart, block_traces, forms_of, prints}
+use Rattle.mon_run.specs.within.Lines.{StandApart, block_traces, prints}
 use Rattle.mon_run.proofs.BlockLemmas.{Acts}
-use Rattle.part_runs.specs.PartsDone.{ran_beside}
 use Rattle.run_theory.specs.Parts.{Alone, Beside, Part}
-use Rattle.run_traces.specs.RanLines.{RanLine, acts_by, block_behind, content_for, part_at, parts_from, parts_of, ran_lines}
+use Rattle.run_traces.specs.RanLines.{RanLine, acts_by, block_behind, part_at, parts_from, parts_of, ran_lines}
 use Rattle.run_traces.specs.declared.traces.LineTrace.{LineTrace}
 use Rattle.run_traces.specs.declared.traces.LineTrace.TheVariants as came
 
 -- ---- lines that ran
 
-module _ (contents : List ℕ → List ℕ) where
-  pub ran_both : (lines more : List ScriptLine) (traces others : List LineTrace) → length traces ≡ length lines
-      → ran_lines contents (lines ++ more) (traces ++ others)
-      ≡ ran_lines contents lines traces ++ ran_lines contents more others
-  ran_both [] more [] others same = refl
-  ran_both [] more (trace ∷ traces) others same = absurd cc
-  ran_both (line ∷ lines) more [] others same = absurd cc
-  ran_both (line ∷ lines) more (trace ∷ traces) others same =
-      ap (λ (ran : List RanLine). record { what = line.what; content = content_for contents line.what; trace = trace }
-      ∷ ran) (ran_both lines more traces others (omega (arith, same)))
+abbrev ran_line : ScriptLine → List ℕ → LineTrace → List RanLine → List RanLine
+ran_line line content trace ran = record { what = line.what; content = content; trace = trace } ∷ ran
 
-  ran_none : (lines : List ScriptLine) → ran_lines contents lines [] ≡ []
-  ran_none [] = refl
-  ran_none (line ∷ lines) = refl
+pub ran_both : (lines more : List ScriptLine) (contents others : List (List ℕ)) (traces behind : List LineTrace)
+    → length contents ≡ length lines → length traces ≡ length lines
+    → ran_lines (lines ++ more) (contents ++ others) (traces ++ behind)
+    ≡ ran_lines lines contents traces ++ ran_lines more others behind
+ran_both [] more [] others [] behind held same = refl
+ran_both [] more (content ∷ contents) others traces behind held same = absurd cc
+ran_both [] more [] others (trace ∷ traces) behind held same = absurd cc
+ran_both (line ∷ lines) more [] others traces behind held same = absurd cc
+ran_both (line ∷ lines) more (content ∷ contents) others [] behind held same = absurd cc
+ran_both (line ∷ lines) more (content ∷ contents) others (trace ∷ traces) behind held same =
+    ap (ran_line line content trace)
+    (ran_both lines more contents others traces behind (omega (arith, held)) (omega (arith, same)))
 
-  pub ran_first : (lines more : List ScriptLine) (traces : List LineTrace) → length traces ≡ length lines
-      → ran_lines contents (lines ++ more) traces ≡ ran_lines contents lines traces
-  ran_first lines more traces same =
-      ap (ran_lines contents (lines ++ more)) (sym (append-nil traces))
-      ∙ ran_both lines more traces [] same
-      ∙ ap (λ (ran : List RanLine). ran_lines contents lines traces ++ ran) (ran_none more)
-      ∙ append-nil (ran_lines contents lines traces)
+pub ran_none : (lines : List ScriptLine) (contents : List (List ℕ)) → ran_lines lines contents [] ≡ []
+ran_none [] contents = refl
+ran_none (line ∷ lines) [] = refl
+ran_none (line ∷ lines) (content ∷ contents) = refl
 
-  -- what they say, and what they came to
-  pub ran_forms : (lines : List ScriptLine) (traces : List LineTrace) → length traces ≡ length lines
-      → map (λ (line : RanLine). line.what) (ran_lines contents lines traces) ≡ forms_of lines
-  ran_forms [] traces same = refl
-  ran_forms (line ∷ lines) [] same = absurd cc
-  ran_forms (line ∷ lines) (trace ∷ traces) same =
-      ap (λ (forms : List LineForm). line.what ∷ forms) (ran_forms lines traces (omega (arith, same)))
+pub ran_first : (lines more : List ScriptLine) (contents others : List (List ℕ)) (traces : List LineTrace)
+    → length contents ≡ length lines → length traces ≡ length lines
+    → ran_lines (lines ++ more) (contents ++ others) traces ≡ ran_lines lines contents traces
+ran_first lines more contents others traces held same =
+    ap (ran_lines (lines ++ more) (contents ++ others)) (sym (append-nil traces))
+    ∙ ran_both lines more contents others traces [] held same
+    ∙ ap (λ (ran : List RanLine). ran_lines lines contents traces ++ ran) (ran_none more others)
+    ∙ append-nil (ran_lines lines contents traces)
 
-  pub ran_ends : (lines : List ScriptLine) (traces : List LineTrace) → length traces ≡ length lines
-      → map (λ (line : RanLine). End line.trace) (ran_lines contents lines traces) ≡ map (λ trace. End trace) traces
-  ran_ends [] [] same = refl
-  ran_ends [] (trace ∷ traces) same = absurd cc
-  ran_ends (line ∷ lines) [] same = absurd cc
-  ran_ends (line ∷ lines) (trace ∷ traces) same =
-      ap (λ (steps : List Step). End trace ∷ steps) (ran_ends lines traces (omega (arith, same)))
+-- what they say, what their files held, and what they came to
+pub ran_forms : (lines : List ScriptLine) (contents : List (List ℕ)) (traces : List LineTrace)
+    → length contents ≡ length lines → length traces ≡ length lines
+    → map (λ (line : RanLine). line.what) (ran_lines lines contents traces) ≡ forms_of lines
+ran_forms [] contents traces held same = refl
+ran_forms (line ∷ lines) [] traces held same = absurd cc
+ran_forms (line ∷ lines) (content ∷ contents) [] held same = absurd cc
+ran_forms (line ∷ lines) (content ∷ contents) (trace ∷ traces) held same =
+    ap (λ (forms : List LineForm). line.what ∷ forms)
+    (ran_forms lines contents traces (omega (arith, held)) (omega (arith, same)))
 
-  -- lines that ran beside each other with what the files hold
-  pub beside_ran : (lines : List ScriptLine) (traces : List LineTrace)
-      → ran_beside lines (map (content_for contents) (forms_of lines)) traces ≡ ran_lines contents lines traces
-  beside_ran [] traces = refl
-  beside_ran (line ∷ lines) [] = refl
-  beside_ran (line ∷ lines) (trace ∷ traces) =
-      ap (λ (ran : List RanLine). record { what = line.what; content = content_for contents line.what; trace = trace }
-      ∷ ran) (beside_ran lines traces)
+pub ran_contents : (lines : List ScriptLine) (contents : List (List ℕ)) (traces : List LineTrace)
+    → length contents ≡ length lines → length traces ≡ length lines
+    → map (λ (line : RanLine). line.content) (ran_lines lines contents traces) ≡ contents
+ran_contents [] [] traces held same = refl
+ran_contents [] (content ∷ contents) traces held same = absurd cc
+ran_contents (line ∷ lines) [] traces held same = absurd cc
+ran_contents (line ∷ lines) (content ∷ contents) [] held same = absurd cc
+ran_contents (line ∷ lines) (content ∷ contents) (trace ∷ traces) held same =
+    ap (λ (rest : List (List ℕ)). content ∷ rest)
+    (ran_contents lines contents traces (omega (arith, held)) (omega (arith, same)))
+
+pub ran_ends : (lines : List ScriptLine) (contents : List (List ℕ)) (traces : List LineTrace)
+    → length contents ≡ length lines → length traces ≡ length lines
+    → map (λ (line : RanLine). End line.trace) (ran_lines lines contents traces) ≡ map (λ trace. End trace) traces
+ran_ends [] contents [] held same = refl
+ran_ends [] contents (trace ∷ traces) held same = absurd cc
+ran_ends (line ∷ lines) [] traces held same = absurd cc
+ran_ends (line ∷ lines) (content ∷ contents) [] held same = absurd cc
+ran_ends (line ∷ lines) (content ∷ contents) (trace ∷ traces) held same =
+    ap (λ (steps : List Step). End trace ∷ steps)
+    (ran_ends lines contents traces (omega (arith, held)) (omega (arith, same)))
 
 pub behind_both : {X : Type 0} (traces : List LineTrace) (lines more : List X) (others : List LineTrace)
     → length traces ≡ length lines → drop (length (traces ++ others)) (lines ++ more) ≡ drop (length others) more
@@ -78,6 +91,15 @@ behind_both (trace ∷ traces) (line ∷ lines) more others same = behind_both t
   arith,
   same,
 ))
+
+pub front_both : {X : Type 0} (traces : List LineTrace) (lines more : List X) (others : List LineTrace)
+    → length traces ≡ length lines
+    → take (length (traces ++ others)) (lines ++ more) ≡ lines ++ take (length others) more
+front_both [] [] more others same = refl
+front_both [] (line ∷ lines) more others same = absurd cc
+front_both (trace ∷ traces) [] more others same = absurd cc
+front_both {X} (trace ∷ traces) (line ∷ lines) more others same =
+    ap (λ (rest : List X). line ∷ rest) (front_both traces lines more others (omega (arith, same)))
 
 pub behind_all : {X : Type 0} (traces : List LineTrace) (lines : List X) → length traces ≡ length lines
     → drop (length traces) lines ≡ []
@@ -160,69 +182,68 @@ block_part begin end lines opens closes acts = λ more.
     ∙ within [] lines (end ∷ more) acts
     ∙ closes_by lines end more (mark_of end.what) closes
 
-pub all_act : (contents : List ℕ → List ℕ) (lines : List ScriptLine) (traces : List LineTrace)
-    → AllByRecursion Acts lines → AllByRecursion ActsThere (ran_lines contents lines traces)
-all_act contents [] traces acts = tt
-all_act contents (line ∷ lines) [] acts = tt
-all_act contents (line ∷ lines) (trace ∷ traces) acts = (acts.0, all_act contents lines traces acts.1)
+pub all_act : (lines : List ScriptLine) (contents : List (List ℕ)) (traces : List LineTrace)
+    → AllByRecursion Acts lines → AllByRecursion ActsThere (ran_lines lines contents traces)
+all_act [] contents traces acts = tt
+all_act (line ∷ lines) [] traces acts = tt
+all_act (line ∷ lines) (content ∷ contents) [] acts = tt
+all_act (line ∷ lines) (content ∷ contents) (trace ∷ traces) acts = (acts.0, all_act lines contents traces acts.1)
 
 -- ---- plans
 
-pub plans_both : (files : Files) (text : RanLine → List ℕ) (parts more : List (Part RanLine)) (rest : Plan)
-    → parts_plan files text (parts ++ more) rest ≡ parts_plan files text parts (parts_plan files text more rest)
-plans_both files text [] more rest = refl
-plans_both files text (part ∷ parts) more rest =
-    ap (part_plan files text part) (plans_both files text parts more rest)
+pub plans_both : (text : RanLine → List ℕ) (parts more : List (Part RanLine)) (rest : Plan)
+    → parts_plan text (parts ++ more) rest ≡ parts_plan text parts (parts_plan text more rest)
+plans_both text [] more rest = refl
+plans_both text (part ∷ parts) more rest = ap (part_plan text part) (plans_both text parts more rest)
 
-at_end : (what : Mark) (p q : Plan) → what ≡ mark.Closes → cond (ends_by what) p q ≡ p
+at_end : (what : Mark) (p q : List LineForm) → what ≡ mark.Closes → cond (ends_by what) p q ≡ p
 at_end mark.Closes p q is = refl
 at_end mark.Opens p q is = absurd cc
 at_end mark.Acts p q is = absurd cc
 at_end mark.Lone p q is = absurd cc
 
-before_end : (what : Mark) (p q : Plan) → what ≡ mark.Acts → cond (ends_by what) p q ≡ q
+before_end : (what : Mark) (p q : List LineForm) → what ≡ mark.Acts → cond (ends_by what) p q ≡ q
 before_end mark.Acts p q is = refl
 before_end mark.Opens p q is = absurd cc
 before_end mark.Closes p q is = absurd cc
 before_end mark.Lone p q is = absurd cc
 
--- the files of a block's lines are those up to its end
-pub block_reads : (files : Files) (lines : List ScriptLine) (end : ScriptLine) (rest : List ScriptLine)
+-- the lines of a block are those up to its end
+pub block_says : (lines : List ScriptLine) (end : ScriptLine) (rest : List ScriptLine)
     → AllByRecursion Acts lines → mark_of end.what ≡ mark.Closes
-    → block_read files (lines ++ end ∷ rest) ≡ lines_read files (forms_of lines) starved_plan
-block_reads files [] end rest acts closes =
-    at_end (mark_of end.what) starved_plan (line_read files end.what (block_read files rest)) closes
-block_reads files (line ∷ lines) end rest acts closes =
-    before_end (mark_of line.what) starved_plan (line_read files line.what (block_read files (lines ++ end ∷ rest)))
-    acts.0
-    ∙ ap (line_read files line.what) (block_reads files lines end rest acts.1 closes)
+    → block_forms (lines ++ end ∷ rest) ≡ forms_of lines
+block_says [] end rest acts closes = at_end (mark_of end.what) [] (end.what ∷ block_forms rest) closes
+block_says (line ∷ lines) end rest acts closes =
+    before_end (mark_of line.what) [] (line.what ∷ block_forms (lines ++ end ∷ rest)) acts.0
+    ∙ ap (λ (forms : List LineForm). line.what ∷ forms) (block_says lines end rest acts.1 closes)
 
-next_by : (files : Files) (what : Mark) (form : LineForm) (lines : List ScriptLine) → acts_by what ≡ true
-    → next_read files what form lines ≡ line_read files form starved_plan
-next_by files mark.Acts form lines is = refl
-next_by files mark.Lone form lines is = refl
-next_by files mark.Opens form lines is = absurd cc
-next_by files mark.Closes form lines is = absurd cc
+next_by : (what : Mark) (form : LineForm) (lines : List ScriptLine) → acts_by what ≡ true
+    → next_forms what form lines ≡ form ∷ []
+next_by mark.Acts form lines is = refl
+next_by mark.Lone form lines is = refl
+next_by mark.Opens form lines is = absurd cc
+next_by mark.Closes form lines is = absurd cc
 
 -- what is left begins with a line that stands alone
-pub alone_left : (files : Files) (status : ℕ) (line : ScriptLine) (behind : List ScriptLine)
-    → acts_by (mark_of line.what) ≡ true → left_plan files status (line ∷ behind) ≡ line_read files line.what starved_plan
-alone_left files status line behind acts = next_by files (mark_of line.what) line.what behind acts
+pub alone_left : (status : ℕ) (line : ScriptLine) (behind : List ScriptLine) (reads : Files)
+    → acts_by (mark_of line.what) ≡ true → left_plan status (line ∷ behind) reads ≡ sought (line.what ∷ []) reads
+alone_left status line behind reads acts =
+    ap (λ (forms : List LineForm). sought forms reads) (next_by (mark_of line.what) line.what behind acts)
 
-opens_by : (files : Files) (what : Mark) (form : LineForm) (lines : List ScriptLine) → what ≡ mark.Opens
-    → next_read files what form lines ≡ block_read files lines
-opens_by files mark.Opens form lines is = refl
-opens_by files mark.Closes form lines is = absurd cc
-opens_by files mark.Acts form lines is = absurd cc
-opens_by files mark.Lone form lines is = absurd cc
+opens_by : (what : Mark) (form : LineForm) (lines : List ScriptLine) → what ≡ mark.Opens
+    → next_forms what form lines ≡ block_forms lines
+opens_by mark.Opens form lines is = refl
+opens_by mark.Closes form lines is = absurd cc
+opens_by mark.Acts form lines is = absurd cc
+opens_by mark.Lone form lines is = absurd cc
 
 -- or with a block
-pub block_left : (files : Files) (status : ℕ) (line end : ScriptLine) (lines left : List ScriptLine)
+pub block_left : (status : ℕ) (line end : ScriptLine) (lines left : List ScriptLine) (reads : Files)
     → mark_of line.what ≡ mark.Opens → AllByRecursion Acts lines → mark_of end.what ≡ mark.Closes
-    → left_plan files status (line ∷ (lines ++ end ∷ left)) ≡ lines_read files (forms_of lines) starved_plan
-block_left files status line end lines left opens acts closes =
-    opens_by files (mark_of line.what) line.what (lines ++ end ∷ left) opens
-    ∙ block_reads files lines end left acts closes
+    → left_plan status (line ∷ (lines ++ end ∷ left)) reads ≡ sought (forms_of lines) reads
+block_left status line end lines left reads opens acts closes =
+    ap (λ (forms : List LineForm). sought forms reads)
+    (opens_by (mark_of line.what) line.what (lines ++ end ∷ left) opens ∙ block_says lines end left acts closes)
 
 -- ---- the steps of a block
 
@@ -232,16 +253,16 @@ ends_both [] others = refl
 ends_both (trace ∷ traces) others = ap (λ (steps : List Step). End trace ∷ steps) (ends_both traces others)
 
 -- where its lines print these texts
-pub block_ends : (contents : List ℕ → List ℕ) (text : RanLine → List ℕ) (lines : List ScriptLine)
-    (traces : List LineTrace) (texts : List (List ℕ)) → length traces ≡ length lines
-    → map text (ran_lines contents lines traces) ≡ texts
-    → block_steps text (ran_lines contents lines traces)
+pub block_ends : (text : RanLine → List ℕ) (lines : List ScriptLine) (contents : List (List ℕ))
+    (traces : List LineTrace) (texts : List (List ℕ)) → length contents ≡ length lines → length traces ≡ length lines
+    → map text (ran_lines lines contents traces) ≡ texts
+    → block_steps text (ran_lines lines contents traces)
     ≡ map (λ trace. End trace) (block_traces traces) ++ prints texts
-block_ends contents text lines traces texts same is =
-    let ran : List RanLine = ran_lines contents lines traces in
+block_ends text lines contents traces texts held same is =
+    let ran : List RanLine = ran_lines lines contents traces in
     let ends : List Step = map (λ trace. End trace) traces in
     ap (λ (front : List Step). End came.Done ∷ (front ++ End came.Done ∷ map (λ line. Print (text line)) ran))
-    (ran_ends contents lines traces same)
+    (ran_ends lines contents traces held same)
     ∙ ap (λ (back : List Step). End came.Done ∷ (ends ++ End came.Done ∷ back)) (written text ran texts is)
     ∙ ap (λ (steps : List Step). End came.Done ∷ steps) (sym (append_assoc ends (End came.Done ∷ []) (prints texts)))
     ∙ ap (λ (steps : List Step). End came.Done ∷ (steps ++ prints texts)) (sym (ends_both traces (came.Done ∷ [])))

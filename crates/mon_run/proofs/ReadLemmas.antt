@@ -1,7 +1,9 @@
 -- The reads of a folder, with one more.
 use Rattle.std.proofs.Common.{◌≡◌, ◌∙◌, ◌≤◌, ◌<◌, ◌+◌, ℕ, Bool, true, false, cond, List, [], ◌∷◌, ◌++◌, Result, Err}
-use Rattle.std.proofs.Common.{◌⊎◌, inl, sym, ap, subst, arith}
-use Rattle.mon_run.specs.Steps.{Rose}
+use Rattle.std.proofs.Common.{◌⊎◌, inl, length, sym, ap, subst, arith}
+use Rattle.std.proofs.lemmas.Bool.Decides.{nat_tests}
+use Rattle.mon_value.specs.declared.limits.TheConstants.{LONGEST_FILE}
+use Rattle.mon_run.specs.Steps.{Rose, is_too_long}
 use Rattle.mon_run.specs.Outside.{Asks, asking, failed_reads, last_failed}
 use Rattle.mon_run.specs.declared.outside.folder.FolderFault.{FolderFault}
 use Rattle.mon_run.specs.declared.outside.folder.FolderFault.TheVariants as fault
@@ -61,3 +63,13 @@ pub asks_starved : {T : Type 0} (read : Result T FolderFault) (name : List ℕ) 
     ≡ Err fault.OutOfMemory → Asks read name before after → (after ≡ before)
     ⊎ (after ≡ before ++ asking name false ∷ [])
 asks_starved read name before after is asks = subst (λ r. Asks r name before after) is asks
+
+-- ---- how long a file is
+
+-- no longer than a run reads
+pub short_by : (content : List ℕ) → length content ≤ LONGEST_FILE → is_too_long content ≡ false
+short_by content le = grind (arith, nat_tests)
+
+-- longer
+pub long_by : (content : List ℕ) → LONGEST_FILE < length content → is_too_long content ≡ true
+long_by content less = grind (arith, nat_tests)

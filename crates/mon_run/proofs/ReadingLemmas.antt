@@ -1,195 +1,281 @@
 -- The files of lines, as they are read.
-use Rattle.std.proofs.Common.{◌≡◌, ◌∙◌, ℕ, List, [], ◌∷◌, ◌++◌, map, refl, sym, ap, subst, append_assoc, append-nil}
+use Rattle.std.proofs.Common.{◌≡◌, ◌∙◌, ◌+◌, ℕ, List, [], ◌∷◌, ◌++◌, length, map, Option, Some, None, false, refl, sym}
+use Rattle.std.proofs.Common.{ap, subst, append_assoc, append-nil, arith}
+use Rattle.std.proofs.lemmas.List.{length-append}
 use Rattle.mon_script.specs.declared.forms.LineForm.{LineForm}
 use Rattle.mon_script.specs.declared.forms.LineForm.TheVariants as form
 use Rattle.mon_script.specs.declared.script.ScriptLine.{ScriptLine}
-use Rattle.mon_run.specs.Endings.{AreNoLines, Did, Progress, Starved}
-use Rattle.mon_run.specs.Outside.{Files, Told, content_of}
-use Rattle.mon_run.specs.Plans.{line_read, lines_read}
-use Rattle.mon_run.specs.Steps.{Ask, Plan, Print, Step, Write, plan_behind}
+use Rattle.mon_run.specs.Endings.{Did, Progress}
+use Rattle.mon_run.specs.Outside.{Files}
+use Rattle.mon_run.specs.Plans.{content_next, contents_of, forms_of, line_read, lines_read, named_read, reads_behind}
+use Rattle.mon_run.specs.Plans.{reads_next, seek, sought}
+use Rattle.mon_run.specs.Steps.{Ask, Plan, Print, Step, Write, is_too_long, plan_behind}
 use Rattle.mon_run.specs.declared.stop.Stop.{Stop}
 use Rattle.mon_run.specs.declared.stop.Stop.TheVariants as stop
-use Rattle.mon_run.specs.within.Lines.{FileRead, FileStops, FilesStop, HaveRead, TextsStop, forms_of, prints}
-use Rattle.mon_run.specs.within.Stops.{Counts, HasRead, Ran, ReadStops, Stops, WriteStops}
+use Rattle.mon_run.specs.within.Lines.{FileStops, FilesStop, HaveGiven, HaveRead, TextsStop, prints}
+use Rattle.mon_run.specs.within.Stops.{Counts, HaltsBy, Ran, ReadStops, Stops, WriteStops}
 use Rattle.mon_run.proofs.EndLemmas.{causes_earlier}
-use Rattle.mon_run.proofs.LineLemmas.{plans_ran}
 use Rattle.mon_run.proofs.RunLemmas.{cut_at}
-use Rattle.mon_run.proofs.StepLemmas.{did_by, did_none, did_print, did_then, none_read, not_long, plan_twice, starved}
+use Rattle.mon_run.proofs.StepLemmas.{did_by, did_none, did_print, did_then, none_sought, not_long, plan_twice, starved}
 use Rattle.mon_run.proofs.StepLemmas.{stops_behind}
-use Rattle.run_traces.specs.RanLines.{content_for}
+use Rattle.run_traces.specs.RanLines.{file_named}
 
--- ---- a line's file
+-- ---- parts of a plan, one behind the other
 
--- a feed's file was read
-pub feed_read : (what : LineForm) (name content : List ℕ) {before after : Progress} → what ≡ form.Feed name
-    → Told before.folder (λ files. HasRead files name content) → Did (Ask name ∷ []) before after
-    → FileRead what before after
-feed_read what name content {before} {after} is has did =
-    subst (λ (w : LineForm). FileRead w before after) (sym is)
-    (λ files told. record {
-      steps = Ask name ∷ [];
-      same = λ rest. not_long files name rest (has files told).short;
-      did = did;
-    })
+pub plans_ran : {first second : Plan → Plan} {before mid after : Progress} → Ran first before mid
+    → Ran second mid after → Ran (λ rest. first (second rest)) before after
+plans_ran {first} {second} one other = record {
+  steps = one.steps ++ other.steps;
+  same = λ rest. ap first (other.same rest) ∙ one.same (plan_behind other.steps rest)
+      ∙ plan_twice one.steps other.steps rest;
+  did = did_then one.did other.did;
+}
 
-pub feed_content : (what : LineForm) (name content read : List ℕ) (p : Progress) → what ≡ form.Feed name
-    → content ≡ read → Told p.folder (λ files. HasRead files name read)
-    → Told p.folder (λ files. content ≡ content_for (content_of files) what)
-feed_content what name content read p is same has =
-    subst (λ (w : LineForm). Told p.folder (λ files. content ≡ content_for (content_of files) w)) (sym is)
-    (λ files told. same ∙ (has files told).whole)
+-- ---- what the reads of lines gave
 
-pub feed_stops : (what : LineForm) (name : List ℕ) (stopped : Stop) {before after : Progress} → what ≡ form.Feed name
-    → ReadStops name stopped before after → FileStops what stopped before after
-feed_stops what name stopped {before} {after} is stops =
-    subst (λ (w : LineForm). FileStops w stopped before after) (sym is)
-    (record { told = stops.told; causes = stops.causes })
+abbrev Contents : Type 0
+Contents = List (List ℕ)
 
--- no file is read
-pub read_nothing : {reads : Plan → Plan} (p : Progress) → ((rest : Plan) → reads rest ≡ rest) → Ran reads p p
-read_nothing p same = record { steps = []; same = same; did = did_none p }
+-- what the read of a line's file gave
+abbrev given_for : Option (List ℕ) → List ℕ → Files
+given_for None content = []
+given_for (Some name) content = (name, content) ∷ []
 
--- another line has none
-pub other_read : (what other : LineForm) (p : Progress) → what ≡ other
-    → ((files : Files) (rest : Plan) → line_read files other rest ≡ rest) → FileRead what p p
-other_read what other p is same =
-    subst (λ (w : LineForm). FileRead w p p) (sym is) (λ files told. read_nothing p (same files))
+next_content : (name : Option (List ℕ)) (content : List ℕ) (more : Files) (rest : Files → Contents)
+    → (name ≡ None → content ≡ []) → content_next name (given_for name content ++ more) rest ≡ content ∷ rest more
+next_content None content more rest none = ap (λ (c : List ℕ). c ∷ rest more) (sym (none refl))
+next_content (Some name) content more rest none = refl
 
-pub other_content : (what other : LineForm) (content : List ℕ) (p : Progress) → what ≡ other → content ≡ []
-    → ((files : Files) → content_for (content_of files) other ≡ [])
-    → Told p.folder (λ files. content ≡ content_for (content_of files) what)
-other_content what other content p is none same =
-    subst (λ (w : LineForm). Told p.folder (λ files. content ≡ content_for (content_of files) w)) (sym is)
-    (λ files told. none ∙ sym (same files))
+next_behind : (name : Option (List ℕ)) (content : List ℕ) (more : Files) (rest : Files → Files)
+    → reads_next name (given_for name content ++ more) rest ≡ rest more
+next_behind None content more rest = refl
+next_behind (Some name) content more rest = refl
 
--- ---- the files of lines
+next_seek : (name : Option (List ℕ)) (content : List ℕ) (more : Files) (rest : Files → Plan)
+    → seek name (given_for name content ++ more) rest ≡ named_read name content (rest more)
+next_seek None content more rest = refl
+next_seek (Some name) content more rest = refl
 
--- the files in front were read, and these are left
-pub record ReadTo (files : Files) (lines left : List ScriptLine) (contents : List (List ℕ)) (before now : Progress)
-    : Type 0 where
-  pub front : List ScriptLine
-  pub split : lines ≡ front ++ left
-  pub held : contents ≡ map (content_for (content_of files)) (forms_of front)
-  pub read : Ran (lines_read files (forms_of front)) before now
+-- of no line
+pub have_none : HaveGiven [] [] []
+have_none = record {
+  count = refl;
+  held = λ others more. refl;
+  behind = λ more. refl;
+  seeks = λ others more. refl;
+}
 
-forms_both : (front left : List ScriptLine) → forms_of (front ++ left) ≡ forms_of front ++ forms_of left
-forms_both [] left = refl
-forms_both (line ∷ front) left = ap (λ (forms : List LineForm). line.what ∷ forms) (forms_both front left)
+-- of one
+pub have_one : (what : LineForm) (content : List ℕ) → (file_named what ≡ None → content ≡ [])
+    → HaveGiven (what ∷ []) (content ∷ []) (given_for (file_named what) content)
+have_one what content none = record {
+  count = refl;
+  held = λ others more. next_content (file_named what) content more (contents_of others) none;
+  behind = λ more. next_behind (file_named what) content more (reads_behind []);
+  seeks = λ others more. next_seek (file_named what) content more (sought others);
+}
 
-reads_both : (files : Files) (front left : List LineForm) (rest : Plan)
-    → lines_read files (front ++ left) rest ≡ lines_read files front (lines_read files left rest)
-reads_both files [] left rest = refl
-reads_both files (what ∷ front) left rest = ap (line_read files what) (reads_both files front left rest)
+-- of one that names no file
+pub have_idle : (what : LineForm) → file_named what ≡ None → HaveGiven (what ∷ []) ([] ∷ []) []
+have_idle what none = subst (λ (name : Option (List ℕ)). HaveGiven (what ∷ []) ([] ∷ []) (given_for name [])) none
+    (have_one what [] (λ same. refl))
 
-contents_both : (contents : List ℕ → List ℕ) (front : List LineForm) (what : LineForm)
-    → map (content_for contents) (front ++ what ∷ []) ≡ map (content_for contents) front ++ content_for contents what
-    ∷ []
-contents_both contents [] what = refl
-contents_both contents (other ∷ front) what =
-    ap (λ (rest : List (List ℕ)). content_for contents other ∷ rest) (contents_both contents front what)
+behind_by : (name : Option (List ℕ)) (reads : Files) (first rest whole : Files → Files)
+    → ((more : Files) → whole more ≡ rest (first more)) → reads_next name reads whole ≡ rest (reads_next name reads first)
+behind_by None reads first rest whole same = same reads
+behind_by (Some name) [] first rest whole same = same []
+behind_by (Some name) (read ∷ reads) first rest whole same = same reads
 
-pub read_none : (files : Files) (lines : List ScriptLine) (p : Progress) → ReadTo files lines lines [] p p
-read_none files lines p =
-    record { front = []; split = refl; held = refl; read = read_nothing p (λ rest. refl) }
+pub behind_append : (forms others : List LineForm) (reads : Files)
+    → reads_behind (forms ++ others) reads ≡ reads_behind others (reads_behind forms reads)
+behind_append [] others reads = refl
+behind_append (what ∷ forms) others reads =
+    behind_by (file_named what) reads (reads_behind forms) (reads_behind others) (reads_behind (forms ++ others))
+    (behind_append forms others)
 
-pub read_more : {files : Files} {lines left rest : List ScriptLine} {contents more : List (List ℕ)}
-    (line : ScriptLine) (content : List ℕ) {before now : Progress} (after : Progress) → left ≡ line ∷ rest
-    → ReadTo files lines left contents before now → more ≡ contents ++ content ∷ []
-    → content ≡ content_for (content_of files) line.what → Ran (line_read files line.what) now after
-    → ReadTo files lines rest more before after
-read_more {files} {lines} {left} {rest} {contents} {more} line content {before} {now} after is so_far added whole ran =
-    let forms : forms_of (so_far.front ++ line ∷ []) ≡ forms_of so_far.front ++ line.what ∷ [] =
-    forms_both so_far.front (line ∷ []) in
-    let both = plans_ran so_far.read ran in
+reads_both : (forms others : List LineForm) (contents more : Contents) (rest : Plan) → length contents ≡ length forms
+    → lines_read (forms ++ others) (contents ++ more) rest ≡ lines_read forms contents (lines_read others more rest)
+reads_both [] others [] more rest same = refl
+reads_both [] others (content ∷ contents) more rest same = absurd cc
+reads_both (what ∷ forms) others [] more rest same = absurd cc
+reads_both (what ∷ forms) others (content ∷ contents) more rest same =
+    ap (line_read what content) (reads_both forms others contents more rest (omega (arith, same)))
+
+-- of lines, and of others
+pub have_both : {forms others : List LineForm} {contents more : Contents} {given behind : Files}
+    → HaveGiven forms contents given → HaveGiven others more behind
+    → HaveGiven (forms ++ others) (contents ++ more) (given ++ behind)
+have_both {forms} {others} {contents} {more} {given} {behind} first second = record {
+  count = length-append contents more ∙ (λ i. first.count i + second.count i) ∙ sym (length-append forms others);
+  held = λ rest reads.
+      (λ i. contents_of (append_assoc forms others rest i) (append_assoc given behind reads i))
+      ∙ first.held (others ++ rest) (behind ++ reads)
+      ∙ ap (λ (c : Contents). contents ++ c) (second.held rest reads)
+      ∙ sym (append_assoc contents more (contents_of rest reads));
+  behind = λ reads.
+      ap (reads_behind (forms ++ others)) (append_assoc given behind reads)
+      ∙ behind_append forms others (given ++ (behind ++ reads))
+      ∙ ap (reads_behind others) (first.behind (behind ++ reads))
+      ∙ second.behind reads;
+  seeks = λ rest reads.
+      (λ i. sought (append_assoc forms others rest i) (append_assoc given behind reads i))
+      ∙ first.seeks (others ++ rest) (behind ++ reads)
+      ∙ ap (lines_read forms contents) (second.seeks rest reads)
+      ∙ sym (reads_both forms others contents more (sought rest reads) first.count);
+}
+
+-- ---- files that were read
+
+pub read_both : {forms others : List LineForm} {contents more : Contents} {before mid after : Progress}
+    → HaveRead forms contents before mid → HaveRead others more mid after
+    → HaveRead (forms ++ others) (contents ++ more) before after
+read_both {forms} {others} {contents} {more} {before} first second =
+    let both = plans_ran first.read second.read in
     record {
-      front = so_far.front ++ line ∷ [];
-      split = so_far.split ∙ ap (λ (l : List ScriptLine). so_far.front ++ l) is
-          ∙ sym (append_assoc so_far.front (line ∷ []) rest);
-      held = added
-          ∙ (λ i. so_far.held i ++ whole i ∷ [])
-          ∙ sym (contents_both (content_of files) (forms_of so_far.front) line.what)
-          ∙ ap (map (content_for (content_of files))) (sym forms);
+      given = first.given ++ second.given;
+      gave = second.gave ∙ ap (λ (reads : Files). reads ++ second.given) first.gave
+          ∙ append_assoc before.folder.gave first.given second.given;
+      have = have_both first.have second.have;
       read = record {
         steps = both.steps;
-        same = λ rest.
-            ap (λ (f : List LineForm). lines_read files f rest) forms
-            ∙ reads_both files (forms_of so_far.front) (line.what ∷ []) rest
-            ∙ both.same rest;
+        same = λ rest. reads_both forms others contents more rest first.have.count ∙ both.same rest;
         did = both.did;
       };
     }
 
-pub read_all : {files : Files} {lines left : List ScriptLine} {contents : List (List ℕ)} {before now : Progress}
-    → left ≡ [] → ReadTo files lines left contents before now → HaveRead files lines contents before now
-read_all {files} {lines} {left} {contents} {before} {now} none so_far =
+-- a feed's file
+pub feed_read : (what : LineForm) (name content kept : List ℕ) {before after : Progress} → what ≡ form.Feed name
+    → kept ≡ content → is_too_long content ≡ false → Did (Ask name content ∷ []) before after
+    → HaveRead (what ∷ []) (kept ∷ []) before after
+feed_read what name content kept {before} {after} is same short did =
+    subst (λ (w : LineForm). HaveRead (w ∷ []) (kept ∷ []) before after) (sym is)
+    (subst (λ (c : List ℕ). HaveRead (form.Feed name ∷ []) (c ∷ []) before after) (sym same)
+    (record {
+      given = (name, content) ∷ [];
+      gave = did.gave;
+      have = have_one (form.Feed name) content (λ none. absurd cc);
+      read = record { steps = Ask name content ∷ []; same = λ rest. not_long name content rest short; did = did };
+    }))
+
+pub feed_stops : (what : LineForm) (name : List ℕ) (stopped : Stop) {before after : Progress} → what ≡ form.Feed name
+    → ReadStops name stopped before after → FileStops what stopped before after
+feed_stops what name stopped {before} {after} is stops =
+    subst (λ (w : LineForm). FileStops w stopped before after) (sym is) (λ others. stops (λ content. sought others))
+
+-- another line has none
+pub other_read : (what other : LineForm) (content : List ℕ) (p : Progress) → what ≡ other → file_named other ≡ None
+    → content ≡ [] → HaveRead (what ∷ []) (content ∷ []) p p
+other_read what other content p is none empty =
+    subst (λ (w : LineForm). HaveRead (w ∷ []) (content ∷ []) p p) (sym is)
+    (subst (λ (c : List ℕ). HaveRead (other ∷ []) (c ∷ []) p p) (sym empty)
+    (record {
+      given = [];
+      gave = sym (append-nil p.folder.gave);
+      have = have_idle other none;
+      read = record {
+        steps = [];
+        same = λ rest. ap (λ (name : Option (List ℕ)). named_read name [] rest) none;
+        did = did_none p;
+      };
+    }))
+
+-- behind them memory ran out
+pub read_starves : {forms : List LineForm} {contents : Contents} (others : List LineForm) {before after : Progress}
+    → HaveRead forms contents before after → HaltsBy (sought (forms ++ others)) stop.OutOfMemory before after
+read_starves {forms} {contents} others {before} {after} has = record {
+  reads = has.given;
+  gave = has.gave;
+  halts = record {
+    stops = subst (λ (p : Plan). Stops p stop.OutOfMemory before after)
+        (sym (ap (sought (forms ++ others)) (sym (append-nil has.given)) ∙ has.have.seeks others []
+        ∙ has.read.same (sought others [])))
+        (starved has.read.steps (sought others []) (none_sought others []) has.read.did);
+    causes = tt;
+  };
+}
+
+-- ---- the files of lines
+
+-- the files in front were read, and these are left
+pub record ReadTo (lines left : List ScriptLine) (contents : Contents) (before now : Progress) : Type 0 where
+  pub front : List ScriptLine
+  pub split : lines ≡ front ++ left
+  pub read : HaveRead (forms_of front) contents before now
+
+pub forms_both : (front left : List ScriptLine) → forms_of (front ++ left) ≡ forms_of front ++ forms_of left
+forms_both [] left = refl
+forms_both (line ∷ front) left = ap (λ (forms : List LineForm). line.what ∷ forms) (forms_both front left)
+
+pub read_none : (lines : List ScriptLine) (p : Progress) → ReadTo lines lines [] p p
+read_none lines p = record {
+  front = [];
+  split = refl;
+  read = record {
+    given = [];
+    gave = sym (append-nil p.folder.gave);
+    have = have_none;
+    read = record { steps = []; same = λ rest. refl; did = did_none p };
+  };
+}
+
+pub read_more : {lines left rest : List ScriptLine} {contents more : Contents} (line : ScriptLine)
+    (content : List ℕ) {before now : Progress} (after : Progress) → left ≡ line ∷ rest
+    → ReadTo lines left contents before now → more ≡ contents ++ content ∷ []
+    → HaveRead (line.what ∷ []) (content ∷ []) now after → ReadTo lines rest more before after
+read_more {lines} {left} {rest} {contents} {more} line content {before} {now} after is so_far added read = record {
+  front = so_far.front ++ line ∷ [];
+  split = so_far.split ∙ ap (λ (l : List ScriptLine). so_far.front ++ l) is
+      ∙ sym (append_assoc so_far.front (line ∷ []) rest);
+  read = subst (λ (c : Contents). HaveRead (forms_of (so_far.front ++ line ∷ [])) c before after) (sym added)
+      (subst (λ (f : List LineForm). HaveRead f (contents ++ content ∷ []) before after)
+      (sym (forms_both so_far.front (line ∷ []))) (read_both so_far.read read));
+}
+
+pub read_all : {lines left : List ScriptLine} {contents : Contents} {before now : Progress} → left ≡ []
+    → ReadTo lines left contents before now → HaveRead (forms_of lines) contents before now
+read_all {lines} {left} {contents} {before} {now} none so_far =
     let all : lines ≡ so_far.front = so_far.split ∙ ap (λ (l : List ScriptLine). so_far.front ++ l) none
     ∙ append-nil so_far.front in
-    subst (λ (l : List ScriptLine). HaveRead files l contents before now) (sym all)
-    (record { held = so_far.held; read = so_far.read })
+    subst (λ (l : List ScriptLine). HaveRead (forms_of l) contents before now) (sym all) so_far.read
 
--- reads are no line's
-none_line_read : (files : Files) (what : LineForm) (rest : Plan) → AreNoLines rest.steps
-    → AreNoLines (line_read files what rest).steps
-none_line_read files (form.Feed name) rest none = none_read files name rest none
-none_line_read files (form.Query moment text) rest none = none
-none_line_read files (form.Check moment text) rest none = none
-none_line_read files (form.Explain moment text) rest none = none
-none_line_read files (form.Down leaf) rest none = none
-none_line_read files (form.Up leaf) rest none = none
-none_line_read files (form.Recover range leaf) rest none = none
-none_line_read files (form.Standing name period text) rest none = none
-none_line_read files (form.Tick moment) rest none = none
-none_line_read files form.Together rest none = none
-none_line_read files form.End rest none = none
-
-none_lines_read : (files : Files) (forms : List LineForm) (rest : Plan) → AreNoLines rest.steps
-    → AreNoLines (lines_read files forms rest).steps
-none_lines_read files [] rest none = none
-none_lines_read files (what ∷ forms) rest none =
-    none_line_read files what (lines_read files forms rest) (none_lines_read files forms rest none)
+-- what the lines say, by what those in front say
+forms_whole : {lines left : List ScriptLine} {contents : Contents} (line : ScriptLine) (rest : List ScriptLine)
+    {before now : Progress} → left ≡ line ∷ rest → (so_far : ReadTo lines left contents before now)
+    → forms_of lines ≡ forms_of so_far.front ++ line.what ∷ forms_of rest
+forms_whole line rest is so_far =
+    ap forms_of (so_far.split ∙ ap (λ (l : List ScriptLine). so_far.front ++ l) is)
+    ∙ forms_both so_far.front (line ∷ rest)
 
 -- a read stopped them
-pub reads_stop : {lines left : List ScriptLine} {contents : Files → List (List ℕ)} (line : ScriptLine)
-    (rest : List ScriptLine) {before now : Progress} (after : Progress) (stopped : Stop) → Counts before now
-    → left ≡ line ∷ rest → Told before.folder (λ files. ReadTo files lines left (contents files) before now)
-    → FileStops line.what stopped now after → FilesStop lines stopped before after
-reads_stop {lines} {left} line rest {before} {now} after stopped counts is so_far stops = record {
-  told = λ files told more none.
-      let one = so_far files told in
-      let whole : forms_of lines ≡ forms_of one.front ++ line.what ∷ forms_of rest =
-      ap forms_of (one.split ∙ ap (λ (l : List ScriptLine). one.front ++ l) is)
-      ∙ forms_both one.front (line ∷ rest) in
-      subst (λ (p : Plan). Stops p stopped before after)
-      (sym (ap (λ (f : List LineForm). lines_read files f more) whole
-      ∙ reads_both files (forms_of one.front) (line.what ∷ forms_of rest) more
-      ∙ one.read.same (line_read files line.what (lines_read files (forms_of rest) more))))
-      (stops_behind (line_read files line.what (lines_read files (forms_of rest) more)) after stopped one.read.did
-      (stops.told files (one.read.did.files ∙ told) (lines_read files (forms_of rest) more)
-      (none_lines_read files (forms_of rest) more none)));
-  causes = causes_earlier before now after stopped counts stops.causes;
-}
+pub reads_stop : {lines left : List ScriptLine} {contents : Contents} (line : ScriptLine) (rest : List ScriptLine)
+    {before now : Progress} (after : Progress) (stopped : Stop) → Counts before now → left ≡ line ∷ rest
+    → ReadTo lines left contents before now → FileStops line.what stopped now after → FilesStop lines stopped before after
+reads_stop {lines} {left} {contents} line rest {before} {now} after stopped counts is so_far stops =
+    let others : List LineForm = forms_of rest in
+    let has = so_far.read in
+    let halts = stops others in
+    record {
+      reads = has.given ++ halts.reads;
+      gave = halts.gave ∙ ap (λ (reads : Files). reads ++ halts.reads) has.gave
+          ∙ append_assoc before.folder.gave has.given halts.reads;
+      halts = record {
+        stops = subst (λ (p : Plan). Stops p stopped before after)
+            (sym (ap (λ (f : List LineForm). sought f (has.given ++ halts.reads)) (forms_whole line rest is so_far)
+            ∙ has.have.seeks (line.what ∷ others) halts.reads
+            ∙ has.read.same (sought (line.what ∷ others) halts.reads)))
+            (stops_behind (sought (line.what ∷ others) halts.reads) after stopped has.read.did halts.halts.stops);
+        causes = causes_earlier before now after stopped counts halts.halts.causes;
+      };
+    }
 
 -- memory ran out between two
-pub reads_starved : {lines left : List ScriptLine} {contents : Files → List (List ℕ)} (line : ScriptLine)
-    (rest : List ScriptLine) {before now after : Progress} → left ≡ line ∷ rest
-    → Told before.folder (λ files. ReadTo files lines left (contents files) before now)
-    → FileRead line.what now after → FilesStop lines stop.OutOfMemory before after
-reads_starved {lines} {left} line rest {before} {now} {after} is so_far ran = record {
-  told = λ files told more none.
-      let one = so_far files told in
-      let other = ran files (one.read.did.files ∙ told) in
-      let both = plans_ran one.read other in
-      let whole : forms_of lines ≡ forms_of one.front ++ line.what ∷ forms_of rest =
-      ap forms_of (one.split ∙ ap (λ (l : List ScriptLine). one.front ++ l) is)
-      ∙ forms_both one.front (line ∷ rest) in
-      subst (λ (p : Plan). Starved p.steps before after)
-      (sym (ap (λ (f : List LineForm). lines_read files f more) whole
-      ∙ reads_both files (forms_of one.front) (line.what ∷ forms_of rest) more
-      ∙ both.same (lines_read files (forms_of rest) more)))
-      (starved both.steps (lines_read files (forms_of rest) more)
-      (none_lines_read files (forms_of rest) more none) both.did);
-  causes = tt;
-}
+pub reads_starved : {lines left : List ScriptLine} {contents : Contents} (line : ScriptLine) (rest : List ScriptLine)
+    {content : List ℕ} {before now after : Progress} → left ≡ line ∷ rest → ReadTo lines left contents before now
+    → HaveRead (line.what ∷ []) (content ∷ []) now after → FilesStop lines stop.OutOfMemory before after
+reads_starved {lines} {left} line rest {content} {before} {now} {after} is so_far read =
+    subst (λ (f : List LineForm). HaltsBy (sought f) stop.OutOfMemory before after)
+    (append_assoc (forms_of so_far.front) (line.what ∷ []) (forms_of rest) ∙ sym (forms_whole line rest is so_far))
+    (read_starves (forms_of rest) (read_both so_far.read read))
 
 -- ---- texts
 

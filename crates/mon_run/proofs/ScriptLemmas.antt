@@ -1,61 +1,70 @@
 -- How a line alone, and the lines of a block, ran; and how a part and a script end.
-use Rattle.std.proofs.Common.{◌≡◌, ◌∙◌, inl, inr, ℕ, suc, List, [], ◌∷◌, ◌++◌, length, map, Some}
+use Rattle.std.proofs.Common.{◌≡◌, ◌∙◌, inl, inr, ℕ, suc, List, [], ◌∷◌, ◌++◌, length, map, Option, None, true, false}
 use Rattle.std.proofs.Common.{refl, sym, ap, subst, append_assoc, append-nil, arith}
 use Rattle.std.specs.List.{flat_map}
 use Rattle.history_book.specs.Histories.{AreFronts}
 use Rattle.know.specs.Knowledge.{Knowledge}
 use Rattle.mon_config.specs.declared.config.Config.{Config}
+use Rattle.mon_script.specs.Blocks.{mark_of}
 use Rattle.mon_script.specs.declared.forms.LineForm.{LineForm}
+use Rattle.mon_script.specs.declared.forms.LineForm.TheVariants as form
+use Rattle.mon_script.specs.declared.places.Mark.TheVariants as mark
 use Rattle.mon_script.specs.declared.script.ScriptLine.{ScriptLine}
 use Rattle.mon_value.specs.declared.histories.Histories.{Histories}
-use Rattle.mon_run.specs.Endings.{AreNoLines, Did, Progress, end_in, read_in, text_of_step}
-use Rattle.mon_run.specs.Outside.{Files, FolderState, Told, content_of, SinkState, written_then}
-use Rattle.mon_run.specs.Plans.{left_plan, line_read, lines_read, part_plan, starved_plan}
+use Rattle.mon_run.specs.Endings.{Did, Progress, end_in, given_in, read_in, text_of_step}
+use Rattle.mon_run.specs.Outside.{AreOf, Files, FolderState, SinkState, written_then}
+use Rattle.mon_run.specs.Plans.{forms_of, left_plan, line_read, lines_read, part_plan, sought}
 use Rattle.mon_run.specs.Steps.{End, Plan, Print, Step, Write, plan_behind}
 use Rattle.mon_run.specs.declared.outside.folder.Asked.{Asked}
 use Rattle.mon_run.specs.declared.stop.Stop.{Stop}
 use Rattle.mon_run.specs.declared.stop.Stop.TheVariants as stop
 use Rattle.mon_run.specs.within.Lines.{AloneHalts, AloneRan, BlockHalts, BlockRan}
-use Rattle.mon_run.specs.within.Lines.{FileRead, FileStops, FilesRead, FilesStop, LinesHalt, LinesRanTo}
+use Rattle.mon_run.specs.within.Lines.{FileRead, FileStops, FilesRead, FilesStop, HaveGiven, HaveRead, LinesHalt, LinesRanTo}
 use Rattle.mon_run.specs.within.Lines.{LinesStopped, PartCut, PartDone, PartWent, StoppedEarly, TextsStop}
-use Rattle.mon_run.specs.within.Lines.{alone_in, block_in, block_traces, forms_of, prints}
-use Rattle.mon_run.specs.within.Stops.{Counts, Ran, Stops, WriteStops}
+use Rattle.mon_run.specs.within.Lines.{alone_in, block_in, block_traces, part_contents, part_forms, prints}
+use Rattle.mon_run.specs.within.Stops.{Counts, HaltsBy, Stops, WriteStops}
 use Rattle.mon_run.proofs.BlockLemmas.{IsBlock, IsLine}
 use Rattle.mon_run.proofs.EndLemmas.{causes_earlier}
 use Rattle.mon_run.proofs.LineLemmas.{lines_cut, lines_early, lines_went}
-use Rattle.mon_run.proofs.PartLemmas.{all_act, alone_left, alone_part, beside_ran, block_ends, block_left, block_part}
-use Rattle.mon_run.proofs.PartLemmas.{IsPart, ran_both, ran_forms}
+use Rattle.mon_run.proofs.PartLemmas.{all_act, alone_left, alone_part, block_ends, block_left, block_part}
+use Rattle.mon_run.proofs.PartLemmas.{IsPart, ran_both, ran_contents, ran_forms}
+use Rattle.mon_run.proofs.ReadingLemmas.{forms_both, have_both, have_idle, read_starves}
 use Rattle.mon_run.proofs.RunLemmas.{cut_at}
 use Rattle.mon_run.proofs.SinkLemmas.{nothing_written}
-use Rattle.mon_run.proofs.StepLemmas.{did_by, did_none, did_print, did_then, plan_twice, starved, stops_behind}
-use Rattle.part_runs.specs.PartsDone.{PartTells, ran_beside}
+use Rattle.mon_run.proofs.StepLemmas.{did_by, did_none, did_print, did_then, plan_twice, stops_behind}
+use Rattle.part_runs.specs.PartsDone.{PartTells}
 use Rattle.run_theory.specs.Parts.{Alone, Beside, Part, lines_of}
 use Rattle.run_traces.specs.LineClaims.{HaveGrown}
 use Rattle.run_traces.specs.LineTexts.{line_text}
-use Rattle.run_traces.specs.RanLines.{RanLine, content_for, ran_lines}
+use Rattle.run_traces.specs.RanLines.{RanLine, file_named, ran_lines}
 use Rattle.run_traces.specs.declared.traces.LineTrace.{LineTrace}
 use Rattle.run_traces.specs.declared.traces.LineTrace.TheVariants as came
 use Rattle.running_query.proofs.GoingLemmas.{same_fronts}
 
 -- ---- a part that ran, or was cut in its texts
 
-module _ {config : Config} {files : Files} {part : Part RanLine} {traces : List LineTrace} {texts : List (List ℕ)}
+module _ {config : Config} {part : Part RanLine} {traces : List LineTrace} {texts : List (List ℕ)}
     {know known : Knowledge} (steps : List Step) (did : PartTells config part texts know known)
     (same : (later : Histories) → HaveGrown known.seen later → (rest : Plan)
-    → part_plan files (line_text config later) part rest ≡ plan_behind steps (plan_behind (prints texts) rest)) where
+    → part_plan (line_text config later) part rest ≡ plan_behind steps (plan_behind (prints texts) rest))
+    (given : Files) (have : HaveGiven (part_forms part) (part_contents part) given) where
   part_done : {before after : Progress} → after.ends ≡ before.ends ++ traces
-      → PartDone config files part traces know.seen known.seen before after
-  part_done ends = record {
+      → after.folder.gave ≡ before.folder.gave ++ given
+      → PartDone config part traces know.seen known.seen before after
+  part_done ends gave = record {
     ends = ends;
+    given = given;
+    gave = gave;
+    have = have;
     grown = did.grown;
     ran = did.ran;
   }
 
   pub part_went : {before mid : Progress} (after : Progress) → after.ends ≡ before.ends ++ traces
-      → Did steps before mid → Did (prints texts) mid after
-      → PartWent config files part traces know.seen known.seen before after
-  part_went after ends first second = record {
-    done = part_done ends;
+      → after.folder.gave ≡ before.folder.gave ++ given → Did steps before mid → Did (prints texts) mid after
+      → PartWent config part traces know.seen known.seen before after
+  part_went after ends gave first second = record {
+    done = part_done ends gave;
     did = λ later grown. record {
       steps = steps ++ prints texts;
       same = λ rest. same later grown rest ∙ plan_twice steps (prints texts) rest;
@@ -64,10 +73,11 @@ module _ {config : Config} {files : Files} {part : Part RanLine} {traces : List 
   }
 
   pub part_cut : {before mid : Progress} (after : Progress) (stopped : Stop) → after.ends ≡ before.ends ++ traces
-      → Did steps before mid → ((rest : Plan) → Stops (plan_behind (prints texts) rest) stopped mid after)
-      → PartCut config files part traces know.seen known.seen before after stopped
-  part_cut {before} after stopped ends first stops = record {
-    done = part_done ends;
+      → after.folder.gave ≡ before.folder.gave ++ given → Did steps before mid
+      → ((rest : Plan) → Stops (plan_behind (prints texts) rest) stopped mid after)
+      → PartCut config part traces know.seen known.seen before after stopped
+  part_cut {before} after stopped ends gave first stops = record {
+    done = part_done ends gave;
     stops = λ later grown rest.
         subst (λ (p : Plan). Stops p stopped before after) (sym (same later grown rest))
         (stops_behind (plan_behind (prints texts) rest) after stopped first (stops rest));
@@ -75,97 +85,98 @@ module _ {config : Config} {files : Files} {part : Part RanLine} {traces : List 
 
 -- ---- stops before a part came to something
 
-pub early_read : (reads : Plan → Plan) (known : Histories) (stopped : Stop) {before after : Progress}
-    → after.ends ≡ before.ends → ((rest : Plan) → AreNoLines rest.steps → Stops (reads rest) stopped before after)
-    → StoppedEarly reads known known stopped before after
-early_read reads known stopped ends stops = record {
+pub early_read : {forms : List LineForm} (known : Histories) (stopped : Stop) {before after : Progress}
+    → after.ends ≡ before.ends → HaltsBy (sought forms) stopped before after
+    → StoppedEarly forms known known stopped before after
+early_read known stopped ends halts = record {
   ends = ends;
   front = same_fronts known;
   whole = inr refl;
-  stops = stops starved_plan tt;
+  halts = halts;
 }
 
-pub early_starved : {reads : Plan → Plan} (from ended : Histories) {before after : Progress}
-    → after.ends ≡ before.ends → AreFronts from ended → Ran reads before after
-    → StoppedEarly reads from ended stop.OutOfMemory before after
-early_starved {reads} from ended {before} {after} ends front ran = record {
+pub early_starved : {forms : List LineForm} {contents : List (List ℕ)} (from ended : Histories)
+    {before after : Progress} → after.ends ≡ before.ends → AreFronts from ended → HaveRead forms contents before after
+    → StoppedEarly forms from ended stop.OutOfMemory before after
+early_starved {forms} from ended {before} {after} ends front read = record {
   ends = ends;
   front = front;
   whole = inl refl;
-  stops = subst (λ (p : Plan). Stops p stop.OutOfMemory before after) (sym (ran.same starved_plan))
-      (starved ran.steps starved_plan tt ran.did);
+  halts = subst (λ (f : List LineForm). HaltsBy (sought f) stop.OutOfMemory before after) (append-nil forms)
+      (read_starves [] read);
 }
 
 -- behind steps that change nothing
-pub ran_still : {reads : Plan → Plan} {before mid after : Progress} → Ran reads before mid → Did [] mid after
-    → Ran reads before after
-ran_still ran did = record {
-  steps = ran.steps;
-  same = ran.same;
-  did = did_by (append-nil ran.steps) (did_then ran.did did);
+pub read_still : {forms : List LineForm} {contents : List (List ℕ)} {before mid after : Progress}
+    → HaveRead forms contents before mid → Did [] mid after → HaveRead forms contents before after
+read_still read did = record {
+  given = read.given;
+  gave = did.gave ∙ append-nil _ ∙ read.gave;
+  have = read.have;
+  read = record {
+    steps = read.read.steps;
+    same = read.read.same;
+    did = did_by (append-nil read.read.steps) (did_then read.read.did did);
+  };
 }
+
+-- what was given is so behind steps that read nothing
+still_gave : (before given : Files) {mid after : Files} → mid ≡ before ++ given → after ≡ mid ++ []
+    → after ≡ before ++ given
+still_gave before given {mid} gave still = still ∙ append-nil mid ∙ gave
 
 -- ---- a line alone
 
-alone_same : (config : Config) (files : Files) (what : LineForm) (trace : LineTrace) (text : List ℕ) (later : Histories)
-    {before after : Progress} (read : Ran (line_read files what) before after)
-    → map (line_text config later) (lines_of (alone_in files what trace)) ≡ text ∷ [] → (rest : Plan)
-    → part_plan files (line_text config later) (alone_in files what trace) rest
-    ≡ plan_behind (read.steps ++ End trace ∷ []) (plan_behind (prints (text ∷ [])) rest)
-alone_same config files what trace text later read prints rest =
-    ap (λ (texts : List (List ℕ)). line_read files what (plan_behind (End trace ∷ prints texts) rest)) prints
-    ∙ read.same (plan_behind (End trace ∷ Print text ∷ []) rest)
-    ∙ plan_twice read.steps (End trace ∷ Print text ∷ []) rest
+alone_same : (config : Config) (what : LineForm) (content : List ℕ) (trace : LineTrace) (text : List ℕ)
+    (later : Histories) {before after : Progress} (read : FileRead what content before after)
+    → map (line_text config later) (lines_of (alone_in what content trace)) ≡ text ∷ [] → (rest : Plan)
+    → part_plan (line_text config later) (alone_in what content trace) rest
+    ≡ plan_behind (read.read.steps ++ End trace ∷ []) (plan_behind (prints (text ∷ [])) rest)
+alone_same config what content trace text later read prints_so rest =
+    ap (λ (texts : List (List ℕ)). line_read what content (plan_behind (End trace ∷ prints texts) rest)) prints_so
+    ∙ read.read.same (plan_behind (End trace ∷ Print text ∷ []) rest)
+    ∙ plan_twice read.read.steps (End trace ∷ Print text ∷ []) rest
     ∙ ap (λ (steps : List Step). plan_behind steps rest)
-    (sym (append_assoc read.steps (End trace ∷ []) (Print text ∷ [])))
-    ∙ sym (plan_twice (read.steps ++ End trace ∷ []) (Print text ∷ []) rest)
-
-alone_did : (config : Config) (files : Files) (what : LineForm) (content : List ℕ) (trace : LineTrace)
-    (texts : List (List ℕ)) (know known : Knowledge) → content ≡ content_for (content_of files) what
-    → PartTells config (Alone (record { what = what; content = content; trace = trace })) texts know known
-    → PartTells config (alone_in files what trace) texts know known
-alone_did config files what content trace texts know known same did =
-    subst (λ (c : List ℕ). PartTells config (Alone (record { what = what; content = c; trace = trace })) texts know known)
-    same did
+    (sym (append_assoc read.read.steps (End trace ∷ []) (Print text ∷ [])))
+    ∙ sym (plan_twice (read.read.steps ++ End trace ∷ []) (Print text ∷ []) rest)
 
 module _ {config : Config} {what : LineForm} {content : List ℕ} {trace : LineTrace} {text : List ℕ}
-    {know known : Knowledge} {before read ended : Progress}
-    (holds : Told before.folder (λ files. content ≡ content_for (content_of files) what))
-    (has_read : FileRead what before read)
+    {know known : Knowledge} {before read ended : Progress} (has_read : FileRead what content before read)
     (did : PartTells config (Alone (record { what = what; content = content; trace = trace })) (text ∷ []) know known)
     (ends : Did (End trace ∷ []) read ended) (first : read.ends ≡ before.ends) where
-  module _ (files : Files) (told : before.folder.files ≡ Some files) where
-    there : PartTells config (alone_in files what trace) (text ∷ []) know known
-    there = alone_did config files what content trace (text ∷ []) know known (holds files told) did
-
-    same : (later : Histories) → HaveGrown known.seen later → (rest : Plan)
-        → part_plan files (line_text config later) (alone_in files what trace) rest
-        ≡ plan_behind ((has_read files told).steps ++ End trace ∷ []) (plan_behind (prints (text ∷ [])) rest)
-    same later grown rest =
-        alone_same config files what trace text later (has_read files told)
-        (there.prints later grown) rest
+  same : (later : Histories) → HaveGrown known.seen later → (rest : Plan)
+      → part_plan (line_text config later) (alone_in what content trace) rest
+      ≡ plan_behind (has_read.read.steps ++ End trace ∷ []) (plan_behind (prints (text ∷ [])) rest)
+  same later grown rest = alone_same config what content trace text later has_read (did.prints later grown) rest
 
   ended_behind : ended.ends ≡ before.ends ++ trace ∷ []
   ended_behind = ends.ends ∙ ap (λ (xs : List LineTrace). xs ++ trace ∷ []) first
 
+  gave_there : ended.folder.gave ≡ before.folder.gave ++ has_read.given
+  gave_there = still_gave before.folder.gave has_read.given has_read.gave ends.gave
+
   pub alone_ran : (after : Progress) → Did (Write text ∷ []) ended after → after.ends ≡ ended.ends
       → AloneRan config what know.seen known.seen before after
-  alone_ran after wrote last = λ files told. record {
+  alone_ran after wrote last = record {
+    content = content;
     trace = trace;
-    went = part_went ((has_read files told).steps ++ End trace ∷ []) (there files told) (same files told) after
-        (last ∙ ended_behind) (did_then (has_read files told).did ends) (did_print text wrote);
+    went = part_went (has_read.read.steps ++ End trace ∷ []) did same has_read.given has_read.have after
+        (last ∙ ended_behind) (still_gave before.folder.gave has_read.given gave_there wrote.gave) (did_then has_read.read.did ends)
+        (did_print text wrote);
   }
 
   pub alone_cut : (after : Progress) (stopped : Stop) → Counts before ended → after.ends ≡ ended.ends
-      → WriteStops text stopped ended after
+      → after.folder ≡ ended.folder → WriteStops text stopped ended after
       → AloneHalts config what know.seen known.seen stopped before after
-  alone_cut after stopped counts last stops = subst
+  alone_cut after stopped counts last kept stops = subst
       (λ (s : Stop). AloneHalts config what know.seen known.seen s before after) (sym stops.failed)
       (record {
-        told = λ files told. inr (record {
+        told = inr (record {
+          content = content;
           trace = trace;
-          cut = part_cut ((has_read files told).steps ++ End trace ∷ []) (there files told) (same files told)
-              after stop.WriteFailed (last ∙ ended_behind) (did_then (has_read files told).did ends)
+          cut = part_cut (has_read.read.steps ++ End trace ∷ []) did same has_read.given has_read.have after
+              stop.WriteFailed (last ∙ ended_behind) (ap (λ (f : FolderState). f.gave) kept ∙ gave_there)
+              (did_then has_read.read.did ends)
               (λ rest. cut_at [] (Print text) rest refl (did_none ended) stops.front);
         });
         causes = causes_earlier before ended after stop.WriteFailed counts stops.rose;
@@ -176,16 +187,16 @@ pub alone_unread : (config : Config) (what : LineForm) (known : Histories) (stop
     → after.ends ≡ before.ends → FileStops what stopped before after
     → AloneHalts config what known known stopped before after
 alone_unread config what known stopped ends stops = record {
-  told = λ files told. inl (early_read (line_read files what) known stopped ends (stops.told files told));
-  causes = stops.causes;
+  told = inl (early_read known stopped ends (stops []));
+  causes = (stops []).halts.causes;
 }
 
 -- memory ran out
-pub alone_starved : (config : Config) (what : LineForm) (from ended : Histories) {before after : Progress}
-    → after.ends ≡ before.ends → AreFronts from ended → FileRead what before after
+pub alone_starved : (config : Config) (what : LineForm) {content : List ℕ} (from ended : Histories)
+    {before after : Progress} → after.ends ≡ before.ends → AreFronts from ended → FileRead what content before after
     → AloneHalts config what from ended stop.OutOfMemory before after
 alone_starved config what from ended ends front read = record {
-  told = λ files told. inl (early_starved from ended ends front (read files told));
+  told = inl (early_starved from ended ends front read);
   causes = tt;
 }
 
@@ -208,82 +219,93 @@ did_end traces {before} {after} folder sink ends = record {
   files = ap (λ (f : FolderState). f.files) folder;
   asked = ap (λ (f : FolderState). f.asked) folder ∙ sym (append-nil before.folder.asked)
       ∙ ap (λ (more : List Asked). before.folder.asked ++ more) (no_items read_in (λ trace. refl) traces);
+  gave = ap (λ (f : FolderState). f.gave) folder ∙ sym (append-nil before.folder.gave)
+      ∙ ap (λ (more : Files). before.folder.gave ++ more) (no_items given_in (λ trace. refl) traces);
+  so = λ files told. subst (AreOf files) (no_items given_in (λ trace. refl) traces) tt;
   ends = ends ∙ ap (λ (more : List LineTrace). before.ends ++ more) (ended_all traces);
   wrote = ap (λ (s : SinkState). s.written) sink ∙ nothing_written before.sink.written
       ∙ ap (λ (more : List ℕ). written_then more before.sink.written) (no_items text_of_step (λ trace. refl) traces);
 }
 
-block_same : (config : Config) (files : Files) (lines : List ScriptLine) (traces : List LineTrace)
-    (texts : List (List ℕ)) (later : Histories) {before after : Progress}
-    (read : Ran (lines_read files (forms_of lines)) before after) → length traces ≡ length lines
-    → map (line_text config later) (lines_of (block_in files lines traces)) ≡ texts → (rest : Plan)
-    → part_plan files (line_text config later) (block_in files lines traces) rest
-    ≡ plan_behind (read.steps ++ map (λ trace. End trace) (block_traces traces)) (plan_behind (prints texts) rest)
-block_same config files lines traces texts later read count prints rest =
-    let ends : List Step = map (λ trace. End trace) (block_traces traces) in
-    ap (λ (forms : List LineForm). lines_read files forms (plan_behind (block_steps_of later) rest))
-    (ran_forms (content_of files) lines traces count)
-    ∙ ap (λ (steps : List Step). lines_read files (forms_of lines) (plan_behind steps rest))
-    (block_ends (content_of files) (line_text config later) lines traces texts count prints)
-    ∙ read.same (plan_behind (ends ++ prints texts) rest)
-    ∙ plan_twice read.steps (ends ++ prints texts) rest
-    ∙ ap (λ (steps : List Step). plan_behind steps rest) (sym (append_assoc read.steps ends (prints texts)))
-    ∙ sym (plan_twice (read.steps ++ ends) (prints texts) rest)
-  where
-    block_steps_of : Histories → List Step
-    block_steps_of at = End came.Done ∷ (map (λ line. End line.trace) (ran_lines (content_of files) lines traces)
-        ++ End came.Done ∷ map (λ line. Print (line_text config at line)) (ran_lines (content_of files) lines traces))
+-- nothing is read by texts
+no_reads : (texts : List (List ℕ)) → flat_map given_in (prints texts) ≡ []
+no_reads [] = refl
+no_reads (text ∷ texts) = no_reads texts
 
-block_did : (config : Config) (files : Files) (lines : List ScriptLine) (contents : List (List ℕ))
-    (traces : List LineTrace) (texts : List (List ℕ)) (know known : Knowledge)
-    → contents ≡ map (content_for (content_of files)) (forms_of lines)
-    → PartTells config (Beside (ran_beside lines contents traces)) texts know known
-    → PartTells config (block_in files lines traces) texts know known
-block_did config files lines contents traces texts know known same did =
-    subst (λ (ran : List RanLine). PartTells config (Beside ran) texts know known)
-    (ap (λ (c : List (List ℕ)). ran_beside lines c traces) same ∙ beside_ran (content_of files) lines traces) did
+block_same : (config : Config) (lines : List ScriptLine) (contents : List (List ℕ)) (traces : List LineTrace)
+    (texts : List (List ℕ)) (later : Histories) {before after : Progress}
+    (read : HaveRead (forms_of lines) contents before after) → length contents ≡ length lines
+    → length traces ≡ length lines
+    → map (line_text config later) (lines_of (block_in lines contents traces)) ≡ texts → (rest : Plan)
+    → part_plan (line_text config later) (block_in lines contents traces) rest
+    ≡ plan_behind (read.read.steps ++ map (λ trace. End trace) (block_traces traces)) (plan_behind (prints texts) rest)
+block_same config lines contents traces texts later read held count prints_so rest =
+    let ends : List Step = map (λ trace. End trace) (block_traces traces) in
+    (λ i. lines_read (ran_forms lines contents traces held count i) (ran_contents lines contents traces held count i)
+    (plan_behind (block_ends (line_text config later) lines contents traces texts held count prints_so i) rest))
+    ∙ read.read.same (plan_behind (ends ++ prints texts) rest)
+    ∙ plan_twice read.read.steps (ends ++ prints texts) rest
+    ∙ ap (λ (steps : List Step). plan_behind steps rest) (sym (append_assoc read.read.steps ends (prints texts)))
+    ∙ sym (plan_twice (read.read.steps ++ ends) (prints texts) rest)
+
+block_have : (lines : List ScriptLine) (contents : List (List ℕ)) (traces : List LineTrace) (given : Files)
+    → length contents ≡ length lines → length traces ≡ length lines → HaveGiven (forms_of lines) contents given
+    → HaveGiven (part_forms (block_in lines contents traces)) (part_contents (block_in lines contents traces)) given
+block_have lines contents traces given held count have =
+    subst (λ (forms : List LineForm). HaveGiven forms (part_contents (block_in lines contents traces)) given)
+    (sym (ran_forms lines contents traces held count))
+    (subst (λ (c : List (List ℕ)). HaveGiven (forms_of lines) c given)
+    (sym (ran_contents lines contents traces held count)) have)
 
 module _ (config : Config) (lines : List ScriptLine) (contents : List (List ℕ)) (traces : List LineTrace)
     (texts : List (List ℕ)) (know known : Knowledge) (before read ended : Progress)
-    (has_read : FilesRead lines contents before read) (count : length traces ≡ length lines)
-    (did : PartTells config (Beside (ran_beside lines contents traces)) texts know known)
+    (has_read : FilesRead lines contents before read) (held : length contents ≡ length lines)
+    (count : length traces ≡ length lines)
+    (did : PartTells config (Beside (ran_lines lines contents traces)) texts know known)
     (ends : Did (map (λ trace. End trace) (block_traces traces)) read ended) (first : read.ends ≡ before.ends)
     (noted : ended.ends ≡ read.ends ++ block_traces traces) where
-  module _ (files : Files) (told : before.folder.files ≡ Some files) where
-    block_there : PartTells config (block_in files lines traces) texts know known
-    block_there = block_did config files lines contents traces texts know known (has_read files told).held did
-
-    block_plan : (later : Histories) → HaveGrown known.seen later → (rest : Plan)
-        → part_plan files (line_text config later) (block_in files lines traces) rest
-        ≡ plan_behind ((has_read files told).read.steps ++ map (λ trace. End trace) (block_traces traces))
-        (plan_behind (prints texts) rest)
-    block_plan later grown rest =
-        block_same config files lines traces texts later (has_read files told).read count
-        (block_there.prints later grown) rest
+  block_plan : (later : Histories) → HaveGrown known.seen later → (rest : Plan)
+      → part_plan (line_text config later) (block_in lines contents traces) rest
+      ≡ plan_behind (has_read.read.steps ++ map (λ trace. End trace) (block_traces traces))
+      (plan_behind (prints texts) rest)
+  block_plan later grown rest =
+      block_same config lines contents traces texts later has_read held count (did.prints later grown) rest
 
   block_noted : ended.ends ≡ before.ends ++ block_traces traces
   block_noted = noted ∙ ap (λ (xs : List LineTrace). xs ++ block_traces traces) first
 
+  block_gave : ended.folder.gave ≡ before.folder.gave ++ has_read.given
+  block_gave = still_gave before.folder.gave has_read.given has_read.gave
+      (ends.gave ∙ ap (λ (more : Files). read.folder.gave ++ more)
+      (sym (no_items given_in (λ trace. refl) (block_traces traces))))
+
   pub block_ran : (after : Progress) → Did (prints texts) ended after → after.ends ≡ ended.ends
       → BlockRan config lines know.seen known.seen before after
-  block_ran after wrote last = λ files told. record {
+  block_ran after wrote last = record {
+    contents = contents;
     traces = traces;
+    held = held;
     count = count;
-    went = part_went ((has_read files told).read.steps ++ map (λ trace. End trace) (block_traces traces))
-        (block_there files told) (block_plan files told) after (last ∙ block_noted)
-        (did_then (has_read files told).read.did ends) wrote;
+    went = part_went (has_read.read.steps ++ map (λ trace. End trace) (block_traces traces)) did block_plan
+        has_read.given (block_have lines contents traces has_read.given held count has_read.have) after
+        (last ∙ block_noted)
+        (still_gave before.folder.gave has_read.given block_gave (wrote.gave ∙ ap (λ (more : Files). ended.folder.gave ++ more) (no_reads texts)))
+        (did_then has_read.read.did ends) wrote;
   }
 
   pub block_cut : (after : Progress) (stopped : Stop) → Counts before ended → after.ends ≡ ended.ends
-      → TextsStop texts stopped ended after
+      → after.folder ≡ ended.folder → TextsStop texts stopped ended after
       → BlockHalts config lines know.seen known.seen stopped before after
-  block_cut after stopped counts last stops = record {
-    told = λ files told. inr (record {
+  block_cut after stopped counts last kept stops = record {
+    told = inr (record {
+      contents = contents;
       traces = traces;
+      held = held;
       count = count;
-      cut = part_cut ((has_read files told).read.steps ++ map (λ trace. End trace) (block_traces traces))
-          (block_there files told) (block_plan files told) after stopped (last ∙ block_noted)
-          (did_then (has_read files told).read.did ends) stops.stops;
+      cut = part_cut (has_read.read.steps ++ map (λ trace. End trace) (block_traces traces)) did block_plan
+          has_read.given (block_have lines contents traces has_read.given held count has_read.have) after stopped
+          (last ∙ block_noted) (ap (λ (f : FolderState). f.gave) kept ∙ block_gave) (did_then has_read.read.did ends)
+          stops.stops;
     });
     causes = causes_earlier before ended after stopped counts stops.causes;
   }
@@ -292,15 +314,15 @@ pub block_unread : (config : Config) (lines : List ScriptLine) (known : Historie
     {before after : Progress} → after.ends ≡ before.ends → FilesStop lines stopped before after
     → BlockHalts config lines known known stopped before after
 block_unread config lines known stopped ends stops = record {
-  told = λ files told. inl (early_read (lines_read files (forms_of lines)) known stopped ends (stops.told files told));
-  causes = stops.causes;
+  told = inl (early_read known stopped ends stops);
+  causes = stops.halts.causes;
 }
 
 pub block_starved : (config : Config) (lines : List ScriptLine) (contents : List (List ℕ)) (from ended : Histories)
     {before after : Progress} → after.ends ≡ before.ends → AreFronts from ended
     → FilesRead lines contents before after → BlockHalts config lines from ended stop.OutOfMemory before after
 block_starved config lines contents from ended ends front read = record {
-  told = λ files told. inl (early_starved from ended ends front (read files told).read);
+  told = inl (early_starved from ended ends front read);
   causes = tt;
 }
 
@@ -310,31 +332,25 @@ pub alone_to : {config : Config} {line : ScriptLine} {behind : List ScriptLine} 
     {before after : Progress} (left : List ScriptLine) → IsLine line behind → behind ≡ left
     → AloneRan config line.what from known before after
     → LinesRanTo config (line ∷ behind) left from known before after
-alone_to {config} {line} left is rest ran = λ files told.
-    let alone = ran files told in
-    record {
-      part = line ∷ [];
-      split = ap (λ (more : List ScriptLine). line ∷ more) rest;
-      ran = lines_went (line ∷ []) refl (alone_part (record {
-        what = line.what;
-        content = content_for (content_of files) line.what;
-        trace = alone.trace;
-      }) is.acts) alone.went;
-    }
+alone_to {config} {line} left is rest alone = record {
+  part = line ∷ [];
+  split = ap (λ (more : List ScriptLine). line ∷ more) rest;
+  ran = lines_went (line ∷ []) (alone.content ∷ []) alone.went.done.given alone.went.done.have refl
+      (alone_part (record { what = line.what; content = alone.content; trace = alone.trace }) is.acts) alone.went
+      alone.went.done.gave;
+}
 
 pub alone_halts : {config : Config} {line : ScriptLine} {behind : List ScriptLine} {from known : Histories}
     {before after : Progress} (stopped : Stop) → IsLine line behind
     → AloneHalts config line.what from known stopped before after
     → LinesHalt config (line ∷ behind) from known stopped before after
 alone_halts {config} {line} {behind} {from} {known} stopped is halts = record {
-  told = λ files told. elim (halts.told files told) [
-    | inl early ↦ lines_early config files (line ∷ behind) (line_read files line.what) from known stopped
-        (λ status. alone_left files status line behind is.acts) refl early
-    | inr late ↦ lines_cut (line ∷ []) refl (alone_part (record {
-      what = line.what;
-      content = content_for (content_of files) line.what;
-      trace = late.trace;
-    }) is.acts) behind stopped (same_fronts known) late.cut
+  told = elim halts.told [
+    | inl early ↦ lines_early config line behind (line.what ∷ []) from known stopped
+        (λ status reads. alone_left status line behind reads is.acts) early
+    | inr late ↦ lines_cut (line ∷ []) (late.content ∷ []) late.cut.done.given late.cut.done.have refl
+        (alone_part (record { what = line.what; content = late.content; trace = late.trace }) is.acts) behind stopped
+        (same_fronts known) late.cut late.cut.done.gave
   ];
   causes = halts.causes;
 }
@@ -342,6 +358,10 @@ alone_halts {config} {line} {behind} {from} {known} stopped is halts = record {
 -- the lines of a block, with the one that begins it and the one that ends it
 abbrev pub block_lines : ScriptLine → ScriptLine → List ScriptLine → List ScriptLine
 block_lines line end lines = line ∷ (lines ++ end ∷ [])
+
+-- what their files held
+abbrev block_contents : List (List ℕ) → List (List ℕ)
+block_contents contents = [] ∷ (contents ++ [] ∷ [])
 
 pub block_whole : (line : ScriptLine) (behind lines left : List ScriptLine) (is : IsBlock line behind lines left)
     → line ∷ behind ≡ block_lines line is.ends.end lines ++ left
@@ -360,36 +380,84 @@ pub block_count : (line end : ScriptLine) (traces : List LineTrace) (lines : Lis
     → length traces ≡ length lines → length (block_traces traces) ≡ length (block_lines line end lines)
 block_count line end traces lines count = ap (λ (n : ℕ). suc n) (counted end traces lines count)
 
-abbrev idle_line : Files → ScriptLine → RanLine
-idle_line files line = record {
-  what = line.what;
-  content = content_for (content_of files) line.what;
-  trace = came.Done;
-}
+-- what begins a block, and what ends it, names no file
+opens_none : (what : LineForm) → mark_of what ≡ mark.Opens → file_named what ≡ None
+opens_none (form.Feed name) is = absurd cc
+opens_none (form.Query moment text) is = refl
+opens_none (form.Check moment text) is = refl
+opens_none (form.Explain moment text) is = refl
+opens_none (form.Down leaf) is = refl
+opens_none (form.Up leaf) is = refl
+opens_none (form.Recover range leaf) is = refl
+opens_none (form.Standing name period text) is = refl
+opens_none (form.Tick moment) is = refl
+opens_none form.Together is = refl
+opens_none form.End is = refl
 
-block_is : (files : Files) (line : ScriptLine) (behind lines left : List ScriptLine) (traces : List LineTrace)
-    (is : IsBlock line behind lines left) → length traces ≡ length lines
-    → IsPart (ran_lines (content_of files) (block_lines line is.ends.end lines) (block_traces traces))
-    (block_in files lines traces)
-block_is files line behind lines left traces is count =
-    subst (λ (ran : List RanLine). IsPart ran (block_in files lines traces))
-    (sym (ap (λ (ran : List RanLine). idle_line files line ∷ ran)
-    (ran_both (content_of files) lines (is.ends.end ∷ []) traces (came.Done ∷ []) count)))
-    (block_part (idle_line files line) (idle_line files is.ends.end) (ran_lines (content_of files) lines traces)
-    is.opens is.ends.closes (all_act (content_of files) lines traces is.ends.acts))
+closes_none : (what : LineForm) → mark_of what ≡ mark.Closes → file_named what ≡ None
+closes_none (form.Feed name) is = absurd cc
+closes_none (form.Query moment text) is = refl
+closes_none (form.Check moment text) is = refl
+closes_none (form.Explain moment text) is = refl
+closes_none (form.Down leaf) is = refl
+closes_none (form.Up leaf) is = refl
+closes_none (form.Recover range leaf) is = refl
+closes_none (form.Standing name period text) is = refl
+closes_none (form.Tick moment) is = refl
+closes_none form.Together is = refl
+closes_none form.End is = refl
+
+-- what was read for the lines of a block was read for it with what begins it and what ends it
+block_given : (line : ScriptLine) (behind lines left : List ScriptLine) (contents : List (List ℕ)) (given : Files)
+    (is : IsBlock line behind lines left) → HaveGiven (forms_of lines) contents given
+    → HaveGiven (forms_of (block_lines line is.ends.end lines)) (block_contents contents) given
+block_given line behind lines left contents given is have =
+    subst (λ (forms : List LineForm). HaveGiven (line.what ∷ forms) (block_contents contents) given)
+    (sym (forms_both lines (is.ends.end ∷ [])))
+    (subst (HaveGiven (line.what ∷ (forms_of lines ++ is.ends.end.what ∷ [])) (block_contents contents))
+    (append-nil given)
+    (have_both (have_idle line.what (opens_none line.what is.opens))
+    (have_both have (have_idle is.ends.end.what (closes_none is.ends.end.what is.ends.closes)))))
+
+-- what was read for a block is what was read for its lines
+block_lines_have : (lines : List ScriptLine) (contents : List (List ℕ)) (traces : List LineTrace) (given : Files)
+    → length contents ≡ length lines → length traces ≡ length lines
+    → HaveGiven (part_forms (block_in lines contents traces)) (part_contents (block_in lines contents traces)) given
+    → HaveGiven (forms_of lines) contents given
+block_lines_have lines contents traces given held count have =
+    subst (λ (forms : List LineForm). HaveGiven forms contents given) (ran_forms lines contents traces held count)
+    (subst (λ (c : List (List ℕ)). HaveGiven (part_forms (block_in lines contents traces)) c given)
+    (ran_contents lines contents traces held count) have)
+
+abbrev idle_line : ScriptLine → RanLine
+idle_line line = record { what = line.what; content = []; trace = came.Done }
+
+block_is : (line : ScriptLine) (behind lines left : List ScriptLine) (contents : List (List ℕ))
+    (traces : List LineTrace) (is : IsBlock line behind lines left) → length contents ≡ length lines
+    → length traces ≡ length lines
+    → IsPart (ran_lines (block_lines line is.ends.end lines) (block_contents contents) (block_traces traces))
+    (block_in lines contents traces)
+block_is line behind lines left contents traces is held count =
+    subst (λ (ran : List RanLine). IsPart ran (block_in lines contents traces))
+    (sym (ap (λ (ran : List RanLine). idle_line line ∷ ran)
+    (ran_both lines (is.ends.end ∷ []) contents ([] ∷ []) traces (came.Done ∷ []) held count)))
+    (block_part (idle_line line) (idle_line is.ends.end) (ran_lines lines contents traces)
+    is.opens is.ends.closes (all_act lines contents traces is.ends.acts))
 
 pub block_to : {config : Config} {line : ScriptLine} {behind : List ScriptLine} {from known : Histories}
     {before after : Progress} (lines left : List ScriptLine) → IsBlock line behind lines left
     → BlockRan config lines from known before after
     → LinesRanTo config (line ∷ behind) left from known before after
-block_to {config} {line} {behind} lines left is ran = λ files told.
-    let block = ran files told in
+block_to {config} {line} {behind} lines left is block =
+    let done = block.went.done in
     record {
       part = block_lines line is.ends.end lines;
       split = block_whole line behind lines left is;
-      ran = lines_went (block_lines line is.ends.end lines) (block_count line is.ends.end block.traces lines
-          block.count)
-          (block_is files line behind lines left block.traces is block.count) block.went;
+      ran = lines_went (block_lines line is.ends.end lines) (block_contents block.contents) done.given
+          (block_given line behind lines left block.contents done.given is
+          (block_lines_have lines block.contents block.traces done.given block.held block.count done.have))
+          (block_count line is.ends.end block.traces lines block.count)
+          (block_is line behind lines left block.contents block.traces is block.held block.count) block.went done.gave;
     }
 
 pub block_halts : {config : Config} {line : ScriptLine} {behind : List ScriptLine} {from known : Histories}
@@ -397,14 +465,18 @@ pub block_halts : {config : Config} {line : ScriptLine} {behind : List ScriptLin
     → BlockHalts config lines from known stopped before after
     → LinesHalt config (line ∷ behind) from known stopped before after
 block_halts {config} {line} {behind} {from} {known} {before} {after} lines left is stopped halts = record {
-  told = λ files told. elim (halts.told files told) [
-    | inl early ↦ lines_early config files (line ∷ behind) (lines_read files (forms_of lines)) from known stopped
-        (λ status. ap (λ (rest : List ScriptLine). left_plan files status (line ∷ rest)) is.ends.split
-        ∙ block_left files status line is.ends.end lines left is.opens is.ends.acts is.ends.closes) refl early
-    | inr late ↦ subst (λ (all : List ScriptLine). LinesStopped config files all stopped from known before after)
+  told = elim halts.told [
+    | inl early ↦ lines_early config line behind (forms_of lines) from known stopped
+        (λ status reads. ap (λ (rest : List ScriptLine). left_plan status (line ∷ rest) reads) is.ends.split
+        ∙ block_left status line is.ends.end lines left reads is.opens is.ends.acts is.ends.closes) early
+    | inr late ↦ subst (λ (all : List ScriptLine). LinesStopped config all stopped from known before after)
         (sym (block_whole line behind lines left is))
-        (lines_cut (block_lines line is.ends.end lines) (block_count line is.ends.end late.traces lines late.count)
-        (block_is files line behind lines left late.traces is late.count) left stopped (same_fronts known) late.cut)
+        (lines_cut (block_lines line is.ends.end lines) (block_contents late.contents) late.cut.done.given
+        (block_given line behind lines left late.contents late.cut.done.given is
+        (block_lines_have lines late.contents late.traces late.cut.done.given late.held late.count late.cut.done.have))
+        (block_count line is.ends.end late.traces lines late.count)
+        (block_is line behind lines left late.contents late.traces is late.held late.count) left stopped
+        (same_fronts known) late.cut late.cut.done.gave)
   ];
   causes = halts.causes;
 }

@@ -1,16 +1,20 @@
 -- What was done, step behind step.
-use Rattle.std.proofs.Common.{◌≡◌, ◌∙◌, ℕ, Bool, true, false, cond, Option, List, [], ◌∷◌, ◌++◌, refl, sym, ap, subst}
-use Rattle.std.proofs.Common.{append_assoc, append-nil}
+use Rattle.std.proofs.Common.{◌≡◌, ◌∙◌, ℕ, Bool, true, false, cond, Option, Some, None, List, [], ◌∷◌, ◌++◌, refl, sym}
+use Rattle.std.proofs.Common.{ap, subst, append_assoc, append-nil}
 use Rattle.std.specs.List.{flat_map}
 use Rattle.std.proofs.lemmas.Grind.{flat_map-append}
-use Rattle.mon_run.specs.Endings.{AreNoLines, CutShort, Did, Progress, Starved, end_in, read_in, text_of_step}
-use Rattle.mon_run.specs.Outside.{Files, written_then}
-use Rattle.mon_run.specs.Steps.{Ask, Miss, Plan, Print, Step, Write, ending, is_too_long, plan, plan_behind, read_plan}
-use Rattle.mon_run.specs.Steps.{too_long_text}
+use Rattle.mon_script.specs.declared.forms.LineForm.{LineForm}
+use Rattle.mon_value.proofs.PlainLemmas.{all_append}
+use Rattle.mon_run.specs.Endings.{AreNoLines, CutShort, Did, Progress, Starved, end_in, given_in, read_in, text_of_step}
+use Rattle.mon_run.specs.Outside.{AreOf, Files, Told, content_of, written_then}
+use Rattle.mon_run.specs.Plans.{seek, sought}
+use Rattle.mon_run.specs.Steps.{Ask, Miss, Plan, Print, Seek, Step, Write, ending, is_too_long, next_read, plan}
+use Rattle.mon_run.specs.Steps.{plan_behind, read_plan, too_long_text}
 use Rattle.mon_run.specs.declared.stop.Stop.{Stop}
 use Rattle.mon_run.specs.declared.stop.Stop.TheVariants as stop
 use Rattle.mon_run.proofs.SinkLemmas.{nothing_written, written_both}
 use Rattle.mon_run.specs.within.Stops.{Done, Stops, StopsAtRead, StopsBefore}
+use Rattle.run_traces.specs.RanLines.{file_named}
 use Rattle.run_traces.specs.declared.traces.LineTrace.{LineTrace}
 
 -- ---- steps behind steps
@@ -35,6 +39,8 @@ pub did_none : (p : Progress) → Did [] p p
 did_none p = record {
   files = refl;
   asked = sym (append-nil p.folder.asked);
+  gave = sym (append-nil p.folder.gave);
+  so = λ files told. tt;
   ends = sym (append-nil p.ends);
   wrote = nothing_written p.sink.written;
 }
@@ -44,6 +50,11 @@ pub did_then : {xs ys : List Step} {before mid after : Progress} → Did xs befo
 did_then {xs} {ys} {before} {mid} {after} first second = record {
   files = second.files ∙ first.files;
   asked = items_then read_in before.folder.asked mid.folder.asked after.folder.asked xs ys first.asked second.asked;
+  gave = items_then given_in before.folder.gave mid.folder.gave after.folder.gave xs ys first.gave second.gave;
+  so = λ files told.
+      subst (AreOf files) (sym (flat_map-append given_in xs ys))
+      (all_append (λ read. read.1 ≡ content_of files read.0) (flat_map given_in xs) (flat_map given_in ys)
+      (first.so files told) (second.so files (first.files ∙ told)));
   ends = items_then end_in before.ends mid.ends after.ends xs ys first.ends second.ends;
   wrote = written_items before.sink.written mid.sink.written after.sink.written xs ys first.wrote second.wrote;
 }
@@ -59,14 +70,22 @@ did_front {xs} done step first second = did_by (sym (append_assoc xs done (step 
 
 -- ---- one step
 
+-- a read gave nothing
+pub gave_nothing : {before after : Files} → after ≡ before → after ≡ before ++ []
+gave_nothing {before} same = same ∙ sym (append-nil before)
+
 -- only a read was added
 pub read_alone : {step : Step} {before after : Progress} → flat_map end_in (step ∷ []) ≡ []
     → flat_map text_of_step (step ∷ []) ≡ [] → after.folder.files ≡ before.folder.files
     → after.folder.asked ≡ before.folder.asked ++ flat_map read_in (step ∷ [])
+    → after.folder.gave ≡ before.folder.gave ++ flat_map given_in (step ∷ [])
+    → Told before.folder (λ files. AreOf files (flat_map given_in (step ∷ [])))
     → after.ends ≡ before.ends → after.sink.written ≡ before.sink.written → Did (step ∷ []) before after
-read_alone {step} {before} {after} end text files asked ends written = record {
+read_alone {step} {before} {after} end text files asked gave so ends written = record {
   files = files;
   asked = asked;
+  gave = gave;
+  so = so;
   ends = ends ∙ sym (append-nil before.ends) ∙ ap (λ (more : List LineTrace). before.ends ++ more) (sym end);
   wrote = written ∙ nothing_written before.sink.written ∙ ap (λ (more : List ℕ). written_then more before.sink.written)
       (sym text);
@@ -77,14 +96,15 @@ read_alone {step} {before} {after} end text files asked ends written = record {
 pub plan_twice : (xs ys : List Step) (rest : Plan) → plan_behind xs (plan_behind ys rest) ≡ plan_behind (xs ++ ys) rest
 plan_twice xs ys rest = ap (λ (steps : List Step). plan steps rest.status) (sym (append_assoc xs ys rest.steps))
 
-pub not_long : (files : Files) (name : List ℕ) (rest : Plan) → is_too_long files name ≡ false → read_plan files name
-    rest ≡ plan_behind (Ask name ∷ []) rest
-not_long files name rest short = ap (λ b. plan_behind (Ask name ∷ []) (cond b (ending 8 (too_long_text name)) rest))
-    short
+pub not_long : (name content : List ℕ) (rest : Plan) → is_too_long content ≡ false
+    → read_plan name content rest ≡ plan_behind (Ask name content ∷ []) rest
+not_long name content rest short =
+    ap (λ b. plan_behind (Ask name content ∷ []) (cond b (ending 8 (too_long_text name)) rest)) short
 
-pub too_long : (files : Files) (name : List ℕ) (rest : Plan) → is_too_long files name ≡ true → read_plan files name
-    rest ≡ plan_behind (Ask name ∷ []) (ending 8 (too_long_text name))
-too_long files name rest long = ap (λ b. plan_behind (Ask name ∷ []) (cond b (ending 8 (too_long_text name)) rest)) long
+pub too_long : (name content : List ℕ) (rest : Plan) → is_too_long content ≡ true
+    → read_plan name content rest ≡ plan_behind (Ask name content ∷ []) (ending 8 (too_long_text name))
+too_long name content rest long =
+    ap (λ b. plan_behind (Ask name content ∷ []) (cond b (ending 8 (too_long_text name)) rest)) long
 
 -- ---- parts behind steps
 
@@ -106,7 +126,7 @@ read_behind {xs} p name did stops = record {
   done = xs ++ stops.done;
   left = stops.left;
   split = ap (λ (steps : List Step). xs ++ steps) stops.split
-      ∙ sym (append_assoc xs stops.done (Ask name ∷ stops.left));
+      ∙ sym (append_assoc xs stops.done (Seek name ∷ stops.left));
   did = did_front stops.done (Miss name) did stops.did;
 }
 
@@ -156,7 +176,14 @@ starved xs rest whole did = record { done = xs; left = rest.steps; split = refl;
 -- a text that was written is that of a line
 pub did_print : (text : List ℕ) {before after : Progress} → Did (Write text ∷ []) before after
     → Did (Print text ∷ []) before after
-did_print text did = record { files = did.files; asked = did.asked; ends = did.ends; wrote = did.wrote }
+did_print text did = record {
+  files = did.files;
+  asked = did.asked;
+  gave = did.gave;
+  so = did.so;
+  ends = did.ends;
+  wrote = did.wrote;
+}
 
 -- ---- what is left is no line's
 
@@ -166,28 +193,30 @@ none_chosen true p q one other = one
 none_chosen false p q one other = other
 
 -- behind a read
-pub none_read : (files : Files) (name : List ℕ) (rest : Plan) → AreNoLines rest.steps
-    → AreNoLines (read_plan files name rest).steps
-none_read files name rest none =
-    (refl, none_chosen (is_too_long files name) (ending 8 (too_long_text name)) rest (refl, tt) none)
+pub none_read : (name content : List ℕ) (rest : Plan) → AreNoLines rest.steps
+    → AreNoLines (read_plan name content rest).steps
+none_read name content rest none =
+    (refl, none_chosen (is_too_long content) (ending 8 (too_long_text name)) rest (refl, tt) none)
 
-pub stops_at_miss : (files : Files) (name : List ℕ) (rest : Plan) {before after : Progress} → Did (Miss name ∷ [])
-    before after → StopsAtRead (read_plan files name rest).steps name before after
-stops_at_miss files name rest did =
-    record {
-      done = [];
-      left = (cond (is_too_long files name) (ending 8 (too_long_text name)) rest).steps;
-      split =
-          refl;
-      did = did;
-    }
+-- the files of lines that are left
+none_sought_by : (name : Option (List ℕ)) (reads : Files) (rest : Files → Plan)
+    → ((more : Files) → AreNoLines (rest more).steps) → AreNoLines (seek name reads rest).steps
+none_sought_by None reads rest none = none reads
+none_sought_by (Some name) [] rest none = (refl, tt)
+none_sought_by (Some name) (read ∷ reads) rest none = none_read name read.1 (rest reads) (none reads)
 
-pub stops_too_long : (files : Files) (name : List ℕ) (rest : Plan) {before after : Progress} → is_too_long files name
-    ≡ true → Did (Ask name ∷ []) before after → StopsBefore (read_plan files name rest) 8 (too_long_text name) before
-    after
-stops_too_long files name rest long did = record {
-  done = Ask name ∷ [];
-  split = too_long files name rest long;
-  did =
-      did;
-}
+pub none_sought : (forms : List LineForm) (reads : Files) → AreNoLines (sought forms reads).steps
+none_sought [] reads = tt
+none_sought (what ∷ forms) reads = none_sought_by (file_named what) reads (sought forms) (none_sought forms)
+
+-- ---- stops at a read
+
+pub stops_at_miss : (name : List ℕ) (rest : List ℕ → Files → Plan) {before after : Progress}
+    → Did (Miss name ∷ []) before after → StopsAtRead (next_read [] name rest).steps name before after
+stops_at_miss name rest did = record { done = []; left = []; split = refl; did = did }
+
+pub stops_too_long : (name content : List ℕ) (rest : Plan) {before after : Progress} → is_too_long content ≡ true
+    → Did (Ask name content ∷ []) before after
+    → StopsBefore (read_plan name content rest) 8 (too_long_text name) before after
+stops_too_long name content rest long did =
+    record { done = Ask name content ∷ []; split = too_long name content rest long; did = did }

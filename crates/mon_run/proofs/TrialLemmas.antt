@@ -1,26 +1,22 @@
 -- Trials: what was done, and the status behind it.
 use Rattle.std.proofs.Common.{◌≡◌, ◌∙◌, ◌==◌, ℕ, true, false, cond, List, [], ◌∷◌, ◌++◌, map, Option, Some, None}
-use Rattle.std.proofs.Common.{IfSome, inl, inr, refl, sym, ap, subst, append-nil}
+use Rattle.std.proofs.Common.{inl, inr, refl, sym, ap, subst, append-nil}
 use Rattle.std.proofs.lemmas.Bool.{false≢true}
 use Rattle.std.specs.List.{flat_map}
-use Rattle.mon_config.specs.Configs.{config_in}
 use Rattle.mon_script.specs.Made.{made_pieces}
-use Rattle.mon_run.specs.Endings.{AreNoLines, Did, Follows, Progress, Runs, end_in, progress, read_in, text_of_step, RunTells}
-use Rattle.mon_run.specs.Endings.{seen_by}
+use Rattle.mon_run.specs.Endings.{AreNoLines, Did, Follows, Progress, Runs, end_in, given_in, progress, read_in}
+use Rattle.mon_run.specs.Endings.{seen_by, text_of_step}
 use Rattle.mon_run.specs.Steps.{Rose, End, Plan, Step, Write, ending, plan, plan_behind}
-use Rattle.mon_run.specs.Outside.{Files, FolderState, Told, content_of, calm_folder_state, SinkState, Takes, TakesFront, sink_state}
+use Rattle.mon_run.specs.Outside.{AreOf, FolderState, calm_folder_state, SinkState, Takes, TakesFront, sink_state}
 use Rattle.mon_run.specs.Outside.{written_then}
-use Rattle.mon_run.specs.Plans.{Command, came, command_of, config_plan, made_number, number_plan, run_plan}
+use Rattle.mon_run.specs.Plans.{Command, came, command_of, made_number, number_plan, run_plan}
 use Rattle.mon_run.specs.Trials.{Tries, made_files, made_words, ran_all, says_why, trial_end, trial_plan, trial_start}
 use Rattle.mon_run.specs.declared.outcome.Outcome.{Outcome}
 use Rattle.mon_run.specs.declared.stop.Stop.TheVariants as stop
-use Rattle.mon_run.specs.within.Stops.{nothing_came}
 use Rattle.mon_run.specs.within.Tried.{RanMade}
-use Rattle.mon_run.proofs.EndingLemmas.{run_tells}
 use Rattle.mon_run.proofs.MadeLemmas.{no_lines}
-use Rattle.mon_run.proofs.RunLemmas.{none_configured, told_as}
 use Rattle.mon_run.proofs.SinkLemmas.{nothing_written}
-use Rattle.mon_run.proofs.StepLemmas.{did_none, did_then, none_chosen, none_read, stops_behind}
+use Rattle.mon_run.proofs.StepLemmas.{did_none, did_then, none_chosen, stops_behind}
 use Rattle.run_traces.specs.declared.traces.LineTrace.{LineTrace}
 use Rattle.trials.specs.Summaries.{summary_text}
 
@@ -32,6 +28,10 @@ ends_of = map (λ trace. End trace)
 no_reads : (traces : List LineTrace) → flat_map read_in (ends_of traces) ≡ []
 no_reads [] = refl
 no_reads (trace ∷ traces) = no_reads traces
+
+no_files : (traces : List LineTrace) → flat_map given_in (ends_of traces) ≡ []
+no_files [] = refl
+no_files (trace ∷ traces) = no_files traces
 
 no_texts : (traces : List LineTrace) → flat_map text_of_step (ends_of traces) ≡ []
 no_texts [] = refl
@@ -46,6 +46,8 @@ pub lines_end : (traces : List LineTrace) (folder : FolderState) (sink : SinkSta
 lines_end traces folder sink = record {
   files = refl;
   asked = sym (append-nil folder.asked) ∙ ap (λ more. folder.asked ++ more) (sym (no_reads traces));
+  gave = sym (append-nil folder.gave) ∙ ap (λ more. folder.gave ++ more) (sym (no_files traces));
+  so = λ files told. subst (AreOf files) (sym (no_files traces)) tt;
   ends = sym (all_ends traces);
   wrote = nothing_written sink.written ∙ ap (λ more. written_then more sink.written) (sym (no_texts traces));
 }
@@ -90,6 +92,8 @@ text_cut status text folder ends before after takes rose = inr (inl (
     did = record {
       files = refl;
       asked = sym (append-nil folder.asked);
+      gave = sym (append-nil folder.gave);
+      so = λ files told. tt;
       ends = sym (append-nil ends);
       wrote = takes.takes ∙ ap (λ more. written_then more before.written) (sym (append-nil takes.front));
     };
@@ -128,32 +132,23 @@ nothing_said status traces printed folder ends sink =
 -- ---- the run from memory
 
 pub ran_made : (number : ℕ) (words : List (List ℕ)) (folder behind : FolderState) (sink after : SinkState)
-    (outcome : Outcome) → words ≡ made_words → folder ≡ calm_folder_state (made_files number) []
+    (outcome : Outcome) → words ≡ made_words → folder ≡ calm_folder_state (made_files number) [] []
     → sink ≡ sink_state (Some []) 0
-    → Told folder (λ files. Runs files words outcome.status (seen_by outcome.ended) (progress folder sink [])
-    (progress behind after outcome.lines))
-    → Told folder (λ files. IfSome (seen_by outcome.ended)
-    (λ seen. RunTells words (outcome.status ≡ 6) files seen outcome.lines))
+    → Runs words outcome.status (seen_by outcome.ended) (progress folder sink []) (progress behind after outcome.lines)
     → RanMade number after outcome
-ran_made number words folder behind sink after outcome by_words by_folder by_sink told tells = record {
+ran_made number words folder behind sink after outcome by_words by_folder by_sink ran = record {
   folder = behind;
-  ran = subst (λ (w : List (List ℕ)). Runs (made_files number) w outcome.status (seen_by outcome.ended)
+  ran = subst (λ (w : List (List ℕ)). Runs w outcome.status (seen_by outcome.ended)
       (trial_start number) (progress behind after outcome.lines)) by_words
-      (subst (λ (before : Progress). Runs (made_files number) words outcome.status (seen_by outcome.ended) before
-      (progress behind after outcome.lines)) (λ i. progress (by_folder i) (by_sink i) [])
-      (told (made_files number) (ap (λ (f : FolderState). f.files) by_folder)));
-  tells = subst (λ (w : List (List ℕ)). IfSome (seen_by outcome.ended)
-      (λ seen. RunTells w (outcome.status ≡ 6) (made_files number) seen outcome.lines)) by_words
-      (tells (made_files number) (ap (λ (f : FolderState). f.files) by_folder));
+      (subst (λ (before : Progress). Runs words outcome.status (seen_by outcome.ended) before
+      (progress behind after outcome.lines)) (λ i. progress (by_folder i) (by_sink i) []) ran);
 }
 
-none_numbered : (files : Files) (number : Option ℕ) (what : Option Command)
-    → AreNoLines (number_plan (nothing_came []) files number what).steps
-none_numbered files (Some number) what = no_lines (made_pieces number)
-none_numbered files None None = (refl, tt)
-none_numbered files None (Some what) =
-    none_read files what.config (config_plan (nothing_came []) files what (config_in (content_of files what.config)))
-    (none_configured [] files what (config_in (content_of files what.config)))
+none_numbered : (number : Option ℕ) (what : Option Command)
+    → AreNoLines (number_plan (came None None []) [] number what).steps
+none_numbered (Some number) what = no_lines (made_pieces number)
+none_numbered None None = (refl, tt)
+none_numbered None (Some what) = (refl, tt)
 
 -- memory ran out before the run
 pub not_tried : (number : ℕ) (folder : FolderState) (sink : SinkState) (lines : List LineTrace) → lines ≡ []
@@ -161,16 +156,19 @@ pub not_tried : (number : ℕ) (folder : FolderState) (sink : SinkState) (lines 
 not_tried number folder sink lines none = subst (λ (ends : List LineTrace).
     Tries number 6 None (progress folder sink []) (progress folder sink ends)) (sym none) (record {
       code = 6;
-      folder = calm_folder_state (made_files number) [];
+      folder = calm_folder_state (made_files number) [] [];
       sink = sink_state (Some []) 0;
       printed = [];
       took = refl;
       ran = record {
+        reads = [];
+        gave = refl;
         woven = None;
         printed = tt;
-        is = inl (says_nothing (run_plan (came None None []) (made_files number) made_words)
-            (calm_folder_state (made_files number) []) [] (sink_state (Some []) 0)
-            (none_numbered (made_files number) (made_number made_words) (command_of made_words)));
+        is = inl (says_nothing (run_plan (came None None []) [] made_words)
+            (calm_folder_state (made_files number) [] []) [] (sink_state (Some []) 0)
+            (none_numbered (made_number made_words) (command_of made_words)));
+        holds = tt;
       };
       said = says_nothing (trial_plan 6 [] []) folder [] sink tt;
     })
@@ -198,13 +196,3 @@ tried number status outcome sink printed folder before after took made follows =
   ran = made.ran;
   said = trial_said outcome.status status outcome.lines printed folder before after follows;
 }
-
--- what the lines tell, by the status of the trial
-pub tells_later : (number status : ℕ) (outcome : Outcome) (sink : SinkState) → RanMade number sink outcome
-    → (outcome.status ≡ 6 → status ≡ 6) → IfSome (seen_by outcome.ended)
-    (λ seen. RunTells made_words (status ≡ 6) (made_files number) seen outcome.lines)
-tells_later number status outcome sink made starved =
-    told_as (seen_by outcome.ended)
-    (λ seen. RunTells made_words (outcome.status ≡ 6) (made_files number) seen outcome.lines)
-    (λ seen. RunTells made_words (status ≡ 6) (made_files number) seen outcome.lines)
-    (λ seen tells. run_tells starved tells) made.tells

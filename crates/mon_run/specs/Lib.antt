@@ -1,4 +1,5 @@
 pub mod Endings
+pub mod Laws
 pub mod Outside
 pub mod Plans
 pub mod Steps

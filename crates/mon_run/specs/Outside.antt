@@ -1,6 +1,8 @@
 -- Folders and sinks as contracts see them: what is read of them, and what was written.
-use Rattle.std.specs.Prelude.{◌≡◌, ◌⊎◌, ℕ, ◌+◌, Bool, true, false, List, [], ◌∷◌, ◌++◌, map, Option, Some, None}
+use Rattle.std.specs.Prelude.{◌≡◌, ◌⊎◌, ℕ, ◌+◌, Bool, true, false, List, [], ◌∷◌, ◌++◌, map, Option, Some, None, Vec}
 use Rattle.std.specs.Prelude.{unwrap_or, Result, Ok, Err, if◌then◌else◌, ◌<◌, length, option_map}
+use Rattle.std.specs.List.{AllByRecursion}
+use Rattle.std.specs.declared.alloc.Global.{Global}
 use Rattle.mon_value.specs.Same.{same_text}
 use Rattle.mon_run.specs.declared.outside.folder.Asked.{Asked}
 use Rattle.mon_run.specs.declared.outside.folder.FolderFault.{FolderFault}
@@ -33,17 +35,22 @@ files_of = map file_of
 
 -- ---- folders
 
--- a folder: its files, where it tells them; the reads that it was asked for; the count of its faults; the name
--- of the last read that failed
+-- A folder: its files, where it tells them beforehand; the reads that it was asked for; what its reads gave, each with
+-- the name of its file; the count of its faults; the name of the last read that failed
 pub record FolderState : Type 0 where
   pub files : Option Files
   pub asked : List Asked
+  pub gave : Files
   pub faults : ℕ
   pub last : List ℕ
 
 -- what holds of the files that a folder tells
 abbrev pub Told : FolderState → (Files → Type 0) → Type 0
 Told folder claim = (files : Files) → folder.files ≡ Some files → claim files
+
+-- what was read is what these files hold
+abbrev pub AreOf : Files → Files → Type 0
+AreOf files reads = AllByRecursion (λ read. read.1 ≡ content_of files read.0) reads
 
 -- a read of a name, and whether it failed
 abbrev pub asking : List ℕ → Bool → Asked
@@ -63,6 +70,17 @@ Asks (Err fault.Failed) name before after = after ≡ before ++ asking name true
 Asks (Err fault.TooLong) name before after = after ≡ before ++ asking name false ∷ []
 Asks (Err fault.OutOfMemory) name before after = (after ≡ before) ⊎ (after ≡ before ++ asking name false ∷ [])
 
+-- a read gave more than was asked for: a whole file, where the folder tells its files, or so much of it that this shows
+pub record GaveTooMuch (most : ℕ) (name : List ℕ) (before after : FolderState) : Type 0 where
+  pub content : List ℕ
+  pub gave : after.gave ≡ before.gave ++ (name, content) ∷ []
+  pub long : most < length content
+  pub so : Told before (λ files. content ≡ content_of files name)
+
+-- what reads gave that were logged
+abbrev pub given_by : List (List ℕ × Vec ℕ Global) → Files
+given_by = map (λ read. (read.0, read.1.items))
+
 -- how many of the reads failed
 abbrev pub failed_reads : List Asked → ℕ
 failed_reads [] = 0
@@ -74,13 +92,14 @@ last_failed name [] = name
 last_failed name (read ∷ reads) = last_failed (if read.failed then read.name else name) reads
 
 -- a folder whose faults are the reads that failed
-abbrev pub folder_state : Option Files → List Asked → FolderState
-folder_state files asked =
-    record { files = files; asked = asked; faults = failed_reads asked; last = last_failed [] asked }
+abbrev pub folder_state : Option Files → List Asked → Files → FolderState
+folder_state files asked gave =
+    record { files = files; asked = asked; gave = gave; faults = failed_reads asked; last = last_failed [] asked }
 
 -- a folder without faults
-abbrev pub calm_folder_state : Files → List Asked → FolderState
-calm_folder_state files asked = record { files = Some files; asked = asked; faults = 0; last = [] }
+abbrev pub calm_folder_state : Files → List Asked → Files → FolderState
+calm_folder_state files asked gave =
+    record { files = Some files; asked = asked; gave = gave; faults = 0; last = [] }
 
 -- Sinks as contracts see them, and what was written.
 

@@ -1,5 +1,5 @@
 -- What a run does, step by step, where no read and no write fails and memory is there.
-use Rattle.std.specs.Prelude.{ℕ, List, [], ◌∷◌, ◌++◌, drop, length, map, Option, Some, None, Result, Ok, Err}
+use Rattle.std.specs.Prelude.{ℕ, List, [], ◌∷◌, ◌++◌, drop, length, map, take, Option, Some, None, Result, Ok, Err}
 use Rattle.std.specs.Prelude.{if◌then◌else◌, ◌≡◌, ◌^◌, nat_lt, ◌&&◌, false, codes, option_map}
 use Rattle.std.specs.Str.{all_ascii_digits}
 use Rattle.std.specs.Str.Parse.{digits_value}
@@ -7,7 +7,6 @@ use Rattle.mon_config.specs.declared.config.Config.{Config}
 use Rattle.mon_script.specs.Blocks.{ends_block, mark_of}
 use Rattle.mon_script.specs.declared.faults.ScriptFault.{ScriptFault}
 use Rattle.mon_script.specs.declared.forms.LineForm.{LineForm}
-use Rattle.mon_script.specs.declared.forms.LineForm.TheVariants as form
 use Rattle.mon_script.specs.declared.places.Mark.{Mark}
 use Rattle.mon_script.specs.declared.places.Mark.TheVariants as mark
 use Rattle.mon_script.specs.declared.script.ScriptLine.{ScriptLine}
@@ -15,7 +14,7 @@ use Rattle.mon_value.specs.declared.histories.Histories.{Histories}
 use Rattle.run_theory.specs.Parts.{Alone, Beside, Part}
 use Rattle.run_traces.specs.LineDues.{lines_status}
 use Rattle.run_traces.specs.LineTexts.{line_text}
-use Rattle.run_traces.specs.RanLines.{RanLine, parts_of, ran_lines}
+use Rattle.run_traces.specs.RanLines.{RanLine, file_named, parts_of, ran_lines}
 use Rattle.run_traces.specs.declared.traces.LineTrace.{LineTrace}
 use Rattle.run_traces.specs.declared.traces.LineTrace.TheVariants as a_trace
 use Rattle.mon_value.specs.Same.{same_text}
@@ -25,92 +24,126 @@ use Rattle.mon_script.specs.Made.{made_pieces}
 use Rattle.mon_script.specs.Scripts.{script_in}
 use Rattle.weave_core.specs.Schedules.{IsPrinted, Printed}
 use Rattle.schedule_lines.specs.declared.calls.ScheduleFault.{ScheduleFault}
-use Rattle.mon_run.specs.Outside.{Files, content_of}
-use Rattle.mon_run.specs.Steps.{End, Plan, Print, Step, Write, ending, plan, plan_behind, read_plan, script_text, end_status}
-use Rattle.mon_run.specs.Steps.{config_text, schedule_text, usage_text}
+use Rattle.mon_run.specs.Outside.{Files}
+use Rattle.mon_run.specs.Steps.{End, Plan, Print, Step, Write, ending, next_read, plan, plan_behind, read_plan}
+use Rattle.mon_run.specs.Steps.{config_text, end_status, schedule_text, script_text, starved_plan, usage_text}
 use Rattle.mon_run.specs.declared.words.Verb.{Verb}
 use Rattle.mon_run.specs.declared.words.Verb.TheVariants as verb
 
 -- What a run of a script does, step by step: by its lines, the files, what the lines came to, and the histories at the
 -- end.
 
--- nothing more, for want of memory
-abbrev pub starved_plan : Plan
-starved_plan = plan [] 6
-
 -- the lines of a block end, with what begins and what ends it, and then their texts are written
 abbrev pub block_steps : (RanLine → List ℕ) → List RanLine → List Step
 block_steps text lines = End a_trace.Done ∷ (map (λ line. End line.trace) lines ++ End a_trace.Done
     ∷ map (λ line. Print (text line)) lines)
 
-module _ (files : Files) where
-  -- ---- the files of lines
+-- what lines say
+abbrev pub forms_of : List ScriptLine → List LineForm
+forms_of = map (λ line. line.what)
 
-  -- the file that a line names is read before the rest
-  abbrev pub line_read : LineForm → Plan → Plan
-  line_read (form.Feed name) rest = read_plan files name rest
-  line_read (form.Query moment text) rest = rest
-  line_read (form.Check moment text) rest = rest
-  line_read (form.Explain moment text) rest = rest
-  line_read (form.Down leaf) rest = rest
-  line_read (form.Up leaf) rest = rest
-  line_read (form.Recover range leaf) rest = rest
-  line_read (form.Standing name period text) rest = rest
-  line_read (form.Tick moment) rest = rest
-  line_read form.Together rest = rest
-  line_read form.End rest = rest
+-- ---- the files of lines that ran
 
-  -- the files of lines, in line order
-  abbrev pub lines_read : List LineForm → Plan → Plan
-  lines_read [] rest = rest
-  lines_read (what ∷ others) rest = line_read what (lines_read others rest)
+abbrev pub named_read : Option (List ℕ) → List ℕ → Plan → Plan
+named_read None content rest = rest
+named_read (Some name) content rest = read_plan name content rest
 
-  -- those of a block, up to its end
-  abbrev pub block_read : List ScriptLine → Plan
-  block_read [] = starved_plan
-  block_read (line ∷ lines) = if ends_block line then starved_plan else line_read line.what (block_read lines)
+-- the file that a line names, and which held this, is read before the rest
+abbrev pub line_read : LineForm → List ℕ → Plan → Plan
+line_read what = named_read (file_named what)
 
-  -- ---- lines that are left
+-- the files of lines, in line order
+abbrev pub lines_read : List LineForm → List (List ℕ) → Plan → Plan
+lines_read [] contents rest = rest
+lines_read (what ∷ forms) [] rest = rest
+lines_read (what ∷ forms) (content ∷ contents) rest = line_read what content (lines_read forms contents rest)
 
-  abbrev pub next_read : Mark → LineForm → List ScriptLine → Plan
-  next_read mark.Opens what lines = block_read lines
-  next_read mark.Closes what lines = starved_plan
-  next_read mark.Acts what lines = line_read what starved_plan
-  next_read mark.Lone what lines = line_read what starved_plan
+-- ---- what reads gave, line by line
 
-  -- where all lines ran, the run has a status; else the files of the next line or block are read, and memory runs out
-  abbrev pub left_plan : ℕ → List ScriptLine → Plan
-  left_plan status [] = plan [] status
-  left_plan status (line ∷ lines) = next_read (mark_of line.what) line.what lines
+abbrev pub content_next : Option (List ℕ) → Files → (Files → List (List ℕ)) → List (List ℕ)
+content_next None reads rest = [] ∷ rest reads
+content_next (Some name) [] rest = []
+content_next (Some name) (read ∷ reads) rest = read.1 ∷ rest reads
 
-  -- ---- lines that ran
+-- what the file of each line held: what the next of the reads gave, where the line names a file, as far as they go
+abbrev pub contents_of : List LineForm → Files → List (List ℕ)
+contents_of [] reads = []
+contents_of (what ∷ forms) reads = content_next (file_named what) reads (contents_of forms)
 
-  module _ (text : RanLine → List ℕ) where
-    -- the files of a part are read, its lines end, and their texts are written, before the rest
-    abbrev pub part_plan : Part RanLine → Plan → Plan
-    part_plan (Alone line) rest =
-        line_read line.what (plan_behind (End line.trace ∷ Print (text line) ∷ []) rest)
-    part_plan (Beside lines) rest =
-        lines_read (map (λ line. line.what) lines) (plan_behind (block_steps text lines) rest)
+-- the reads behind the first
+abbrev pub behind_first : Files → Files
+behind_first [] = []
+behind_first (read ∷ reads) = reads
 
-    abbrev pub parts_plan : List (Part RanLine) → Plan → Plan
-    parts_plan [] rest = rest
-    parts_plan (part ∷ parts) rest = part_plan part (parts_plan parts rest)
+abbrev pub reads_next : Option (List ℕ) → Files → (Files → Files) → Files
+reads_next None reads rest = rest reads
+reads_next (Some name) reads rest = rest (behind_first reads)
+
+-- the reads behind those of lines
+abbrev pub reads_behind : List LineForm → Files → Files
+reads_behind [] reads = reads
+reads_behind (what ∷ forms) reads = reads_next (file_named what) reads (reads_behind forms)
+
+-- ---- lines that are left
+
+abbrev pub seek : Option (List ℕ) → Files → (Files → Plan) → Plan
+seek None reads rest = rest reads
+seek (Some name) reads rest = next_read reads name (λ content. rest)
+
+-- the files of lines are read, in line order, and then memory runs out
+abbrev pub sought : List LineForm → Files → Plan
+sought [] reads = starved_plan
+sought (what ∷ forms) reads = seek (file_named what) reads (sought forms)
+
+-- what the lines of a block say, up to its end
+abbrev pub block_forms : List ScriptLine → List LineForm
+block_forms [] = []
+block_forms (line ∷ lines) = if ends_block line then [] else line.what ∷ block_forms lines
+
+-- what the lines of the next part say: a line alone, or the lines of a block
+abbrev pub next_forms : Mark → LineForm → List ScriptLine → List LineForm
+next_forms mark.Opens what lines = block_forms lines
+next_forms mark.Closes what lines = []
+next_forms mark.Acts what lines = what ∷ []
+next_forms mark.Lone what lines = what ∷ []
+
+-- where all lines ran, the run has a status; else the files of the next line or block are read, and memory runs out
+abbrev pub left_plan : ℕ → List ScriptLine → Files → Plan
+left_plan status [] reads = plan [] status
+left_plan status (line ∷ lines) reads = sought (next_forms (mark_of line.what) line.what lines) reads
+
+-- ---- lines that ran
+
+module _ (text : RanLine → List ℕ) where
+  -- the files of a part are read, its lines end, and their texts are written, before the rest
+  abbrev pub part_plan : Part RanLine → Plan → Plan
+  part_plan (Alone line) rest =
+      line_read line.what line.content (plan_behind (End line.trace ∷ Print (text line) ∷ []) rest)
+  part_plan (Beside lines) rest =
+      lines_read (map (λ line. line.what) lines) (map (λ line. line.content) lines)
+      (plan_behind (block_steps text lines) rest)
+
+  abbrev pub parts_plan : List (Part RanLine) → Plan → Plan
+  parts_plan [] rest = rest
+  parts_plan (part ∷ parts) rest = part_plan part (parts_plan parts rest)
 
 -- ---- scripts
 
-module _ (config : Config) (files : Files) where
+module _ (config : Config) (reads : Files) where
+  -- the lines that ran, by what the reads gave
+  abbrev pub lines_by : List ScriptLine → List LineTrace → List RanLine
+  lines_by lines traces = ran_lines lines (contents_of (forms_of lines) reads) traces
+
   -- the lines that ran, and those that are left
   abbrev pub lines_plan : Histories → ℕ → List ScriptLine → List LineTrace → Plan
   lines_plan ended status lines traces =
-      parts_plan files (line_text config ended) (parts_of (ran_lines (content_of files) lines traces))
-      (left_plan files status (drop (length traces) lines))
+      parts_plan (line_text config ended) (parts_of (lines_by lines traces))
+      (left_plan status (drop (length traces) lines) (reads_behind (forms_of (take (length traces) lines)) reads))
 
   -- the lines of a script, where a store was made
   abbrev pub store_plan : Option Histories → List ScriptLine → List LineTrace → Plan
   store_plan None lines traces = starved_plan
-  store_plan (Some ended) lines traces =
-      lines_plan ended (lines_status (ran_lines (content_of files) lines traces)) lines traces
+  store_plan (Some ended) lines traces = lines_plan ended (lines_status (lines_by lines traces)) lines traces
 
   abbrev pub script_plan : Option Histories → List LineTrace → Result (List ScriptLine) ScriptFault → Plan
   script_plan ended traces (Err fault) = ending 3 (script_text fault)
@@ -163,14 +196,16 @@ abbrev pub schedule_plan : Option Printed → Plan
 schedule_plan None = plan [] 6
 schedule_plan (Some woven) = plan_behind (Write woven.text ∷ []) (schedule_end woven.fault)
 
--- a command's schedule printed this, under its configuration
-abbrev pub IsWovenBy : Command → Files → Printed → Type 0
-IsWovenBy what files woven =
-    (config : Config) → config_in (content_of files what.config) ≡ Ok config
-    → IsPrinted config (content_of files what.file) woven
+-- what the first of the reads gave
+abbrev pub first_content : Files → List ℕ
+first_content [] = []
+first_content (read ∷ reads) = read.1
 
-abbrev pub IsRunWoven : List (List ℕ) → Files → Printed → Type 0
-IsRunWoven words files woven = (what : Command) → command_of words ≡ Some what → IsWovenBy what files woven
+-- a schedule printed this, under its configuration: the second file that was read, and the first
+abbrev pub IsWovenBy : Files → Printed → Type 0
+IsWovenBy reads woven =
+    (config : Config) → config_in (first_content reads) ≡ Ok config
+    → IsPrinted config (first_content (behind_first reads)) woven
 
 -- ---- made input
 
@@ -191,26 +226,25 @@ made_plan number = plan (map (λ piece. Write piece) (made_pieces number)) (end_
 
 -- ---- the whole run, by what came of it
 
--- the second file, under a configuration
-abbrev pub file_plan : Came → Config → Files → Verb → List ℕ → Plan
-file_plan came config files verb.Run content =
-    script_plan config files came.ended came.traces (script_in config.topology content)
-file_plan came config files verb.Weave content = schedule_plan came.woven
+-- the second file, under a configuration, and the reads behind it
+abbrev pub file_plan : Came → Config → Verb → List ℕ → Files → Plan
+file_plan came config verb.Run content reads =
+    script_plan config reads came.ended came.traces (script_in config.topology content)
+file_plan came config verb.Weave content reads = schedule_plan came.woven
 
-abbrev pub config_plan : Came → Files → Command → Result Config ConfigFault → Plan
-config_plan came files what (Err fault) = ending 2 (config_text fault)
-config_plan came files what (Ok config) =
-    read_plan files what.file (file_plan came config files what.verb (content_of files what.file))
+abbrev pub config_plan : Came → Command → Result Config ConfigFault → Files → Plan
+config_plan came what (Err fault) reads = ending 2 (config_text fault)
+config_plan came what (Ok config) reads = next_read reads what.file (file_plan came config what.verb)
 
 abbrev pub command_plan : Came → Files → Option Command → Plan
-command_plan came files None = ending 1 usage_text
-command_plan came files (Some what) =
-    read_plan files what.config (config_plan came files what (config_in (content_of files what.config)))
+command_plan came reads None = ending 1 usage_text
+command_plan came reads (Some what) =
+    next_read reads what.config (λ content. config_plan came what (config_in content))
 
 abbrev pub number_plan : Came → Files → Option ℕ → Option Command → Plan
-number_plan came files (Some number) what = made_plan number
-number_plan came files None what = command_plan came files what
+number_plan came reads (Some number) what = made_plan number
+number_plan came reads None what = command_plan came reads what
 
--- what a run of these words on these files does
+-- what a run of these words does, whose reads gave this
 abbrev pub run_plan : Came → Files → List (List ℕ) → Plan
-run_plan came files words = number_plan came files (made_number words) (command_of words)
+run_plan came reads words = number_plan came reads (made_number words) (command_of words)

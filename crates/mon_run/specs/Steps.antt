@@ -12,7 +12,7 @@ use Rattle.schedule_lines.specs.FaultTexts.{schedule_fault_text}
 use Rattle.schedule_lines.specs.declared.calls.ScheduleFault.{ScheduleFault}
 use Rattle.mon_value.specs.declared.limits.TheConstants.{LONGEST_FILE}
 use Rattle.run_traces.specs.declared.traces.LineTrace.{LineTrace}
-use Rattle.mon_run.specs.Outside.{Files, content_of}
+use Rattle.mon_run.specs.Outside.{Files}
 
 -- Counts of faults.
 
@@ -54,9 +54,11 @@ too_long_text name = codes "too long: " ++ (name ++ newline)
 
 -- The steps of a run, and plans of them.
 
--- a file is read, or its read fails; a line has run, and came to this; its text is written; or another text is
+-- A file is read, and gives this; or it is asked for, and gives nothing; or its read fails. A line has run, and came to
+-- this; its text is written; or another text is
 pub data Step : Type 0 where
-  Ask : (name : List ℕ) → Step
+  Ask : (name content : List ℕ) → Step
+  Seek : (name : List ℕ) → Step
   Miss : (name : List ℕ) → Step
   End : (trace : LineTrace) → Step
   Print : (text : List ℕ) → Step
@@ -64,7 +66,8 @@ pub data Step : Type 0 where
 
 -- whether a line of the script ends there, or its text is written
 abbrev pub is_of_line : Step → Bool
-is_of_line (Ask name) = false
+is_of_line (Ask name content) = false
+is_of_line (Seek name) = false
 is_of_line (Miss name) = false
 is_of_line (End trace) = true
 is_of_line (Print text) = true
@@ -87,13 +90,23 @@ abbrev pub ending : ℕ → List ℕ → Plan
 ending status text = plan (Write text ∷ []) status
 
 -- a run reads no file of more than 64 MiB
-abbrev pub is_too_long : Files → List ℕ → Bool
-is_too_long files name = nat_lt LONGEST_FILE (length (content_of files name))
+abbrev pub is_too_long : List ℕ → Bool
+is_too_long content = nat_lt LONGEST_FILE (length content)
 
--- a file is read before the rest of a plan; a file that is too long ends the run
-abbrev pub read_plan : Files → List ℕ → Plan → Plan
-read_plan files name rest =
-    plan_behind (Ask name ∷ []) (if is_too_long files name then ending 8 (too_long_text name) else rest)
+-- a file that gave this is read before the rest of a plan; one that is too long ends the run
+abbrev pub read_plan : List ℕ → List ℕ → Plan → Plan
+read_plan name content rest =
+    plan_behind (Ask name content ∷ []) (if is_too_long content then ending 8 (too_long_text name) else rest)
+
+-- nothing more, for want of memory
+abbrev pub starved_plan : Plan
+starved_plan = plan [] 6
+
+-- A file is read, by what the next of the reads gave, and the rest goes by that and by those behind it; where there is no
+-- other read, the file is asked for, and nothing comes of it
+abbrev pub next_read : Files → List ℕ → (List ℕ → Files → Plan) → Plan
+next_read [] name rest = plan (Seek name ∷ []) 6
+next_read (read ∷ reads) name rest = read_plan name read.1 (rest read.1 reads)
 
 -- the status of a run that came to its end: whether a line was refused
 abbrev pub end_status : Bool → ℕ

@@ -3,7 +3,7 @@ use Rattle.std.specs.Prelude.{◌≡◌, ℕ, ◌==◌, ◌||◌, Bool, List, []
 use Rattle.mon_script.specs.Made.{made_config, made_points, made_script}
 use Rattle.mon_value.specs.Same.{same_text}
 use Rattle.mon_value.specs.declared.histories.Histories.{Histories}
-use Rattle.mon_run.specs.Endings.{Follows, Progress, Runs, progress, RunTells}
+use Rattle.mon_run.specs.Endings.{Follows, Progress, Runs, progress}
 use Rattle.mon_run.specs.Outside.{Files, FolderState, calm_folder_state, SinkState, sink_state}
 use Rattle.mon_run.specs.Plans.{number_in}
 use Rattle.mon_run.specs.Steps.{End, Plan, ending, plan, plan_behind}
@@ -36,7 +36,7 @@ made_files number =
 
 -- before the run: a folder that holds them and never fails, and a sink that took nothing so far, both in memory
 abbrev pub trial_start : ℕ → Progress
-trial_start number = progress (calm_folder_state (made_files number) []) (sink_state (Some []) 0) []
+trial_start number = progress (calm_folder_state (made_files number) [] []) (sink_state (Some []) 0) []
 
 -- ---- what is said of it
 
@@ -67,24 +67,16 @@ pub record Tries (number status : ℕ) (ended : Option Histories) (before after 
   pub sink : SinkState
   pub printed : List ℕ
   pub took : sink.written ≡ Some printed
-  pub ran : Runs (made_files number) made_words code ended (trial_start number) (progress folder sink after.ends)
+  pub ran : Runs made_words code ended (trial_start number) (progress folder sink after.ends)
   pub said : Follows (trial_plan code after.ends printed) status before after
 
 -- ---- any words
 
 -- what a run of words is, by the number of its trial if it is one
-abbrev pub IsRunBy : Option ℕ → Files → List (List ℕ) → ℕ → Option Histories → Progress → Progress → Type 0
-IsRunBy (Some number) files words status ended before after = Tries number status ended before after
-IsRunBy None files words status ended before after = Runs files words status ended before after
+abbrev pub IsRunBy : Option ℕ → List (List ℕ) → ℕ → Option Histories → Progress → Progress → Type 0
+IsRunBy (Some number) words status ended before after = Tries number status ended before after
+IsRunBy None words status ended before after = Runs words status ended before after
 
--- what a run of these words on these files is
-abbrev pub IsRun : Files → List (List ℕ) → ℕ → Option Histories → Progress → Progress → Type 0
-IsRun files words status ended before after = IsRunBy (trial_number words) files words status ended before after
-
--- what the lines tell: those of a trial are of the made input
-abbrev pub TellBy : Option ℕ → List (List ℕ) → Type 0 → Files → Histories → List LineTrace → Type 0
-TellBy (Some number) words early files ended traces = RunTells made_words early (made_files number) ended traces
-TellBy None words early files ended traces = RunTells words early files ended traces
-
-abbrev pub Tell : List (List ℕ) → Type 0 → Files → Histories → List LineTrace → Type 0
-Tell words early files ended traces = TellBy (trial_number words) words early files ended traces
+-- what a run of these words is
+abbrev pub IsRun : List (List ℕ) → ℕ → Option Histories → Progress → Progress → Type 0
+IsRun words status ended before after = IsRunBy (trial_number words) words status ended before after

@@ -1,8 +1,7 @@
 // The run of a command: a configuration, and a script with its files of points, or a schedule.
-ghost use Rattle.std.specs.Prelude.{◌≡◌, true, [], map, string_bytes, IfSome};
-ghost use Rattle.mon_run.specs.Endings.{LastFailed, Runs, is_status, progress, RunTells, seen_by};
+ghost use Rattle.std.specs.Prelude.{◌≡◌, true, [], map, string_bytes};
+ghost use Rattle.mon_run.specs.Endings.{LastFailed, Runs, is_status, progress, seen_by};
 ghost use Rattle.mon_run.specs.Steps.{Rose};
-ghost use Rattle.mon_run.specs.Outside.{Told};
 
 use crate::outcome::Outcome;
 use crate::outside::{Folder, Sink};
@@ -25,11 +24,9 @@ pub fn run<R: Threads + Wait + Sync, F: Folder, O: Sink, G: Gate + Sync>(
     out: &mut O,
     gate: &G,
 ) -> Outcome
-    ensures told { Told (F.state folder.old) (λ files. Runs files (map string_bytes words.now) result.status
-        (seen_by result.ended) (progress (F.state folder.old) (O.state out.old) [])
-        (progress (F.state folder.new) (O.state out.new) result.lines)) }
-    ensures holds { Told (F.state folder.old) (λ files. IfSome (seen_by result.ended)
-        (λ seen. RunTells (map string_bytes words.now) (result.status ≡ 6) files seen result.lines)) }
+    ensures ran { Runs (map string_bytes words.now) result.status (seen_by result.ended)
+        (progress (F.state folder.old) (O.state out.old) [])
+        (progress (F.state folder.new) (O.state out.new) result.lines) }
     ensures cannot_read { result.status ≡ 4 → LastFailed (F.state folder.old) (F.state folder.new) }
     ensures write_failed { result.status ≡ 5 → Rose (O.state out.old).faults (O.state out.new).faults }
     ensures status { is_status result.status ≡ true }

@@ -5,6 +5,7 @@
 mod blocks;
 mod command;
 mod entry;
+mod laws;
 mod outcome;
 mod outside;
 mod parts;
@@ -17,6 +18,7 @@ mod trial;
 mod words;
 
 pub use entry::run;
+pub use laws::{ends_are_reached, words_are_none};
 pub use mon_store::{Gate, HoldGate, OpenGate};
 pub use outcome::Outcome;
 pub use outside::{

@@ -2,6 +2,7 @@
 mod file_folder;
 mod folder;
 mod memory_folder;
+mod reads;
 mod sink;
 mod sinks;
 

@@ -7,7 +7,6 @@ ghost use Rattle.line_runs.specs.declared.lines.LineRan.{LineRan as Ran};
 ghost use Rattle.mon_script.specs.Blocks.{AreInBlocks, mark_of};
 ghost use Rattle.mon_script.specs.Lawful.{IsLawfulForm, IsLawfulLine};
 ghost use Rattle.mon_script.specs.declared.places.Mark.TheVariants.{Acts};
-ghost use Rattle.mon_run.specs.Outside.{Told, content_of};
 ghost use Rattle.mon_run.specs.Endings.{Did};
 ghost use Rattle.mon_run.specs.within.Blocks.{block_behind as block, left_behind as left};
 ghost use Rattle.mon_run.specs.within.Dues.{AloneDue, BlockDue, DueSoFar, DueTo};
@@ -16,7 +15,7 @@ ghost use Rattle.mon_run.specs.within.Lines.{FilesRead};
 ghost use Rattle.mon_run.specs.within.Lines.{FilesStop, LinesHalt, LinesRanTo, Noted, TextsStop, block_traces, prints};
 ghost use Rattle.mon_run.specs.within.Stops.{Between, Continues, StopsBetween};
 ghost use Rattle.part_runs.specs.PartsDone.{CanSplit};
-ghost use Rattle.run_traces.specs.RanLines.{acts_by, content_for};
+ghost use Rattle.run_traces.specs.RanLines.{acts_by};
 
 use crate::blocks::block_behind;
 use crate::outside::{Folder, Sink};
@@ -183,9 +182,7 @@ impl<'f, 'o, 'l, F: Folder, O: Sink> Run<'f, 'o, 'l, F, O> {
     fn content(&mut self, what: &LineForm) -> Result<ListOf<u8>, Stop>
         ensures continues { Continues F.state O.state self.old self.new }
         ensures log { self.new.log.now ≡ self.old.log.now }
-        ensures content { IfOk result (λ content. Told (F.state self.old.folder.now)
-            (λ files. content ≡ content_for (content_of files) what.now)) }
-        ensures read { OnOk result (Between F.state O.state (FileRead what.now) self.old self.new) }
+        ensures read { IfOk result (λ content. Between F.state O.state (FileRead what.now content) self.old self.new) }
         ensures stops { IfErr result (StopsBetween F.state O.state (FileStops what.now) self.old self.new) }
     {
         match what {
@@ -209,6 +206,7 @@ impl<'f, 'o, 'l, F: Folder, O: Sink> Run<'f, 'o, 'l, F, O> {
     // Writes texts, one after another.
     fn texts(&mut self, texts: &[Text]) -> Result<(), Stop>
         ensures continues { Continues F.state O.state self.old self.new }
+        ensures folder { F.state self.new.folder.now ≡ F.state self.old.folder.now }
         ensures log { self.new.log.now ≡ self.old.log.now }
         ensures wrote { OnOk result (Between F.state O.state (Did (prints texts.now)) self.old self.new) }
         ensures stops { IfErr result (StopsBetween F.state O.state (TextsStop texts.now) self.old self.new) }

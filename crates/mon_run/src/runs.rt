@@ -3,13 +3,12 @@ ghost use Rattle.std.specs.Bool.{⊤};
 ghost use Rattle.std.specs.Prelude.{◌≡◌, ◌≤◌, ◌∷◌, ◌++◌, [], false, length, map, IfErr, IfOk, None, OnErr, OnOk};
 ghost use Rattle.std.specs.Prelude.{string_bytes};
 ghost use Rattle.mon_config.specs.Numbers.{AreLawful};
-ghost use Rattle.mon_run.specs.Outside.{Told, content_of};
 ghost use Rattle.mon_run.specs.Endings.{Did, CommandTells, RunTells};
 ghost use Rattle.mon_run.specs.Plans as plan;
 ghost use Rattle.mon_run.specs.Steps as step;
 ghost use Rattle.mon_run.specs.Steps.{Ask, End, Write};
 ghost use Rattle.mon_run.specs.within.Lines.{NamedTells, TextTells};
-ghost use Rattle.mon_run.specs.within.Stops.{Between, Closes, ConfigStops, Continues, Ends, HasConfig, HasRead};
+ghost use Rattle.mon_run.specs.within.Stops.{Between, Closes, ConfigStops, Continues, Ends, HasConfig};
 ghost use Rattle.mon_run.specs.within.Stops.{ReadStops, StopsBetween, Weaves};
 ghost use Rattle.mon_run.specs.within.Stops.{WriteStops, files_plan, named_plan, noted, words_plan};
 ghost use Rattle.mon_run.specs.within.Stops.{is_silent as silent, status_of as code};
@@ -72,8 +71,7 @@ impl<'f, 'o, 'l, F: Folder, O: Sink> Run<'f, 'o, 'l, F, O> {
         requires none_noted { self.old.log.now.ended ≡ None }
         ensures continues { Continues F.state O.state self.old self.new }
         ensures ended { Between F.state O.state (Weaves (words_plan (map string_bytes words.now))
-            (plan.IsRunWoven (map string_bytes words.now)) (RunTells (map string_bytes words.now))
-            (noted self.new) result) self.old self.new }
+            plan.IsWovenBy (RunTells (map string_bytes words.now)) (noted self.new) result) self.old self.new }
     {
         match made_number(words) {
             Some(number) => self.made(number),
@@ -84,8 +82,9 @@ impl<'f, 'o, 'l, F: Folder, O: Sink> Run<'f, 'o, 'l, F, O> {
     // Writes the input of a number, piece by piece.
     fn made(&mut self, number: u64) -> Result<bool, Stop>
         ensures continues { Continues F.state O.state self.old self.new }
+        ensures folder { F.state self.new.folder.now ≡ F.state self.old.folder.now }
         ensures left { self.new.log.now.ended ≡ self.old.log.now.ended }
-        ensures ended { Between F.state O.state (Ends (λ files. plan.made_plan number) result) self.old self.new }
+        ensures ended { Between F.state O.state (Ends (plan.made_plan number) result) self.old self.new }
     {
         let mut input = MadeInput::new(number);
         while let Some(piece) = input.next(self.alloc)? {
@@ -106,8 +105,7 @@ impl<'f, 'o, 'l, F: Folder, O: Sink> Run<'f, 'o, 'l, F, O> {
         requires none_noted { self.old.log.now.ended ≡ None }
         ensures continues { Continues F.state O.state self.old self.new }
         ensures ended { Between F.state O.state (Weaves (words_plan (map string_bytes words.now))
-            (plan.IsRunWoven (map string_bytes words.now)) (RunTells (map string_bytes words.now))
-            (noted self.new) result) self.old self.new }
+            plan.IsWovenBy (RunTells (map string_bytes words.now)) (noted self.new) result) self.old self.new }
     {
         match command_in(words) {
             Some((verb, config, file)) => self.files(rt, gate, verb, config, file),
@@ -128,8 +126,8 @@ impl<'f, 'o, 'l, F: Folder, O: Sink> Run<'f, 'o, 'l, F, O> {
         requires none_noted { self.old.log.now.ended ≡ None }
         ensures continues { Continues F.state O.state self.old self.new }
         ensures ended { Between F.state O.state (Weaves (files_plan (plan.command verb config.now file.now))
-            (plan.IsWovenBy (plan.command verb config.now file.now))
-            (CommandTells (plan.command verb config.now file.now)) (noted self.new) result) self.old self.new }
+            plan.IsWovenBy (CommandTells (plan.command verb config.now file.now)) (noted self.new) result)
+            self.old self.new }
     {
         let config = self.configuration(config)?;
         self.file_under(rt, gate, verb, config, file)
@@ -140,9 +138,7 @@ impl<'f, 'o, 'l, F: Folder, O: Sink> Run<'f, 'o, 'l, F, O> {
         ensures continues { Continues F.state O.state self.old self.new }
         ensures log { self.new.log.now ≡ self.old.log.now }
         ensures lawful { IfOk result (λ config. AreLawful config.buckets config.limit config.range_points) }
-        ensures config { IfOk result (λ config. Told (F.state self.old.folder.now)
-            (λ files. HasConfig files name.now config)) }
-        ensures asked { OnOk result (Between F.state O.state (Did (Ask name.now ∷ [])) self.old self.new) }
+        ensures config { IfOk result (λ config. Between F.state O.state (HasConfig name.now config) self.old self.new) }
         ensures stops { IfErr result (StopsBetween F.state O.state (ConfigStops name.now) self.old self.new) }
     {
         let text = self.read(name)?;
@@ -164,7 +160,7 @@ impl<'f, 'o, 'l, F: Folder, O: Sink> Run<'f, 'o, 'l, F, O> {
         requires none_noted { self.old.log.now.ended ≡ None }
         ensures continues { Continues F.state O.state self.old self.new }
         ensures ended { Between F.state O.state (Weaves (named_plan config verb name.now)
-            (λ files. IsPrinted config (content_of files name.now)) (NamedTells verb config name.now)
+            (λ reads. IsPrinted config (plan.first_content reads)) (NamedTells verb config)
             (noted self.new) result) self.old self.new }
     {
         match self.read(name) {
@@ -189,8 +185,8 @@ impl<'f, 'o, 'l, F: Folder, O: Sink> Run<'f, 'o, 'l, F, O> {
         requires fresh { self.old.log.now.traces.items ≡ [] }
         requires none_noted { self.old.log.now.ended ≡ None }
         ensures continues { Continues F.state O.state self.old self.new }
-        ensures ended { Between F.state O.state (Weaves (λ of files. plan.file_plan of config files verb text.now)
-            (λ files. IsPrinted config text.now) (TextTells verb config text.now)
+        ensures ended { Between F.state O.state (Weaves (λ of. plan.file_plan of config verb text.now)
+            (λ reads. IsPrinted config text.now) (TextTells verb config text.now)
             (noted self.new) result) self.old self.new }
     {
         match verb {
@@ -205,8 +201,8 @@ impl<'f, 'o, 'l, F: Folder, O: Sink> Run<'f, 'o, 'l, F, O> {
         requires none_noted { self.old.log.now.ended ≡ None }
         ensures continues { Continues F.state O.state self.old self.new }
         ensures left { self.new.log.now.ended ≡ self.old.log.now.ended }
-        ensures ended { Between F.state O.state (Weaves (λ of files. plan.schedule_plan of.woven)
-            (λ files. IsPrinted config text.now) (λ early files histories traces. ⊤)
+        ensures ended { Between F.state O.state (Weaves (λ of reads. plan.schedule_plan of.woven)
+            (λ reads. IsPrinted config text.now) (λ early reads histories traces. ⊤)
             (noted self.new) result) self.old self.new }
     {
         let woven = weave(self.alloc, config, text)?;
@@ -234,9 +230,8 @@ impl<'f, 'o, 'l, F: Folder, O: Sink> Run<'f, 'o, 'l, F, O> {
         ensures continues { Continues F.state O.state self.old self.new }
         ensures log { self.new.log.now ≡ self.old.log.now }
         ensures bounded { IfOk result (λ content. length content.items ≤ LONGEST_FILE) }
-        ensures content { IfOk result (λ content. Told (F.state self.old.folder.now)
-            (λ files. HasRead files name.now content.items)) }
-        ensures asked { OnOk result (Between F.state O.state (Did (Ask name.now ∷ [])) self.old self.new) }
+        ensures asked { IfOk result (λ content. Between F.state O.state (Did (Ask name.now content.items ∷ []))
+            self.old self.new) }
         ensures stops { IfErr result (StopsBetween F.state O.state (ReadStops name.now) self.old self.new) }
     {
         let kept = Text::from_str(self.alloc, name)?;

@@ -8,7 +8,7 @@ ghost use Rattle.mon_script.specs.Lawful.{IsLawfulLine};
 ghost use Rattle.mon_store.specs.Beginnings.{IsFirst};
 ghost use Rattle.mon_store.specs.Blanks.{IsNamed};
 ghost use Rattle.mon_run.specs.within.Dues.{DueSoFar};
-ghost use Rattle.mon_run.specs.within.Lines.{AllRanLines, LinesHalt, ScriptEnds, TextEnds};
+ghost use Rattle.mon_run.specs.within.Lines.{LinesHalt, LinesRan, ScriptEnds, TextEnds};
 ghost use Rattle.mon_run.specs.within.Stops.{Between, Continues, StopsBetween, noted};
 ghost use Rattle.part_runs.specs.PartsDone.{CanSplit};
 ghost use Rattle.run_traces.specs.LineDues.{is_due_refused as due_refuses, is_refused as refuses};
@@ -156,7 +156,7 @@ impl<'f, 'o, 'l, F: Folder, O: Sink> Run<'f, 'o, 'l, F, O> {
         requires stock { CanSplit (length lines.now) p.old }
         ensures continues { Continues F.state O.state self.old self.new }
         ensures ran { OnOk result (Between F.state O.state
-            (AllRanLines store.now lines.now p.old.seen p.new.seen) self.old self.new) }
+            (LinesRan store.now lines.now p.old.seen p.new.seen) self.old self.new) }
         ensures stops { IfErr result (StopsBetween F.state O.state
             (LinesHalt store.now lines.now p.old.seen p.new.seen) self.old self.new) }
         ensures due { DueSoFar store.now.schemas lines.now (standing_state [] None) self.old.log.now.traces.items

@@ -1,7 +1,7 @@
 // Trials: the made input of a number is run from memory, and what is said of that run is written.
-ghost use Rattle.std.specs.Prelude.{◌≡◌, ◌==◌, ◌⊎◌, ◌∷◌, ◌++◌, false, true, [], List, Some, map, IfOk, IfSome, OnOk};
+ghost use Rattle.std.specs.Prelude.{◌≡◌, ◌==◌, ◌⊎◌, ◌∷◌, ◌++◌, false, true, [], List, Some, map, IfOk, OnOk};
 ghost use Rattle.std.specs.Prelude.{string_bytes};
-ghost use Rattle.mon_run.specs.Endings.{Follows, is_status, progress, RunTells, seen_by};
+ghost use Rattle.mon_run.specs.Endings.{Follows, is_status, progress, seen_by};
 ghost use Rattle.mon_run.specs.Steps.{Rose, ending};
 ghost use Rattle.mon_run.specs.Outside.{FolderState, files_of, sink_state};
 ghost use Rattle.mon_run.specs.Trials as spec;
@@ -36,8 +36,6 @@ pub(crate) fn run_made<R: Threads + Wait + Sync, O: Sink, G: Gate + Sync>(
 ) -> Outcome
     ensures tries { (folder : FolderState) → spec.Tries number result.status (seen_by result.ended)
         (progress folder (O.state out.old) []) (progress folder (O.state out.new) result.lines) }
-    ensures holds { IfSome (seen_by result.ended) (λ seen. RunTells spec.made_words (result.status ≡ 6)
-        (spec.made_files number) seen result.lines) }
     ensures read { (result.status == 4) ≡ false }
     ensures write_failed { result.status ≡ 5 → Rose (O.state out.old).faults (O.state out.new).faults }
     ensures status { is_status result.status ≡ true }
@@ -84,7 +82,7 @@ fn run_in_memory<R: Threads + Wait + Sync, S: Sink, G: Gate + Sync>(
 fn say<O: Sink>(alloc: Global, out: &mut O, status: u8, lines: &[LineTrace], printed: &[u8]) -> u8
     ensures said { (folder : FolderState) (ends : List Came) → Follows (spec.trial_end status lines.now printed.now)
         result (progress folder (O.state out.old) ends) (progress folder (O.state out.new) ends) }
-    ensures ends { EndsWith status result (O.state out.old) (O.state out.new) }
+    ensures ends { EndsWith result (O.state out.old) (O.state out.new) }
 {
     if ran_all(status) {
         return match summary(alloc, lines, printed) {

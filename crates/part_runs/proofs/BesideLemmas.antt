@@ -26,12 +26,12 @@ use Rattle.run_theory.specs.Writings.{EachWrote, Wrote}
 use Rattle.run_theory.proofs.Marks.{all_as}
 use Rattle.run_traces.specs.LineClaims.{Finds, HaveGrown, Makes}
 use Rattle.run_traces.specs.LineTexts.{line_text}
-use Rattle.run_traces.specs.RanLines.{RanLine}
+use Rattle.run_traces.specs.RanLines.{RanLine, ran_lines}
 use Rattle.run_traces.specs.declared.traces.LineTrace.{LineTrace}
 use Rattle.mon_script.specs.declared.forms.LineForm.{LineForm}
 use Rattle.mon_script.specs.declared.script.ScriptLine.{ScriptLine}
 use Rattle.part_runs.specs.Courses.{BlockRan, EachHasRun, HasRun, HaveMet, Way, after_begun, begun, ended_in}
-use Rattle.part_runs.specs.PartsDone.{CanSplit, PartDid, ran_beside}
+use Rattle.part_runs.specs.PartsDone.{CanSplit, PartDid}
 use Rattle.part_runs.proofs.ListLemmas.{all_mapped, first_of, on_apart}
 use Rattle.part_runs.proofs.NumberLemmas.{every_number, kept_times, times_in}
 use Rattle.part_runs.proofs.PassLemmas.{OwnKept, have_grown, own_kept, seen_kept, under_kept}
@@ -198,9 +198,9 @@ module _ (later : (config : Config) (seen more : Histories) (from : History → 
   record LinesDid (know : Knowledge) (lines : List ScriptLine) (contents : List (List ℕ)) (ways : List Way)
       (rans : List LineRan) : Type 0 where
     each : EachWrote entries book_entry_pass (Makes config) (Finds config) HaveGrown know.seen last.seen
-        (numbers_on know.purse.stock.from (length lines)) (ran_beside lines contents (map trace_of rans))
+        (numbers_on know.purse.stock.from (length lines)) (ran_lines lines contents (map trace_of rans))
     numbers : map number_of (kept_of ways) ≡ numbers_on know.purse.stock.from (length lines)
-    prints : map text_of rans ≡ map (line_text config last.seen) (ran_beside lines contents (map trace_of rans))
+    prints : map text_of rans ≡ map (line_text config last.seen) (ran_lines lines contents (map trace_of rans))
     times : (n : ℕ) → times_in n ways ≡ times_in n (begun (length lines) know)
 
   lines_did : (know : Knowledge) (lines : List ScriptLine) (contents : List (List ℕ)) (ways : List Way)
@@ -275,7 +275,7 @@ module _ (later : (config : Config) (seen more : Histories) (from : History → 
         → length contents ≡ length lines → length ways ≡ length lines
         → EachHasRun setting config lines contents (begun (length lines) know) ways → rans ≡ ended_in ways
         → length rans ≡ length lines
-        → PartDid config (Beside (ran_beside lines contents (map trace_of rans))) (map text_of rans) know last
+        → PartDid config (Beside (ran_lines lines contents (map trace_of rans))) (map text_of rans) know last
     block_did rans can every few many run rans_are all =
         let enough : length (ended_in ways) ≡ length ways
         = (let e : length rans ≡ length (ended_in ways) = ap length rans_are in omega arith) in

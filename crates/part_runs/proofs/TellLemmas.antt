@@ -15,13 +15,13 @@ use Rattle.mon_script.specs.declared.forms.LineForm.TheVariants as form
 use Rattle.mon_script.specs.declared.places.Mark.TheVariants as mark
 use Rattle.mon_script.specs.declared.script.ScriptLine.{ScriptLine}
 use Rattle.mon_value.specs.declared.histories.Histories.{Histories}
-use Rattle.part_runs.specs.PartsDone.{AloneDid, PartDid, PartTells, ran_beside}
+use Rattle.part_runs.specs.PartsDone.{AloneDid, PartDid, PartTells}
 use Rattle.run_theory.specs.Parts.{IsWithin, Alone, Part, lines_of}
 use Rattle.run_theory.specs.Writings.{EachWrote}
 use Rattle.run_traces.specs.LineClaims.{AllRan, Finds, HasFound, HasWritten, HaveGrown, Makes}
 use Rattle.run_traces.specs.LineDues.{IsDueBy, asked_by, asked_part, is_ticked, stands_behind}
 use Rattle.run_traces.specs.LineTexts.{line_text}
-use Rattle.run_traces.specs.RanLines.{RanLine}
+use Rattle.run_traces.specs.RanLines.{RanLine, ran_lines}
 use Rattle.run_traces.specs.declared.traces.LineTrace.{LineTrace}
 use Rattle.run_traces.specs.declared.traces.LineTrace.TheVariants as came
 use Rattle.standing.specs.DueLists.{StandingState}
@@ -103,7 +103,7 @@ module _ (config : Config) (before after : Histories) where
 pub beside_plain : (lines : List ScriptLine) (contents : List (List ℕ)) (rans : List LineRan)
     → length contents ≡ length lines → length rans ≡ length lines
     → AllByRecursion (λ (line : RanLine). is_ticked line.trace ≡ false)
-    (ran_beside lines contents (map (λ (ran : LineRan). ran.trace) rans))
+    (ran_lines lines contents (map (λ (ran : LineRan). ran.trace) rans))
     → AllByRecursion (λ (ran : LineRan). is_ticked ran.trace ≡ false) rans
 beside_plain [] contents [] few many plain = tt
 beside_plain [] contents (ran ∷ rans) few many plain = absurd cc

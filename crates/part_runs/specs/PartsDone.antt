@@ -15,16 +15,7 @@ use Rattle.run_traces.specs.LineClaims.{AllRan, HasWritten, HaveGrown}
 use Rattle.run_traces.specs.LineDues.{IsDueBy, asked_part, stands_behind}
 use Rattle.run_traces.specs.LineTexts.{line_text}
 use Rattle.run_traces.specs.RanLines.{RanLine}
-use Rattle.run_traces.specs.declared.traces.LineTrace.{LineTrace}
 use Rattle.standing.specs.DueLists.{StandingState}
-
--- lines that ran beside each other, with what their files hold and what they came to
-abbrev pub ran_beside : List ScriptLine → List (List ℕ) → List LineTrace → List RanLine
-ran_beside [] contents traces = []
-ran_beside (line ∷ lines) [] traces = []
-ran_beside (line ∷ lines) (content ∷ contents) [] = []
-ran_beside (line ∷ lines) (content ∷ contents) (trace ∷ traces) =
-    record { what = line.what; content = content; trace = trace } ∷ ran_beside lines contents traces
 
 -- a line may stand in a block
 abbrev pub ActsThere : ScriptLine → Type 0

@@ -5,7 +5,8 @@ ghost use Rattle.history_book.specs.Histories.{AreFronts};
 ghost use Rattle.history_book.specs.Seats.{HasEveryNumber};
 ghost use Rattle.line_runs.specs.declared.lines.LineRan.{LineRan as Ran};
 ghost use Rattle.part_runs.specs.Courses.{BlockRan};
-ghost use Rattle.part_runs.specs.PartsDone.{ActsThere, CanSplit, PartTells, ran_beside};
+ghost use Rattle.part_runs.specs.PartsDone.{ActsThere, CanSplit, PartTells};
+ghost use Rattle.run_traces.specs.RanLines.{ran_lines};
 ghost use Rattle.run_theory.specs.Parts.{Beside};
 ghost use Rattle.run_traces.specs.LineDues.{is_ticked};
 ghost use Rattle.mon_script.specs.Lawful.{IsLawfulLine};
@@ -43,7 +44,7 @@ pub fn run_beside<N: Names + Send + Sync, R: Threads + Wait + Sync, G: Gate + Sy
     requires every { HasEveryNumber p.old.purse }
     requires stock { CanSplit (length lines.now) p.old }
     ensures ran { IfOk result (λ rans. PartTells store.now
-        (Beside (ran_beside lines.now contents.now (map (λ (ran : Ran). ran.trace) rans)))
+        (Beside (ran_lines lines.now contents.now (map (λ (ran : Ran). ran.trace) rans)))
         (map (λ (ran : Ran). ran.text) rans) p.old p.new) }
     ensures plain { IfOk result (AllByRecursion (λ (ran : Ran). is_ticked ran.trace ≡ false)) }
     ensures each { IfOk result (λ rans. length rans ≡ length lines.now) }

@@ -34,9 +34,9 @@ pub record RunHolds (config : Config) (ended : Histories) (parts : List (Part Ra
   pub controls : Each (LineIsControlled config ended) [] parts
   pub stands : Each (LineStands config ended) [] parts
 
--- All this holds of a script whose lines came to these traces, over files of these contents, where each tick counts as
--- the queries that it asked, one after another; and these are just those that were due
-pub record ScriptHolds (config : Config) (contents : List ℕ → List ℕ) (ended : Histories) (script : List ScriptLine)
+-- All this holds of a script whose lines came to these traces, where the file of each line held this, and where each tick
+-- counts as the queries that it asked, one after another; and these are just those that were due
+pub record ScriptHolds (config : Config) (contents : List (List ℕ)) (ended : Histories) (script : List ScriptLine)
     (traces : List LineTrace) : Type 0 where
-  pub run : RunHolds config ended (asked_parts (parts_of (ran_lines contents script traces)))
+  pub run : RunHolds config ended (asked_parts (parts_of (ran_lines script contents traces)))
   pub dues : AreDue config.schemas (standing_state [] None) script traces

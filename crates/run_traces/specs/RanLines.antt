@@ -11,33 +11,24 @@ use Rattle.mon_script.specs.declared.places.Mark.{Mark}
 use Rattle.mon_script.specs.declared.places.Mark.TheVariants as mark
 use Rattle.mon_script.specs.declared.script.ScriptLine.{ScriptLine}
 
--- a line that ran: what it says, what its file holds, and what it came to
+-- a line that ran: what it says, what its file held, and what it came to
 pub record RanLine : Type 0 where
   pub what : LineForm
   pub content : List ℕ
   pub trace : LineTrace
 
--- what the file of a line holds, if the line names one
-abbrev pub content_for : (List ℕ → List ℕ) → LineForm → List ℕ
-content_for contents (form.Feed name) = contents name
-content_for contents (form.Query moment text) = []
-content_for contents (form.Check moment text) = []
-content_for contents (form.Explain moment text) = []
-content_for contents (form.Down leaf) = []
-content_for contents (form.Up leaf) = []
-content_for contents (form.Recover range leaf) = []
-content_for contents (form.Standing name period text) = []
-content_for contents (form.Tick moment) = []
-content_for contents form.Together = []
-content_for contents form.End = []
+-- the file that a line names
+abbrev pub file_named : LineForm → Option (List ℕ)
+file_named (form.Feed name) = Some name
+file_named other = None
 
--- the lines of a script that have a trace, over files of these contents
-abbrev pub ran_lines : (List ℕ → List ℕ) → List ScriptLine → List LineTrace → List RanLine
-ran_lines contents [] traces = []
-ran_lines contents (line ∷ lines) [] = []
-ran_lines contents (line ∷ lines) (trace ∷ traces) =
-    record { what = line.what; content = content_for contents line.what; trace = trace }
-    ∷ ran_lines contents lines traces
+-- the lines of a script that have a trace, with what the file of each held
+abbrev pub ran_lines : List ScriptLine → List (List ℕ) → List LineTrace → List RanLine
+ran_lines [] contents traces = []
+ran_lines (line ∷ lines) [] traces = []
+ran_lines (line ∷ lines) (content ∷ contents) [] = []
+ran_lines (line ∷ lines) (content ∷ contents) (trace ∷ traces) =
+    record { what = line.what; content = content; trace = trace } ∷ ran_lines lines contents traces
 
 -- ---- parts
 

@@ -9,11 +9,11 @@ use Rattle.mon_config.specs.Configs.{config_in}
 use Rattle.mon_config.specs.declared.config.Config.{Config}
 use Rattle.mon_config.specs.declared.faults.ConfigFault.{ConfigFault}
 use Rattle.mon_script.specs.declared.faults.ScriptFault.{ScriptFault}
-use Rattle.mon_run.specs.Endings.{AreNoLines, CutShort, Did, LastFailed, Progress, Starved, progress, seen_by}
-use Rattle.mon_run.specs.Steps.{Rose, Ask, Miss, Plan, Step, Write, end_status, ending, is_too_long, plan_behind}
-use Rattle.mon_run.specs.Steps.{read_plan, config_text, read_text, schedule_text, script_text, too_long_text}
+use Rattle.mon_run.specs.Endings.{CutShort, Did, LastFailed, Progress, Starved, progress, seen_by}
+use Rattle.mon_run.specs.Steps.{Rose, Ask, Miss, Plan, Seek, Step, Write, end_status, ending, is_too_long, next_read}
+use Rattle.mon_run.specs.Steps.{plan_behind, config_text, read_text, schedule_text, script_text, too_long_text}
 use Rattle.mon_run.specs.Steps.{usage_text}
-use Rattle.mon_run.specs.Outside.{Files, FolderState, Told, content_of, SinkState}
+use Rattle.mon_run.specs.Outside.{Files, FolderState, SinkState}
 use Rattle.mon_run.specs.Plans.{Came, Command, came, command, command_plan, file_plan, run_plan}
 use Rattle.mon_run.specs.declared.runs.Run.{Run}
 use Rattle.mon_run.specs.declared.schedules.Woven.{Woven}
@@ -109,7 +109,7 @@ pub record StopsBefore (plan : Plan) (status : ℕ) (text : List ℕ) (before af
 pub record StopsAtRead (steps : List Step) (name : List ℕ) (before after : Progress) : Type 0 where
   pub done : List Step
   pub left : List Step
-  pub split : steps ≡ done ++ Ask name ∷ left
+  pub split : steps ≡ done ++ Seek name ∷ left
   pub did : Did (done ++ Miss name ∷ []) before after
 
 abbrev pub Stops : Plan → Stop → Progress → Progress → Type 0
@@ -135,26 +135,21 @@ Causes (stop.TooLong name) before after = ⊤
 
 -- ---- parts of a run
 
--- what is read of a file
-pub record HasRead (files : Files) (name content : List ℕ) : Type 0 where
-  pub whole : content ≡ content_of files name
-  pub short : is_too_long files name ≡ false
-
--- a file is this configuration
-pub record HasConfig (files : Files) (name : List ℕ) (config : Config) : Type 0 where
-  pub content : List ℕ
-  pub has : HasRead files name content
-  pub is : config_in content ≡ Ok config
-
--- a part of a plan stops, before any rest that is no line's, and there is a cause
-pub record PartStops (part : Files → Plan → Plan) (stopped : Stop) (before after : Progress) : Type 0 where
-  pub told : Told before.folder (λ files. (rest : Plan) → AreNoLines rest.steps
-      → Stops (part files rest) stopped before after)
+-- a plan stops, and there is a cause
+pub record Halts (p : Plan) (stopped : Stop) (before after : Progress) : Type 0 where
+  pub stops : Stops p stopped before after
   pub causes : Causes stopped before after
 
--- a read stops
+-- by what was read of the folder, a plan stops
+pub record HaltsBy (plan : Files → Plan) (stopped : Stop) (before after : Progress) : Type 0 where
+  pub reads : Files
+  pub gave : after.folder.gave ≡ before.folder.gave ++ reads
+  pub halts : Halts (plan reads) stopped before after
+
+-- a read stops, whatever comes behind it
 abbrev pub ReadStops : List ℕ → Stop → Progress → Progress → Type 0
-ReadStops name stopped before after = PartStops (λ files. read_plan files name) stopped before after
+ReadStops name stopped before after =
+    (rest : List ℕ → Files → Plan) → HaltsBy (λ reads. next_read reads name rest) stopped before after
 
 -- a part of a plan was done, before any rest
 pub record Ran (part : Plan → Plan) (before after : Progress) : Type 0 where
@@ -167,57 +162,52 @@ pub record Done (plan : Plan) (refused : Bool) (before after : Progress) : Type 
   pub status : end_status refused ≡ plan.status
   pub did : Did plan.steps before after
 
--- what the files say was done
-abbrev pub Completes : (Files → Plan) → Bool → Progress → Progress → Type 0
-Completes plan refused before after = Told before.folder (λ files. Done (plan files) refused before after)
-
--- what the files say stops, and there is a cause
-pub record Halts (plan : Files → Plan) (stopped : Stop) (before after : Progress) : Type 0 where
-  pub told : Told before.folder (λ files. Stops (plan files) stopped before after)
-  pub causes : Causes stopped before after
-
--- a part of a run did all that the files say, or stops in it
-pub record Ends (plan : Files → Plan) (ended : Result Bool Stop) (before after : Progress) : Type 0 where
-  pub completes : IfOk ended (λ refused. Completes plan refused before after)
-  pub halts : IfErr ended (λ stopped. Halts plan stopped before after)
+-- a part of a run did all that its plan says, or stops in it
+pub record Ends (p : Plan) (ended : Result Bool Stop) (before after : Progress) : Type 0 where
+  pub completes : IfOk ended (λ refused. Done p refused before after)
+  pub halts : IfErr ended (λ stopped. Halts p stopped before after)
 
 -- what the lines of a script tell of what its caller had seen at the end, or early
 abbrev pub Tells : Type 1
 Tells = Type 0 → Files → Histories → List LineTrace → Type 0
 
--- The same, where a schedule printed something that it may, and lines over a store tell what they should
+-- By what was read of the folder, a part of a run ends so, a schedule printed something that it may, and lines over a
+-- store tell what they should
 pub record Weaves (plan : Came → Files → Plan) (may : Files → Printed → Type 0) (tells : Tells)
     (known : Option Histories) (ended : Result Bool Stop) (before after : Progress) : Type 0 where
+  pub reads : Files
+  pub gave : after.folder.gave ≡ before.folder.gave ++ reads
   pub woven : Option Printed
-  pub printed : Told before.folder (λ files. IfSome woven (may files))
-  pub told : Told before.folder (λ files. IfSome known
-      (λ histories. tells (ended ≡ Err stop.OutOfMemory) files histories after.ends))
-  pub ends : Ends (plan (came woven known after.ends)) ended before after
+  pub printed : IfSome woven (may reads)
+  pub told : IfSome known (λ histories. tells (ended ≡ Err stop.OutOfMemory) reads histories after.ends)
+  pub ends : Ends (plan (came woven known after.ends) reads) ended before after
+
+-- a file was read, and is this configuration
+pub record HasConfig (name : List ℕ) (config : Config) (before after : Progress) : Type 0 where
+  pub content : List ℕ
+  pub short : is_too_long content ≡ false
+  pub is : config_in content ≡ Ok config
+  pub did : Did (Ask name content ∷ []) before after
 
 -- what a schedule printed, and the first of its lines that is refused
 abbrev pub printed_by : Woven → Printed
 printed_by woven = record { text = woven.text; fault = woven.fault }
 
+-- the plan of a command
 abbrev pub files_plan : Command → Came → Files → Plan
-files_plan what of files = command_plan of files (Some what)
-
--- nothing came of a run: no schedule came to its end, and no store was made
-abbrev pub nothing_came : List LineTrace → Came
-nothing_came traces = came None None traces
+files_plan what of reads = command_plan of reads (Some what)
 
 -- the configuration of a command stops it, whatever it does with which second file
 abbrev pub ConfigStops : List ℕ → Stop → Progress → Progress → Type 0
 ConfigStops name stopped before after =
-    (verb : Verb) (file : List ℕ) (traces : List LineTrace)
-    → Halts (files_plan (command verb name file) (nothing_came traces)) stopped before after
+    (verb : Verb) (file : List ℕ) (of : Came) → HaltsBy (files_plan (command verb name file) of) stopped before after
 
 -- the second file of a command, under a configuration
 abbrev pub named_plan : Config → Verb → List ℕ → Came → Files → Plan
-named_plan config verb name of files =
-    read_plan files name (file_plan of config files verb (content_of files name))
+named_plan config verb name of reads = next_read reads name (file_plan of config verb)
 
 abbrev pub words_plan : List (List ℕ) → Came → Files → Plan
-words_plan words of files = run_plan of files words
+words_plan words of reads = run_plan of reads words
 
 -- a text was taken in part: a front, and not all
 pub record WroteFront (text : List ℕ) (before after : Progress) : Type 0 where

@@ -1,9 +1,9 @@
 // Where files are read.
-ghost use Rattle.std.specs.Prelude.{◌≡◌, ◌<◌, ◌≤◌, length, IfOk, IsErrOf};
+ghost use Rattle.std.specs.Prelude.{◌≡◌, ◌≤◌, ◌∷◌, ◌++◌, [], length, IfOk, IsErrOf};
 ghost use Rattle.mon_run.specs.Steps.{Rose};
-ghost use Rattle.mon_run.specs.Outside.{Asks, FolderState, Told, content_of, is_failed};
+ghost use Rattle.mon_run.specs.Outside.{Asks, FolderState, GaveTooMuch, Told, content_of};
 
-use mon_value::{RoomListOf, Text, TryCopy};
+use mon_value::{Text, TryCopy};
 use std::alloc::{AllocError, Global};
 
 /// Why a file was not read.
@@ -28,8 +28,8 @@ impl From<AllocError> for FolderFault {
     }
 }
 
-/// A folder of files. Contracts see its files, where it tells them, the reads that it was asked for, a
-/// count of its faults, which never falls, and the name of the last read that failed.
+/// A folder of files. Contracts see its files, where it tells them beforehand, the reads that it was asked for, what they
+/// gave, a count of its faults, which never falls, and the name of the last read that failed.
 pub trait Folder {
     ghost state: { Self → FolderState };
 
@@ -41,11 +41,15 @@ pub trait Folder {
         ensures asked { Asks result name.now (state self.old).asked (state self.new).asked }
         ensures failed { IsErrOf result FolderFault.Failed → Rose (state self.old).faults (state self.new).faults
             × ((state self.new).last ≡ name.now) }
-        ensures too_long { IsErrOf result FolderFault.TooLong → Told (state self.old)
-            (λ files. most < length (content_of files name.now)) }
+        ensures too_long { IsErrOf result FolderFault.TooLong
+            → GaveTooMuch most name.now (state self.old) (state self.new) }
         ensures bounded { IfOk result (λ content. length content.items ≤ most) }
         ensures whole { IfOk result (λ content. Told (state self.old)
-            (λ files. content.items ≡ content_of files name.now)) };
+            (λ files. content.items ≡ content_of files name.now)) }
+        ensures gave { IfOk result (λ content. (state self.new).gave
+            ≡ (state self.old).gave ++ (name.now, content.items) ∷ []) }
+        ensures nothing { IsErrOf result FolderFault.Failed → (state self.new).gave ≡ (state self.old).gave }
+        ensures starved { IsErrOf result FolderFault.OutOfMemory → (state self.new).gave ≡ (state self.old).gave };
 }
 
 /// A read that a folder was asked for.
@@ -64,14 +68,4 @@ impl TryCopy for Asked {
             failed: self.failed,
         })
     }
-}
-
-/// The reads that a folder was asked for, in order.
-pub(crate) type Reads = RoomListOf<Asked>;
-
-/// Whether a read failed.
-pub(crate) fn has_failed(content: &Result<Vec<u8>, FolderFault>) -> bool
-    ensures failed { result ≡ is_failed content.now }
-{
-    matches!(content, Err(FolderFault::Failed))
 }

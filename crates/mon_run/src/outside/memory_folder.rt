@@ -1,8 +1,9 @@
 // Folders in memory, which tell their files.
-ghost use Rattle.std.specs.Prelude.{◌≡◌, ◌<◌, ◌≤◌, ◌⊎◌, [], Some, length, IfErr, IfOk, IsErrOf, option_map};
+ghost use Rattle.std.specs.Prelude.{◌≡◌, ◌<◌, ◌≤◌, ◌⊎◌, [], Some, length, IfErr, IfOk, IfSome, IsErrOf, option_map};
 ghost use Rattle.mon_run.specs.Outside.{calm_folder_state, content_in, content_of, file_of, files_of, folder_state};
 
-use crate::outside::folder::{Asked, Folder, FolderFault, Reads, has_failed};
+use crate::outside::folder::{Asked, Folder, FolderFault};
+use crate::outside::reads::Reads;
 use mon_value::{ListOf, Text, TryCopy};
 use std::alloc::{AllocError, Global};
 
@@ -29,12 +30,12 @@ impl MemoryFile {
 pub type MemoryFiles = ListOf<MemoryFile>;
 
 /// The content of the first file with a name.
-pub(crate) fn content_named<'a>(files: &'a [MemoryFile], name: &str) -> Option<&'a [u8]>
-    ensures first { option_map (λ content. content.now) result ≡ content_in (files_of files.now) name.now }
+pub(crate) fn content_named<'a>(files: &'a [MemoryFile], name: &str) -> Option<&'a Vec<u8>>
+    ensures first { option_map (λ content. content.now.items) result ≡ content_in (files_of files.now) name.now }
 {
     for file in files {
         if name == file.name.as_str() {
-            return Some(file.content.as_slice());
+            return Some(&file.content);
         }
     }
     None
@@ -67,7 +68,7 @@ pub struct MemoryFolder {
 impl MemoryFolder {
     /// A folder of these files, in which the reads with these numbers will fail.
     pub fn new(alloc: Global, files: MemoryFiles, failing: Vec<u64>) -> MemoryFolder
-        ensures told { ⟦<MemoryFolder as Folder>⟧.state result ≡ folder_state (Some (files_of files)) [] }
+        ensures told { ⟦<MemoryFolder as Folder>⟧.state result ≡ folder_state (Some (files_of files)) [] [] }
     {
         MemoryFolder {
             files,
@@ -80,43 +81,49 @@ impl MemoryFolder {
     pub fn asked(&self) -> &[Asked]
         ensures asked { result.now ≡ (⟦<MemoryFolder as Folder>⟧.state self.now).asked }
     {
-        self.reads.as_slice()
-    }
-
-    // What the next read gives.
-    fn content(&self, alloc: Global, name: &str, most: u64) -> Result<Vec<u8>, FolderFault>
-        ensures too_long { IsErrOf result FolderFault.TooLong
-            → most < length (content_of (files_of self.now.files) name.now) }
-        ensures bounded { IfOk result (λ content. length content.items ≤ most) }
-        ensures whole { IfOk result (λ content. content.items ≡ content_of (files_of self.now.files) name.now) }
-    {
-        let number = (self.reads.len() as u64).saturating_add(1);
-        if self.failing.contains(&number) {
-            return Err(FolderFault::Failed);
-        }
-        match content_named(self.files.as_slice(), name) {
-            Some(content) => read_bounded(alloc, content, most),
-            None => Err(FolderFault::Failed),
-        }
+        self.reads.asked.as_slice()
     }
 }
 
 impl Folder for MemoryFolder {
     ghost use Rattle.std.specs.Prelude.{Some};
-    ghost use Rattle.mon_run.specs.Outside.{files_of, folder_state};
+    ghost use Rattle.mon_run.specs.Outside.{files_of, folder_state, given_by};
 
-    ghost state = { λ folder. folder_state (Some (files_of folder.files)) folder.reads.items };
+    ghost state = { λ folder. folder_state (Some (files_of folder.files)) folder.reads.asked.items
+        (given_by folder.reads.gave.items) };
 
     fn read(&mut self, alloc: Global, name: &str, most: u64) -> Result<Vec<u8>, FolderFault> {
         let kept = Text::from_str(alloc, name)?;
         self.reads.reserve_one()?;
-        let content = self.content(alloc, name, most);
-        self.reads.push(Asked {
-            name: kept,
-            failed: has_failed(&content),
-        });
-        content
+        let number = (self.reads.asked.len() as u64).saturating_add(1);
+        let found = content_unless(self.files.as_slice(), self.failing.contains(&number), name);
+        match found {
+            Some(content) => match read_bounded(alloc, content.as_slice(), most) {
+                Err(FolderFault::OutOfMemory) => {
+                    self.reads.gave_nothing(kept, false);
+                    Err(FolderFault::OutOfMemory)
+                }
+                read => {
+                    self.reads.gave(kept, content);
+                    read
+                }
+            },
+            None => {
+                self.reads.gave_nothing(kept, true);
+                Err(FolderFault::Failed)
+            }
+        }
     }
+}
+
+// The content of the first file with a name, unless its read is to fail.
+fn content_unless<'a>(files: &'a [MemoryFile], fails: bool, name: &str) -> Option<&'a Vec<u8>>
+    ensures content { IfSome result (λ content. content.now.items ≡ content_of (files_of files.now) name.now) }
+{
+    if fails {
+        return None;
+    }
+    content_named(files, name)
 }
 
 /// A folder in memory that tells its files and never fails: a name that it doesn't hold reads as an
@@ -130,7 +137,7 @@ pub struct CalmFolder {
 impl CalmFolder {
     /// A folder of these files.
     pub fn new(alloc: Global, files: MemoryFiles) -> CalmFolder
-        ensures told { ⟦<CalmFolder as Folder>⟧.state result ≡ calm_folder_state (files_of files) [] }
+        ensures told { ⟦<CalmFolder as Folder>⟧.state result ≡ calm_folder_state (files_of files) [] [] }
     {
         CalmFolder {
             files,
@@ -140,20 +147,30 @@ impl CalmFolder {
 }
 
 impl Folder for CalmFolder {
-    ghost use Rattle.mon_run.specs.Outside.{calm_folder_state, files_of};
+    ghost use Rattle.mon_run.specs.Outside.{calm_folder_state, files_of, given_by};
 
-    ghost state = { λ folder. calm_folder_state (files_of folder.files) folder.reads.items };
+    ghost state = { λ folder. calm_folder_state (files_of folder.files) folder.reads.asked.items
+        (given_by folder.reads.gave.items) };
 
     fn read(&mut self, alloc: Global, name: &str, most: u64) -> Result<Vec<u8>, FolderFault> {
         let kept = Text::from_str(alloc, name)?;
         self.reads.reserve_one()?;
-        self.reads.push(Asked {
-            name: kept,
-            failed: false,
-        });
         match content_named(self.files.as_slice(), name) {
-            Some(content) => read_bounded(alloc, content, most),
-            None => Ok(Vec::new(alloc)),
+            Some(content) => match read_bounded(alloc, content.as_slice(), most) {
+                Err(FolderFault::OutOfMemory) => {
+                    self.reads.gave_nothing(kept, false);
+                    Err(FolderFault::OutOfMemory)
+                }
+                read => {
+                    self.reads.gave(kept, content);
+                    read
+                }
+            },
+            None => {
+                let nothing = Vec::new(alloc);
+                self.reads.gave(kept, &nothing);
+                Ok(nothing)
+            }
         }
     }
 }

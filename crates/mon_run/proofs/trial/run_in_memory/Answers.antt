@@ -8,6 +8,6 @@ returns g c = record {
   ran = ran_made c.args.number (map string_bytes c.as_slice.result.now) _ _ (g.S.Sink.state c.args.sink.now)
       (g.S.Sink.state c.run.new.out) c.run.result
       (ap (map string_bytes) c.as_slice.ensures.value ∙ c.in_ok-words.ensures.words)
-      (c.new-folder.ensures.told ∙ ap (λ (files : Files). calm_folder_state files []) c.in_ok-files.ensures.files)
-      c.requires.fresh c.run.ensures.told c.run.ensures.holds;
+      (c.new-folder.ensures.told ∙ ap (λ (files : Files). calm_folder_state files [] []) c.in_ok-files.ensures.files)
+      c.requires.fresh c.run.ensures.ran;
 }

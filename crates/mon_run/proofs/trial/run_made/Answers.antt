@@ -1,7 +1,7 @@
 use Rattle.std.proofs.Common.{List, sym, subst}
 use Rattle.mon_run.specs.Endings.{Follows, progress}
 use Rattle.mon_run.specs.Trials.{trial_end}
-use Rattle.mon_run.proofs.TrialLemmas.{not_tried, tells_later, tried}
+use Rattle.mon_run.proofs.TrialLemmas.{not_tried, tried}
 use Rattle.mon_run.proofs.trial.run_made.Goals as goal
 use Rattle.run_traces.specs.declared.traces.LineTrace.{LineTrace}
 
@@ -19,8 +19,3 @@ returns-clause-tries g c = λ folder.
     (subst (λ (lines : List LineTrace). Follows (trial_end outcome.status lines c.written.result.now)
     c.say-status.result (progress folder before outcome.lines) (progress folder after outcome.lines))
     c.as_slice.ensures.items (c.say-status.ensures.said folder outcome.lines))
-
-pub returns-clause-holds : goal.returns-clause-holds
-returns-clause-holds g c =
-    tells_later c.args.number c.say-status.result c.in-Ok.outcome _ c.in-Ok.ensures.ran
-    c.say-status.ensures.ends.starved

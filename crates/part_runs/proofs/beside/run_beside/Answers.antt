@@ -1,12 +1,13 @@
 use Rattle.std.proofs.Common.{rules, ◌≡◌, false, List, length, map, refl, subst, sym}
 use Rattle.line_runs.specs.declared.lines.LineRan.{LineRan}
-use Rattle.part_runs.specs.PartsDone.{PartTells, ran_beside}
+use Rattle.part_runs.specs.PartsDone.{PartTells}
 use Rattle.part_runs.proofs.BesideLemmas.{block_did}
 use Rattle.part_runs.proofs.NumberLemmas.{block_split}
 use Rattle.part_runs.proofs.TellLemmas.{beside_plain, part_plain, part_tells}
 use Rattle.part_runs.proofs.beside.run_beside.Goals as goal
 use Rattle.run_theory.specs.Parts.{Beside}
 use Rattle.run_traces.specs.LineDues.{is_ticked}
+use Rattle.run_traces.specs.RanLines.{ran_lines}
 use Rattle.std.specs.List.{AllByRecursion}
 
 pub returns-then-len-lines-clause-ran : goal.returns-then-len-lines-clause-ran
@@ -15,7 +16,7 @@ returns-then-len-lines-clause-ran g c =
     let all : length c.run_courses.new.rans.items ≡ length c.args.lines.now = search rules in
     subst
     (λ (rans : List LineRan). PartTells c.args.store.now
-    (Beside (ran_beside c.args.lines.now c.args.contents.now (map (λ (one : LineRan). one.trace) rans)))
+    (Beside (ran_lines c.args.lines.now c.args.contents.now (map (λ (one : LineRan). one.trace) rans)))
     (map (λ (one : LineRan). one.text) rans) c.args.p.now c.run_courses.new.p) (sym c.from_vec.ensures.items)
     (part_tells c.runs_go_on.ensures.more c.texts_stay.ensures.line refl (block_did c.finds_stay.ensures.later c.texts_stay.ensures.line g.N.Names.setting c.args.store.now
     c.run_courses.new.p c.is_sound-2.ensures.pass c.is_sound-2.ensures.held c.numbers_are_counted.ensures.handed
@@ -32,7 +33,7 @@ returns-then-len-lines-clause-plain g c =
     subst (AllByRecursion (λ (one : LineRan). is_ticked one.trace ≡ false)) (sym c.from_vec.ensures.items)
     (beside_plain c.args.lines.now c.args.contents.now rans c.requires.contents all
     (part_plain c.args.store.now c.args.p.now.seen c.run_courses.new.p.seen
-    (Beside (ran_beside c.args.lines.now c.args.contents.now (map (λ (one : LineRan). one.trace) rans)))
+    (Beside (ran_lines c.args.lines.now c.args.contents.now (map (λ (one : LineRan). one.trace) rans)))
     (block_did c.finds_stay.ensures.later c.texts_stay.ensures.line g.N.Names.setting c.args.store.now
     c.run_courses.new.p c.is_sound-2.ensures.pass c.is_sound-2.ensures.held c.numbers_are_counted.ensures.handed
     c.numbers_are_counted.ensures.met c.args.p.now c.args.lines.now c.args.contents.now ran.ways

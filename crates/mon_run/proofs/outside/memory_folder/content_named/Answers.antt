@@ -1,4 +1,4 @@
-use Rattle.std.proofs.Common.{arith, ◌≡◌, ◌∙◌, ap, sym, ℕ, ◌+◌, List, ◌∷◌, drop, Some}
+use Rattle.std.proofs.Common.{arith, ◌≡◌, ◌∙◌, ap, sym, ℕ, ◌+◌, List, ◌∷◌, drop}
 use Rattle.std.proofs.lemmas.List.{drop_more}
 use Rattle.mon_value.specs.Same.{same_text}
 use Rattle.mon_run.specs.declared.outside.memory_folder.MemoryFile.{MemoryFile}
@@ -17,7 +17,7 @@ returns-then-eq c =
     ∙ c.if-eq.true in
     record {
       first = sym (c.loop-file.invariant ∙ content-here (drop i files) (drop (i + 1) files) file c.args.name.now
-          front same ∙ ap Some (sym c.as_slice.ensures.value));
+          front same);
     }
 
 pub loop-file-preserved : goal.loop-file-preserved

@@ -4,12 +4,12 @@ use Rattle.mon_run.specs.Endings.{Did, Progress}
 use Rattle.mon_run.specs.Steps.{Write}
 use Rattle.mon_run.specs.declared.stop.Stop.{Stop}
 use Rattle.mon_run.specs.declared.stop.Stop.TheVariants as stop
-use Rattle.mon_run.specs.within.Lines.{AloneHalts}
+use Rattle.mon_run.specs.within.Lines.{AloneHalts, FileRead}
 use Rattle.mon_run.specs.within.Stops.{WriteStops, seen}
 use Rattle.mon_run.proofs.DueLemmas.{noted_due, on_err_of}
 use Rattle.mon_run.proofs.EndLemmas.{counts_then}
 use Rattle.mon_run.proofs.RunLemmas.{err_weaker, handed_on}
-use Rattle.mon_run.proofs.ScriptLemmas.{alone_cut, alone_ran, alone_starved, alone_unread, ran_still}
+use Rattle.mon_run.proofs.ScriptLemmas.{alone_cut, alone_ran, alone_starved, alone_unread, read_still}
 use Rattle.mon_run.proofs.runs.Run.alone.Goals as goal
 
 pub returns-in_err-content-clause-stops : goal.returns-in_err-content-clause-stops
@@ -50,16 +50,18 @@ returns-in_err-end-clause-stops g c =
     (alone_starved c.args.store.now c.args.what.now from known
     (c.in_err-end.ensures.kept.ends ∙ append-nil read.ends ∙ ap (λ log. log.traces.items) c.content.ensures.log)
     c.run_alone.ensures.fronts
-    (λ files told. ran_still (c.in_ok-content.ensures.read files told) c.in_err-end.ensures.kept)))
+    (read_still c.in_ok-content.ensures.read c.in_err-end.ensures.kept)))
 
 pub returns-clause-ran : goal.returns-clause-ran
 returns-clause-ran g c =
+    let before : Progress = seen g.F.Folder.state g.O.Sink.state c.args.self.now in
+    let read : Progress = seen g.F.Folder.state g.O.Sink.state c.content.new.self in
     let ended : Progress = seen g.F.Folder.state g.O.Sink.state c.end.new.self in
     let after : Progress = seen g.F.Folder.state g.O.Sink.state c.write.new.self in
     on_ok_weaker c.write.result (λ wrote.
     alone_ran {content = c.as_slice.result.now} {know = c.args.p.now} {known = c.run_alone.new.p}
-    (λ files told. c.as_slice.ensures.items ∙ c.in_ok-content.ensures.content files told)
-    c.in_ok-content.ensures.read c.in_ok-ran.ensures.ran.tells c.in_ok-end.ensures.ended
+    (subst (λ (held : List ℕ). FileRead c.args.what.now held before read) (sym c.as_slice.ensures.items)
+    c.in_ok-content.ensures.read) c.in_ok-ran.ensures.ran.tells c.in_ok-end.ensures.ended
     (ap (λ log. log.traces.items) c.content.ensures.log) after
     (subst (λ (t : List ℕ). Did (Write t ∷ []) ended after) c.as_bytes.ensures.bytes wrote)
     (ap (λ log. log.traces.items) c.write.ensures.log)) c.write.ensures.wrote
@@ -67,17 +69,18 @@ returns-clause-ran g c =
 pub returns-clause-stops : goal.returns-clause-stops
 returns-clause-stops g c =
     let before : Progress = seen g.F.Folder.state g.O.Sink.state c.args.self.now in
+    let read : Progress = seen g.F.Folder.state g.O.Sink.state c.content.new.self in
     let ended : Progress = seen g.F.Folder.state g.O.Sink.state c.end.new.self in
     let after : Progress = seen g.F.Folder.state g.O.Sink.state c.write.new.self in
     err_weaker c.write.result (λ (s : Stop). WriteStops c.as_bytes.result.now s ended after)
     (λ (s : Stop). AloneHalts c.args.store.now c.args.what.now c.args.p.now.seen c.run_alone.new.p.seen s before after)
     (λ stopped stops.
     alone_cut {content = c.as_slice.result.now} {know = c.args.p.now} {known = c.run_alone.new.p}
-    (λ files told. c.as_slice.ensures.items ∙ c.in_ok-content.ensures.content files told)
-    c.in_ok-content.ensures.read c.in_ok-ran.ensures.ran.tells c.in_ok-end.ensures.ended
+    (subst (λ (held : List ℕ). FileRead c.args.what.now held before read) (sym c.as_slice.ensures.items)
+    c.in_ok-content.ensures.read) c.in_ok-ran.ensures.ran.tells c.in_ok-end.ensures.ended
     (ap (λ log. log.traces.items) c.content.ensures.log) after stopped
     (counts_then c.content.ensures.continues.counts c.end.ensures.continues.counts)
-    (ap (λ log. log.traces.items) c.write.ensures.log)
+    (ap (λ log. log.traces.items) c.write.ensures.log) c.write.ensures.folder
     (subst (λ (t : List ℕ). WriteStops t stopped ended after) c.as_bytes.ensures.bytes stops)) c.write.ensures.stops
 
 pub returns-in_err-content-clause-due_so_far : goal.returns-in_err-content-clause-due_so_far

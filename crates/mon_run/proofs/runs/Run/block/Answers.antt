@@ -12,7 +12,8 @@ use Rattle.mon_run.proofs.EndLemmas.{counts_then}
 use Rattle.mon_run.proofs.RunLemmas.{err_weaker, handed_on}
 use Rattle.mon_run.proofs.ScriptLemmas.{block_cut, block_ran, block_starved, block_unread, did_end}
 use Rattle.mon_run.proofs.runs.Run.block.Goals as goal
-use Rattle.part_runs.specs.PartsDone.{PartTells, ran_beside}
+use Rattle.part_runs.specs.PartsDone.{PartTells}
+use Rattle.run_traces.specs.RanLines.{ran_lines}
 use Rattle.run_theory.specs.Parts.{Beside}
 use Rattle.run_traces.specs.declared.traces.LineTrace.{LineTrace}
 use Rattle.running_query.proofs.GoingLemmas.{same_fronts}
@@ -88,9 +89,9 @@ returns-clause-ran g c =
     ∙ ap (λ (t : List (List ℕ)). t ++ texts) c.in_ok-texts.ensures.none in
     on_ok_weaker c.texts.result (λ wrote.
     block_ran c.args.store.now lines contents traces texts c.args.p.now c.run_beside.new.p before read noted
-    c.in_ok-contents.ensures.read
+    c.in_ok-contents.ensures.read c.in_ok-contents.ensures.count
     (length-map rans (λ (ran : LineRan). ran.trace) ∙ c.in_ok-rans.ensures.each)
-    (subst (λ (held : List (List ℕ)). PartTells c.args.store.now (Beside (ran_beside lines held traces)) texts
+    (subst (λ (held : List (List ℕ)). PartTells c.args.store.now (Beside (ran_lines lines held traces)) texts
     c.args.p.now
     c.run_beside.new.p) c.as_slice.ensures.items c.in_ok-rans.ensures.ran)
     (did_end (block_traces traces) put.folder put.sink put.ends) (ap (λ log. log.traces.items) c.contents.ensures.log)
@@ -118,13 +119,13 @@ returns-clause-stops g c =
     (λ (s : Stop). BlockHalts c.args.store.now lines c.args.p.now.seen c.run_beside.new.p.seen s before after)
     (λ stopped stops.
     block_cut c.args.store.now lines contents traces texts c.args.p.now c.run_beside.new.p before read noted
-    c.in_ok-contents.ensures.read
+    c.in_ok-contents.ensures.read c.in_ok-contents.ensures.count
     (length-map rans (λ (ran : LineRan). ran.trace) ∙ c.in_ok-rans.ensures.each)
-    (subst (λ (held : List (List ℕ)). PartTells c.args.store.now (Beside (ran_beside lines held traces)) texts
+    (subst (λ (held : List (List ℕ)). PartTells c.args.store.now (Beside (ran_lines lines held traces)) texts
     c.args.p.now
     c.run_beside.new.p) c.as_slice.ensures.items c.in_ok-rans.ensures.ran)
     (did_end (block_traces traces) put.folder put.sink put.ends) (ap (λ log. log.traces.items) c.contents.ensures.log)
-    put.ends after stopped counts (ap (λ log. log.traces.items) c.texts.ensures.log)
+    put.ends after stopped counts (ap (λ log. log.traces.items) c.texts.ensures.log) c.texts.ensures.folder
     (subst (λ (t : List (List ℕ)). TextsStop t stopped noted after) printed stops)) c.texts.ensures.stops
 
 pub returns-in_err-contents-clause-due_so_far : goal.returns-in_err-contents-clause-due_so_far

@@ -12,4 +12,4 @@ returns-in-Some-clause-ended g c =
     words_made (map string_bytes c.args.words.now) _ (noted c.made.new.self) c.made.result
     (seen g.F.Folder.state g.O.Sink.state c.made.new.self)
     (none_noted c.made.new.self (c.made.ensures.left ∙ c.requires.none_noted)) c.in-Some.ensures.number
-    c.made.ensures.ended
+    c.made.ensures.folder c.made.ensures.ended

@@ -18,11 +18,11 @@ loop-line-init g c = record {
   continues = search rules;
   log = refl;
   count = search rules;
-  read = λ files told.
+  read =
       let p : Progress = seen g.F.Folder.state g.O.Sink.state c.args.self.now in
       let lines = c.args.lines.now in
-      subst (λ (held : List (List ℕ)). ReadTo files lines lines held p p) (sym c.new-contents.ensures.empty)
-      (read_none files lines p);
+      subst (λ (held : List (List ℕ)). ReadTo lines lines held p p) (sym c.new-contents.ensures.empty)
+      (read_none lines p);
 }
 
 pub loop-line-preserved : goal.loop-line-preserved
@@ -39,11 +39,8 @@ loop-line-preserved g c =
       log = c.content.ensures.log ∙ i.log;
       count = ap (λ (l : List (List ℕ)). length l) c.in_ok-push.ensures.added
           ∙ length-append c.loop-line.contents (c.in_ok-content.content ∷ []) ∙ ap (λ n. n + 1) i.count;
-      read = λ files told.
-          let so_far = i.read files told in
-          let here = so_far.read.did.files ∙ told in
-          read_more line c.in_ok-content.content after next so_far c.in_ok-push.ensures.added
-          (c.in_ok-content.ensures.content files here) (c.in_ok-content.ensures.read files here);
+      read = read_more line c.in_ok-content.content after next i.read c.in_ok-push.ensures.added
+          c.in_ok-content.ensures.read;
     }
 
 pub returns-clause-read : goal.returns-clause-read
@@ -51,7 +48,7 @@ returns-clause-read g c =
     let count = length-drop c.loop-line.line-index c.args.lines.now in
     let none : drop c.loop-line.line-index c.args.lines.now ≡ [] = nil_from_length
     (drop c.loop-line.line-index c.args.lines.now) (omega (arith, c.loop-line-test.false)) in
-    λ files told. read_all none (c.loop-line.invariant.read files told)
+    read_all none c.loop-line.invariant.read
 
 pub returns-in_err-content-clause-stops : goal.returns-in_err-content-clause-stops
 returns-in_err-content-clause-stops g c =
@@ -65,7 +62,7 @@ returns-in_err-content-clause-stops g c =
     let after : Progress = seen g.F.Folder.state g.O.Sink.state c.content.new.self in
     handed_on c.from_residual.result (λ (s : Stop). FilesStop lines s before after) c.in_err-content.field-0.0
     (err_from_is_err_and c.from_residual.result c.from_residual.ensures.1)
-    (reads_stop {contents = λ files. c.loop-line.contents} line rest after c.in_err-content.field-0.0
+    (reads_stop line rest after c.in_err-content.field-0.0
     i.continues.counts next i.read c.in_err-content.ensures.stops)
 
 pub returns-in_err-push-clause-stops : goal.returns-in_err-push-clause-stops
@@ -80,4 +77,4 @@ returns-in_err-push-clause-stops g c =
     let after : Progress = seen g.F.Folder.state g.O.Sink.state c.content.new.self in
     handed_on c.from_residual-in_err-push.result (λ (s : Stop). FilesStop lines s before after) stop.OutOfMemory
     (err_from_is_err_and c.from_residual-in_err-push.result c.from_residual-in_err-push.ensures.1)
-    (reads_starved {contents = λ files. c.loop-line.contents} line rest next i.read c.in_ok-content.ensures.read)
+    (reads_starved line rest next i.read c.in_ok-content.ensures.read)

@@ -1,8 +1,7 @@
-use Rattle.std.proofs.Common.{◌≡◌, ◌∙◌, Option, None, ap, sym, subst}
-use Rattle.mon_value.specs.declared.histories.Histories.{Histories}
+use Rattle.std.proofs.Common.{◌∙◌, None, ap}
 use Rattle.mon_run.specs.Endings.{Progress, CommandTells}
 use Rattle.mon_run.specs.Plans.{Command, IsWovenBy, came, command}
-use Rattle.mon_run.specs.within.Stops.{Halts, files_plan, noted, seen}
+use Rattle.mon_run.specs.within.Stops.{files_plan, noted, seen}
 use Rattle.std.proofs.lemmas.Result.{err_from_is_err_and}
 use Rattle.mon_run.proofs.RunLemmas.{files_weave, none_noted, weaves_stopped}
 use Rattle.mon_run.proofs.runs.Run.files.Goals as goal
@@ -19,20 +18,16 @@ pub returns-in_err-config-clause-ended : goal.returns-in_err-config-clause-ended
 returns-in_err-config-clause-ended g c =
     let what : Command = command c.args.verb c.args.config.now c.args.file.now in
     let after : Progress = seen g.F.Folder.state g.O.Sink.state c.configuration.new.self in
-    let before : Progress = seen g.F.Folder.state g.O.Sink.state c.args.self.now in
     let known = noted c.configuration.new.self in
-    let none : known ≡ None = none_noted c.configuration.new.self
-    (ap (λ log. log.ended) c.configuration.ensures.log ∙ c.requires.none_noted) in
-    weaves_stopped (files_plan what) (IsWovenBy what) (CommandTells what) known c.from_residual.result
+    weaves_stopped (files_plan what) IsWovenBy (CommandTells what) known c.from_residual.result
     c.in_err-config.field-0.0 after
-    none (err_from_is_err_and c.from_residual.result c.from_residual.ensures.1)
-    (subst (λ (k : Option Histories). Halts (files_plan what (came None k after.ends)) c.in_err-config.field-0.0 before
-    after) (sym none) (c.in_err-config.ensures.stops c.args.verb c.args.file.now after.ends))
+    (none_noted c.configuration.new.self (ap (λ log. log.ended) c.configuration.ensures.log ∙ c.requires.none_noted))
+    (err_from_is_err_and c.from_residual.result c.from_residual.ensures.1)
+    (c.in_err-config.ensures.stops c.args.verb c.args.file.now (came None known after.ends))
 
 pub returns-clause-ended : goal.returns-clause-ended
 returns-clause-ended g c =
     let what : Command = command c.args.verb c.args.config.now c.args.file.now in
     let after : Progress = seen g.F.Folder.state g.O.Sink.state c.file_under.new.self in
     files_weave what c.in_ok-config.config (noted c.file_under.new.self) c.file_under.result after
-    c.in_ok-config.ensures.config c.in_ok-config.ensures.asked c.configuration.ensures.continues.counts
-    c.file_under.ensures.ended
+    c.in_ok-config.ensures.config c.configuration.ensures.continues.counts c.file_under.ensures.ended

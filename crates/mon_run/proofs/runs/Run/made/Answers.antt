@@ -13,6 +13,7 @@ use Rattle.mon_run.proofs.runs.Run.made.Goals as goal
 pub loop-piece-init : goal.loop-piece-init
 loop-piece-init g c = record {
   continues = search rules;
+  folder = refl;
   left = refl;
   written = record {
     steps = [];
@@ -27,6 +28,7 @@ loop-piece-preserved g c =
     rw c.in-Some.is at c.in_ok-piece.ensures.piece in
     record {
       continues = continues_then c.loop-piece.invariant.continues c.in_ok-write.ensures.continues;
+      folder = c.in_ok-write.ensures.folder ∙ c.loop-piece.invariant.folder;
       left = ap (λ log. log.ended) c.in_ok-write.ensures.log ∙ c.loop-piece.invariant.left;
       written = written_more c.in-Some.piece c.as_bytes.result.now c.next.new.self c.loop-piece.invariant.written cut
           c.as_bytes.ensures.bytes c.in_ok-write.ensures.wrote;
@@ -42,11 +44,11 @@ loop-piece-smaller g c =
 pub returns-clause-ended : goal.returns-clause-ended
 returns-clause-ended g c =
     let none = rw c.in_default.is at c.in_ok-piece.ensures.piece in
-    record { completes = λ files told. written_all c.loop-piece.invariant.written none.0; halts = tt }
+    record { completes = written_all c.loop-piece.invariant.written none.0; halts = tt }
 
 pub returns-in_err-piece-clause-ended : goal.returns-in_err-piece-clause-ended
 returns-in_err-piece-clause-ended g c =
-    ends_stopped (λ files. made_plan c.args.number) c.from_residual.result stop.OutOfMemory
+    ends_stopped (made_plan c.args.number) c.from_residual.result stop.OutOfMemory
     (err_from_is_err_and c.from_residual.result c.from_residual.ensures.1)
     (written_starved c.loop-piece.invariant.written)
 
@@ -55,7 +57,7 @@ returns-in_err-write-clause-ended g c =
     let cut : c.loop-piece.input ≡ c.in-Some.piece ∷ c.next.new.self =
     rw c.in-Some.is at c.in_ok-piece.ensures.piece in
     let after : Progress = seen g.F.Folder.state g.O.Sink.state c.write.new.self in
-    ends_stopped (λ files. made_plan c.args.number) c.from_residual-in_err-write.result c.in_err-write.field-0.0
+    ends_stopped (made_plan c.args.number) c.from_residual-in_err-write.result c.in_err-write.field-0.0
     (err_from_is_err_and c.from_residual-in_err-write.result c.from_residual-in_err-write.ensures.1)
     (written_cut c.in-Some.piece c.as_bytes.result.now c.next.new.self c.in_err-write.field-0.0 after
     c.loop-piece.invariant.written cut c.as_bytes.ensures.bytes c.loop-piece.invariant.continues.counts

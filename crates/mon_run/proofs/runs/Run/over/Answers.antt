@@ -1,7 +1,7 @@
 use Rattle.std.proofs.Common.{rules, ◌≡◌, ◌∙◌, Ok, Err, Some, Option, length, ap, sym, subst}
 use Rattle.mon_config.specs.declared.config.Config.{Config}
 use Rattle.mon_run.specs.Endings.{Progress, seen_by}
-use Rattle.mon_run.specs.within.Lines.{AllRanLines, LinesHalt, ScriptEnds}
+use Rattle.mon_run.specs.within.Lines.{LinesHalt, LinesRan, ScriptEnds}
 use Rattle.mon_run.specs.within.Stops.{noted, seen}
 use Rattle.mon_run.proofs.DueLemmas.{dues_then}
 use Rattle.mon_run.proofs.EndingLemmas.{first_leaves, first_ranges, script_done, script_halted}
@@ -42,14 +42,14 @@ returns-in-Ok-clause-ended g c =
     (held_then config g.N.Names.setting ended c.is_set_up.ensures.setting c.finish.ensures.held)
     (dues_then config.schemas lines c.args.self.now.log.now.traces.items c.lines-ended.new.self.log.now.traces.items
     after.ends c.requires.fresh (ap (λ (p : Progress). p.ends) c.note.ensures.same) c.lines-ended.ensures.due)
-    c.is_one_refused.result
-    (c.is_one_refused.ensures.refused ∙ search rules)
-    (subst (λ (p : Progress). AllRanLines config lines (first_histories config.topology) ended before p)
+    (subst (λ (p : Progress). LinesRan config lines (first_histories config.topology) ended before p)
     (sym c.note.ensures.same)
-    (subst (λ (h : Histories). AllRanLines config lines (first_histories config.topology) h before ran)
+    (subst (λ (h : Histories). LinesRan config lines (first_histories config.topology) h before ran)
     (sym c.finish.ensures.seen)
-    (subst (λ (h : Histories). AllRanLines config lines h c.lines-ended.new.p.seen before ran) c.requires.first.seen
-    c.in-Ok.ensures.ran))))
+    (subst (λ (h : Histories). LinesRan config lines h c.lines-ended.new.p.seen before ran) c.requires.first.seen
+    c.in-Ok.ensures.ran)))
+    c.is_one_refused.result
+    (c.is_one_refused.ensures.refused ∙ search rules))
 
 pub returns-in-Err-clause-ended : goal.returns-in-Err-clause-ended
 returns-in-Err-clause-ended g c =

@@ -19,8 +19,8 @@ returns-in-Run-clause-ended g c =
     let after : Progress = seen g.F.Folder.state g.O.Sink.state c.script.new.self in
     let text : List ℕ = c.args.text.now in
     let known = noted c.script.new.self in
-    subst (λ (v : Verb). Weaves (λ of files. file_plan of c.args.config files v text)
-    (λ files. IsPrinted c.args.config text) (TextTells v c.args.config text) known c.script.result before after)
+    subst (λ (v : Verb). Weaves (λ of. file_plan of c.args.config v text)
+    (λ reads. IsPrinted c.args.config text) (TextTells v c.args.config text) known c.script.result before after)
     (sym c.in-Run.is) (text_weave c.args.config text known c.script.result after c.script.ensures.ended)
 
 pub returns-in-Weave-clause-ended : goal.returns-in-Weave-clause-ended
@@ -29,8 +29,8 @@ returns-in-Weave-clause-ended g c =
     let after : Progress = seen g.F.Folder.state g.O.Sink.state c.schedule.new.self in
     let text : List ℕ = c.args.text.now in
     let known = noted c.schedule.new.self in
-    subst (λ (v : Verb). Weaves (λ of files. file_plan of c.args.config files v text)
-    (λ files. IsPrinted c.args.config text) (TextTells v c.args.config text) known c.schedule.result before after)
+    subst (λ (v : Verb). Weaves (λ of. file_plan of c.args.config v text)
+    (λ reads. IsPrinted c.args.config text) (TextTells v c.args.config text) known c.schedule.result before after)
     (sym c.in-Weave.is)
     (schedule_weave c.args.config text known c.schedule.result after
     (none_noted c.schedule.new.self (c.schedule.ensures.left ∙ c.requires.none_noted)) c.schedule.ensures.ended)

@@ -13,6 +13,7 @@ use Rattle.mon_run.proofs.runs.Run.texts.Goals as goal
 pub loop-text-init : goal.loop-text-init
 loop-text-init g c = record {
   continues = search rules;
+  folder = refl;
   log = refl;
   wrote = wrote_none c.args.texts.now (seen g.F.Folder.state g.O.Sink.state c.args.self.now);
 }
@@ -28,6 +29,7 @@ loop-text-preserved g c =
     let after : Progress = seen g.F.Folder.state g.O.Sink.state c.write.new.self in
     record {
       continues = continues_then i.continues c.write.ensures.continues;
+      folder = c.write.ensures.folder ∙ i.folder;
       log = c.write.ensures.log ∙ i.log;
       wrote = wrote_more text c.as_bytes.result.now after next c.as_bytes.ensures.bytes i.wrote
           c.in_ok-write.ensures.wrote;
