@@ -13,7 +13,8 @@ ghost use Rattle.mon_value.specs.declared.values.FieldValue.TheVariants as field
 ghost use Rattle.mon_value.specs.declared.values.Value.TheVariants as value;
 ghost use Rattle.worked_examples.specs.Marked.{all_marked};
 
-/// What is looked for in values: of a truth value its name, and in a text its windows of three bytes, with marks in front and behind.
+/// What is looked for in values: of a truth value its name, and in a text its windows of three bytes, with marks in
+/// front and behind.
 pub(crate) fn values_have_excerpts()
     ensures none { text_excerpts [] ≡ all_marked (map codes ("^^$" ∷ "^$$" ∷ [])) }
     ensures letter { text_excerpts (codes "a") ≡ all_marked (map codes ("^^a" ∷ "^a$" ∷ "a$$" ∷ [])) }
