@@ -11,13 +11,9 @@ use Rattle.history_book.specs.declared.views.BookEntry.TheVariants as one
 use Rattle.history_book.specs.declared.views.History.{History}
 use Rattle.history_book.specs.declared.views.History.TheVariants as of
 use Rattle.mon_value.specs.declared.histories.Entry.{Entry}
-use Rattle.mon_value.specs.declared.positions.Leaf.{Leaf}
-use Rattle.mon_value.specs.declared.positions.Range.{Range}
 use Rattle.history_book.specs.Histories.{IsFor, IsOfLeaf, entries, histories_in, history_numbered}
 use Rattle.history_book.specs.Histories.{numbered_as, numbers_on}
-use Rattle.history_book.specs.Seats.{Owner, Seat, after_append, after_parting}
-use Rattle.history_book.specs.Seats.{new_owner}
-use Rattle.history_book.specs.Seats.{with_guest}
+use Rattle.history_book.specs.Seats.{Owner, Seat, after_append, after_parting, new_owner, with_guest}
 use Rattle.history_book.proofs.HistoryLemmas.{entries_added, no_entries_at}
 
 abbrev pub IsNew : Owner → Type 0

@@ -4,7 +4,6 @@ ghost use Rattle.std.specs.declared.cmp.Ordering.TheVariants.{Less};
 ghost use Rattle.mon_hints.specs.Formulas.{All, And, Bucket, Or, formulas, holds};
 ghost use Rattle.mon_hints.specs.Hints.{metric_bucket, pattern_excerpts, text_excerpts, value_buckets};
 ghost use Rattle.mon_hints.specs.Hints.{value_excerpts, with_byte, with_bytes};
-ghost use Rattle.mon_hints.specs.declared.fingerprints.TheConstants.{START};
 ghost use Rattle.mon_value.specs.Grids.{grid_times};
 ghost use Rattle.mon_value.specs.Groups.{mean_of, merged_of, percentile_of};
 ghost use Rattle.mon_value.specs.Order.{target_cmp, value_cmp};
@@ -14,25 +13,27 @@ ghost use Rattle.mon_value.specs.declared.values.FieldValue.TheVariants as field
 ghost use Rattle.mon_value.specs.declared.values.Value.TheVariants as value;
 ghost use Rattle.worked_examples.specs.Marked.{all_marked};
 
-/// What is looked for in values: in a text its windows of three bytes, with marks in front and behind.
+/// What is looked for in values: of a truth value its name, and in a text its windows of three bytes, with marks in
+/// front and behind.
 pub(crate) fn values_have_excerpts()
-    ensures none { text_excerpts [] ≡ all_marked ("^^$" ∷ "^$$" ∷ []) }
-    ensures letter { text_excerpts (codes "a") ≡ all_marked ("^^a" ∷ "^a$" ∷ "a$$" ∷ []) }
-    ensures two { text_excerpts (codes "ab") ≡ all_marked ("^^a" ∷ "^ab" ∷ "ab$" ∷ "b$$" ∷ []) }
+    ensures none { text_excerpts [] ≡ all_marked (map codes ("^^$" ∷ "^$$" ∷ [])) }
+    ensures letter { text_excerpts (codes "a") ≡ all_marked (map codes ("^^a" ∷ "^a$" ∷ "a$$" ∷ [])) }
+    ensures two { text_excerpts (codes "ab") ≡ all_marked (map codes ("^^a" ∷ "^ab" ∷ "ab$" ∷ "b$$" ∷ [])) }
     ensures many { text_excerpts (codes "monarch")
-        ≡ all_marked ("^^m" ∷ "^mo" ∷ "mon" ∷ "ona" ∷ "nar" ∷ "arc" ∷ "rch" ∷ "ch$" ∷ "h$$" ∷ []) }
-    ensures number { value_excerpts (field.Int (neg_ℤ (pos 7))) ≡ codes "-7" ∷ [] }
+        ≡ all_marked (map codes ("^^m" ∷ "^mo" ∷ "mon" ∷ "ona" ∷ "nar" ∷ "arc" ∷ "rch" ∷ "ch$" ∷ "h$$" ∷ [])) }
     ensures truth { value_excerpts (field.Bool true) ≡ codes "true" ∷ [] }
 {}
 
 /// What is looked for of a pattern, by its pieces: one that is too short with its marks has no window.
 pub(crate) fn patterns_have_excerpts()
-    ensures front { pattern_excerpts (map codes ("mixer" ∷ "" ∷ [])) ≡ all_marked ("^^m" ∷ "^mi" ∷ "mix" ∷ "ixe" ∷ "xer" ∷ []) }
+    ensures front { pattern_excerpts (map codes ("mixer" ∷ "" ∷ []))
+        ≡ all_marked (map codes ("^^m" ∷ "^mi" ∷ "mix" ∷ "ixe" ∷ "xer" ∷ [])) }
     ensures within { pattern_excerpts (map codes ("" ∷ "x" ∷ "" ∷ [])) ≡ [] }
-    ensures longer { pattern_excerpts (map codes ("" ∷ "abc" ∷ "" ∷ [])) ≡ all_marked ("abc" ∷ []) }
-    ensures both { pattern_excerpts (map codes ("a" ∷ "b" ∷ [])) ≡ all_marked ("^^a" ∷ "b$$" ∷ []) }
-    ensures three { pattern_excerpts (map codes ("m" ∷ "xer" ∷ "z" ∷ [])) ≡ all_marked ("^^m" ∷ "xer" ∷ "z$$" ∷ []) }
-    ensures whole { pattern_excerpts (codes "ab" ∷ []) ≡ all_marked ("^^a" ∷ "^ab" ∷ "ab$" ∷ "b$$" ∷ []) }
+    ensures longer { pattern_excerpts (map codes ("" ∷ "abc" ∷ "" ∷ [])) ≡ all_marked (map codes ("abc" ∷ [])) }
+    ensures both { pattern_excerpts (map codes ("a" ∷ "b" ∷ [])) ≡ all_marked (map codes ("^^a" ∷ "b$$" ∷ [])) }
+    ensures three { pattern_excerpts (map codes ("m" ∷ "xer" ∷ "z" ∷ []))
+        ≡ all_marked (map codes ("^^m" ∷ "xer" ∷ "z$$" ∷ [])) }
+    ensures whole { pattern_excerpts (codes "ab" ∷ []) ≡ all_marked (map codes ("^^a" ∷ "^ab" ∷ "ab$" ∷ "b$$" ∷ [])) }
     ensures any { pattern_excerpts (map codes ("" ∷ "" ∷ [])) ≡ [] }
 {}
 
@@ -45,18 +46,18 @@ pub(crate) fn patterns_match()
     ensures whole { is_match (codes "a" ∷ []) (codes "ab") ≡ false }
 {}
 
-/// The buckets of the series of `T` and `/m` with the texts `a` and `e`, among 1,024, and how the first comes about.
+/// The buckets of the series of `T` and `/m` with the texts `a` and `e`, among 1,024. The first two steps of a
+/// fingerprint are those of the schema's name, from the start of all, and the zero behind it.
 pub(crate) fn series_have_buckets()
-    ensures start { START % 1024 ≡ 805 }
-    ensures schema { with_bytes START (codes "T") % 1024 ≡ 259 }
-    ensures zero { with_byte (with_bytes START (codes "T")) 0 % 1024 ≡ 25 }
+    ensures schema { with_bytes 14695981039346656037 (codes "T") % 1024 ≡ 259 }
+    ensures zero { with_byte (with_bytes 14695981039346656037 (codes "T")) 0 % 1024 ≡ 25 }
     ensures metric { metric_bucket 1024 (codes "T") (codes "/m") ≡ 803 }
     ensures other { metric_bucket 1024 (codes "T") (codes "/d") ≡ 776 }
     ensures host { value_buckets 1024 (codes "T") (codes "u") (field.Text (codes "a")) ≡ 345 ∷ 192 ∷ 343 ∷ [] }
     ensures place { value_buckets 1024 (codes "T") (codes "z") (field.Text (codes "e")) ≡ 872 ∷ 41 ∷ 1022 ∷ [] }
     ensures few { metric_bucket 64 (codes "T") (codes "/m") ≡ 35 }
     ensures most { metric_bucket 4096 (codes "T") (codes "/m") ≡ 1827 }
-    ensures apart { metric_bucket 1024 (codes "S") (codes "/m") ≡ 364 }
+    ensures apart { metric_bucket 1024 (codes "S") (codes "/m") ≡ 126 }
 {}
 
 /// Whether a formula holds of a series that has some buckets.
@@ -74,7 +75,8 @@ pub(crate) fn grids_have_times()
     ensures one { grid_times (record { moment = pos 600; every = pos 60; within = pos 60 }) ≡ pos 600 ∷ [] }
     ensures up { grid_times (record { moment = pos 600; every = pos 60; within = pos 150 })
         ≡ pos 600 ∷ pos 540 ∷ pos 480 ∷ [] }
-    ensures exactly { grid_times (record { moment = pos 600; every = pos 60; within = pos 120 }) ≡ pos 600 ∷ pos 540 ∷ [] }
+    ensures exactly { grid_times (record { moment = pos 600; every = pos 60; within = pos 120 })
+        ≡ pos 600 ∷ pos 540 ∷ [] }
     ensures before { grid_times (record { moment = pos 10; every = pos 60; within = pos 61 })
         ≡ pos 10 ∷ neg_ℤ (pos 50) ∷ [] }
 {}
@@ -112,6 +114,6 @@ pub(crate) fn values_are_spelled()
     ensures sign { number_of (codes "-") ≡ None }
     ensures plus { number_of (codes "+1") ≡ None }
     ensures blank { number_of (codes " 1") ≡ None }
-    ensures counts { value_text (value.Dist (4 ∷ 3 ∷ 1 ∷ [])) ≡ codes "4;3;1" }
     ensures truth { value_text (value.Bool false) ≡ codes "false" }
+    ensures text { value_text (value.Text (codes "a;b")) ≡ codes "a;b" }
 {}

@@ -1,4 +1,4 @@
-use Rattle.std.proofs.Common.{sym, subst}
+use Rattle.std.proofs.Common.{refl, sym, subst}
 use Rattle.std.specs.Prelude.{Option, Some}
 use Rattle.query_core.specs.Sides.{word_asked}
 use Rattle.query_core.specs.declared.asks.Told.{Told}
