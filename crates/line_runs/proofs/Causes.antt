@@ -24,11 +24,14 @@ use Rattle.query_core.specs.Mixtures.{typed_of}
 use Rattle.query_core.specs.Traces.{IsBetween, lengths_of, source_of}
 use Rattle.query_core.specs.declared.answers.Trace.{Trace}
 use Rattle.run_traces.specs.LineCauses.{HasCause}
-use Rattle.run_traces.specs.LineForms.{IsQuestionFault}
 use Rattle.mon_script.specs.declared.forms.LineForm.{LineForm}
-use Rattle.run_traces.specs.LineTables.{found_cuts, refusal_cuts, moment_of, text_of}
+use Rattle.run_traces.specs.LineAsks.{moment_of, text_of}
+use Rattle.run_traces.specs.LineSwitches.{found_cuts}
+use Rattle.run_traces.specs.LineTables.{refusal_cuts}
 use Rattle.run_traces.specs.declared.traces.LineFault.{LineFault}
 use Rattle.run_traces.specs.declared.traces.LineFault.TheVariants as why
+use Rattle.run_traces.specs.declared.traces.QuestionFault.{QuestionFault}
+use Rattle.run_traces.specs.declared.traces.QuestionFault.TheVariants as unanswered
 use Rattle.query_core.proofs.LeafLemmas.{same_leaves}
 
 -- ---- cuts
@@ -64,16 +67,6 @@ kept_pass test (x ∷ xs) = by (test x) refl (kept_pass test xs)
     by true is rest = (is, rest)
     by false is rest = rest
 
--- a query's fault is one of a question
-pub of_question : (refused : QueryFault) (told : LineFault) → told_fault refused ≡ Some told → IsQuestionFault told
-of_question (fault.Parse parse) told is = subst IsQuestionFault (same_Some (why.Parse parse) told is) tt
-of_question (fault.Typing typing) told is = subst IsQuestionFault (same_Some (why.Typing typing) told is) tt
-of_question (fault.NoReplica range named) told is =
-    subst IsQuestionFault (same_Some (why.NoReplica range named) told is) tt
-of_question (fault.StepLimit limit trace) told is =
-    subst IsQuestionFault (same_Some (why.StepLimit limit trace) told is) tt
-of_question fault.OutOfMemory told is = absurd cc
-
 module _ (config : Config) (what : LineForm) (before after : Knowledge) where
   -- a refusal has its cause, and names cuts that lie between
   pub record HasItsCause (told : LineFault) : Type 0 where
@@ -81,9 +74,13 @@ module _ (config : Config) (what : LineForm) (before after : Knowledge) where
     pub cuts : (leaf : Leaf) → leaf.0 < length after.seen.leaves
         → AllByRecursion (LiesBetween before.seen after.seen leaf) (refusal_cuts leaf what told)
 
+  -- for which a question has no table
+  abbrev pub IsRefusedBy : QuestionFault → Type 0
+  IsRefusedBy told = HasItsCause (why.Question told)
+
   none_up : (setting : QuerySetting) (range : Range) (named : List FoundDown)
       → IsSettingOf config (text_of what) config.limit setting
-      → HasNoReplica config.topology before.seen after.seen range named → HasItsCause (why.NoReplica range named)
+      → HasNoReplica config.topology before.seen after.seen range named → IsRefusedBy (unanswered.NoReplica range named)
   none_up setting range named of_text none =
       let are : AreFoundThen before.seen after.seen named =
       subst (AreFoundThen before.seen after.seen) (sym none.named_are)
@@ -110,7 +107,7 @@ module _ (config : Config) (what : LineForm) (before after : Knowledge) where
 
   over : (setting : QuerySetting) (limit : ℕ) (trace : Trace) → IsSettingOf config (text_of what) config.limit setting
       → IsStoppedRightly (setting_of config) setting (moment_of what) before.seen after.seen limit trace
-      → HasItsCause (why.StepLimit limit trace)
+      → IsRefusedBy (unanswered.StepLimit limit trace)
   over setting limit trace of_text stopped = record {
     cause = record {
       typed = typed_of setting;
@@ -131,14 +128,14 @@ module _ (config : Config) (what : LineForm) (before after : Knowledge) where
   -- of each query that is refused
   pub has_cause : (refused : QueryFault) → IsQueried config (text_of what) (moment_of what) config.limit before after
       (Err refused)
-      → (told : LineFault) → told_fault refused ≡ Some told → HasItsCause told
+      → (told : QuestionFault) → told_fault refused ≡ Some told → IsRefusedBy told
   has_cause (fault.Parse parse) queried told is =
-      subst HasItsCause (same_Some (why.Parse parse) told is) (record { cause = queried; cuts = λ leaf there. tt })
+      subst IsRefusedBy (same_Some (unanswered.Parse parse) told is) (record { cause = queried; cuts = λ leaf there. tt })
   has_cause (fault.Typing typing) queried told is =
-      subst HasItsCause (same_Some (why.Typing typing) told is) (record { cause = queried; cuts = λ leaf there. tt })
+      subst IsRefusedBy (same_Some (unanswered.Typing typing) told is) (record { cause = queried; cuts = λ leaf there. tt })
   has_cause (fault.NoReplica range named) queried told is =
-      subst HasItsCause (same_Some (why.NoReplica range named) told is) (none_up queried.setting range named queried.of_text queried.ends.rightly)
+      subst IsRefusedBy (same_Some (unanswered.NoReplica range named) told is) (none_up queried.setting range named queried.of_text queried.ends.rightly)
   has_cause (fault.StepLimit limit trace) queried told is =
-      subst HasItsCause (same_Some (why.StepLimit limit trace) told is)
+      subst IsRefusedBy (same_Some (unanswered.StepLimit limit trace) told is)
       (over queried.setting limit trace queried.of_text queried.ends.rightly)
   has_cause fault.OutOfMemory queried told is = absurd cc

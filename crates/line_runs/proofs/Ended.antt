@@ -4,13 +4,12 @@ use Rattle.std.specs.Prelude.{IfOk, Result, sum_by}
 use Rattle.history_book.specs.Numbers.{times_among}
 use Rattle.know.specs.Knowledge.{Knowledge}
 use Rattle.line_runs.proofs.Answered.{look_found}
-use Rattle.line_runs.proofs.Causes.{has_cause, of_question}
+use Rattle.line_runs.proofs.Causes.{has_cause}
 use Rattle.line_runs.proofs.Growing.{grown, wider}
-use Rattle.line_runs.proofs.Wrote.{OwnsAsMuch, asked_wrote, moment_is, prints_alike, refused_wrote, suits_refused}
-use Rattle.line_runs.proofs.Wrote.{text_is}
+use Rattle.line_runs.proofs.Wrote.{OwnsAsMuch, asked_wrote, prints_alike, refused_wrote}
 use Rattle.line_runs.specs.LineWrites.{LineWrote, ran_line}
 use Rattle.line_runs.specs.Questions.{IsPrinted, IsRefusedFor, asked_line, question}
-use Rattle.line_runs.specs.declared.asks.Asked.{Asked}
+use Rattle.mon_script.specs.declared.questions.How.{How}
 use Rattle.line_runs.specs.declared.lines.LineRan.{LineRan}
 use Rattle.mon_config.specs.declared.config.Config.{Config}
 use Rattle.mon_store.specs.Passes.{OwnsTheSame}
@@ -32,8 +31,8 @@ use Rattle.query_core.specs.Traces.{lengths_of, source_of}
 use Rattle.query_core.specs.declared.answers.Answer.{Answer}
 use Rattle.query_core.specs.declared.answers.Trace.{Trace}
 use Rattle.run_traces.specs.LineClaims.{HaveGrown}
-use Rattle.run_traces.specs.LineTables.{moment_of, text_of}
 use Rattle.run_traces.specs.LineTexts.{line_text}
+use Rattle.run_traces.specs.declared.traces.LineFault.TheVariants as why
 use Rattle.run_traces.specs.declared.traces.LineTrace.{LineTrace}
 use Rattle.run_traces.specs.declared.traces.LineTrace.TheVariants as came
 use Rattle.running_query.specs.Looks.{GoesOn}
@@ -88,16 +87,7 @@ module _ (store : Setting) (config : Config) (before : Knowledge)
 
   -- ---- a query that is refused
 
-  as_question : (what : Asked) (moment : ℤ) (text : List ℕ) (after : Knowledge) (result : Result Answer QueryFault)
-      → IsQueried config text moment config.limit before after result
-      → IsQueried config (text_of (question what moment text)) (moment_of (question what moment text)) config.limit before
-      after result
-  as_question what moment text after result queried =
-      subst (λ t. IsQueried config t (moment_of (question what moment text)) config.limit before after result)
-      (sym (text_is what moment text))
-      (subst (λ m. IsQueried config text m config.limit before after result) (sym (moment_is what moment text)) queried)
-
-  pub refused_ran : (what : Asked) (moment : ℤ) (text : List ℕ) (after : Knowledge) (fault : QueryFault)
+  pub refused_ran : (what : How) (moment : ℤ) (text : List ℕ) (after : Knowledge) (fault : QueryFault)
       → GoesOn store before after → IsQueried config text moment config.limit before after (Err fault)
       → {F : Type 0} (result : Result LineRan F)
       → IfOk result (IsRefusedFor config.topology fault)
@@ -106,10 +96,9 @@ module _ (store : Setting) (config : Config) (before : Knowledge)
   refused_ran what moment text after fault goes queried (Ok ran) refused = λ content.
       subst (λ (r : LineRan). LineWrote config (ran_line (question what moment text) content r.trace) r.text before
       after) (sym refused.ran_is)
-      (refused_wrote config (question what moment text) content before after (owns_behind after goes) refused.told
-      (suits_refused what moment text refused.told (of_question fault refused.told refused.told_is))
-      (has_cause config (question what moment text) before after fault
-      (as_question what moment text after (Err fault) queried) refused.told refused.told_is))
+      (refused_wrote config (question what moment text) content before after (owns_behind after goes)
+      (why.Question refused.told) tt
+      (has_cause config (question what moment text) before after fault queried refused.told refused.told_is))
   refused_ran what moment text after fault goes queried (Err failed) refused = tt
 
   -- ---- a query that is answered
@@ -131,7 +120,7 @@ module _ (store : Setting) (config : Config) (before : Knowledge)
       (trace : Trace) (plan : Plan) (buckets_of : SeriesKey → List ℕ) (leaf : Leaf)
       → AreWider from to earlier later seen more → IsTraceBetween typed moment from to seen trace
       → IsReadRightly typed plan buckets_of seen trace leaf → IsReadRightly typed plan buckets_of more trace leaf)
-      (what : Asked) (moment : ℤ) (text : List ℕ) (mid after : Knowledge) (answer : Answer)
+      (what : How) (moment : ℤ) (text : List ℕ) (mid after : Knowledge) (answer : Answer)
       (goes : GoesOn store before mid) (same : OwnsTheSame mid after)
       (ended : IsEnded config text moment config.limit before mid (Ok answer)) where
     abbrev pub IsHeld : Type 0

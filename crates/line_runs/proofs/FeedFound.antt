@@ -35,8 +35,8 @@ use Rattle.range_cell.specs.declared.answers.WriteFault.TheVariants as unwritten
 use Rattle.run_traces.specs.LineCauses.{HasRowCause, WereMissed, rows_before}
 use Rattle.run_traces.specs.LineClaims.{AllTakenFound, FoundAmid, RowFound, RowsFound, TakenFound, marked}
 use Rattle.run_traces.specs.LineFeeds.{AreTold, refused_at}
-use Rattle.run_traces.specs.LineTables.{found_cuts, row_cuts}
-use Rattle.run_traces.specs.LineSwitches.{is_fed}
+use Rattle.run_traces.specs.LineTables.{row_cuts}
+use Rattle.run_traces.specs.LineSwitches.{found_cuts, is_fed}
 use Rattle.run_traces.specs.declared.traces.RowRefusal.{RowRefusal}
 use Rattle.run_traces.specs.declared.traces.RowRefused.{RowRefused}
 use Rattle.run_traces.specs.declared.traces.RowRefused.TheVariants as refused

@@ -2,9 +2,9 @@
 use Rattle.std.proofs.Common.{◌≡◌, ◌∙◌, ◌++◌, ℕ, ℤ, List, sym, ap, subst}
 use Rattle.std.specs.List.{flat_map}
 use Rattle.know.specs.Knowledge.{Knowledge}
-use Rattle.line_runs.specs.Questions.{IsAnswerTo, IsPrinted, asked_line, meant_text}
-use Rattle.line_runs.specs.declared.asks.Asked.{Asked}
-use Rattle.line_runs.specs.declared.asks.Asked.TheVariants as asked
+use Rattle.line_runs.specs.Questions.{IsAnswerTo, IsPrinted, asked_line, meant_text, question}
+use Rattle.mon_script.specs.declared.questions.How.{How}
+use Rattle.mon_script.specs.declared.questions.How.TheVariants as asked
 use Rattle.line_runs.specs.declared.lines.LineRan.{LineRan}
 use Rattle.mon_config.specs.declared.config.Config.{Config}
 use Rattle.mon_meaning.specs.Central.{IsMeant}
@@ -23,10 +23,9 @@ use Rattle.query_core.specs.declared.answers.Trace.{Trace}
 use Rattle.query_texts.specs.TextTypes.{text_type}
 use Rattle.run_traces.specs.LineTexts.{asked_text, leaf_lines, line_text, op_line}
 use Rattle.run_traces.specs.declared.traces.LineTrace.TheVariants as came
-use Rattle.mon_script.specs.declared.forms.LineForm.TheVariants as form
 
 -- an answer's text, as that of the line that ran
-pub printed_at : (config : Config) (what : Asked) (at moment : ℤ) (text : List ℕ) (know : Knowledge) (trace : Trace)
+pub printed_at : (config : Config) (what : How) (at moment : ℤ) (text : List ℕ) (know : Knowledge) (trace : Trace)
     (ran : LineRan) (shown : List ℕ) → at ≡ moment → ran.trace ≡ came.Asked at trace → ran.text ≡ shown
     → shown ≡ line_text config know.seen (asked_line what at text (came.Asked at trace))
     → IsPrinted config what moment text know trace ran
@@ -57,17 +56,17 @@ module _ (alike : (names : List (List ℕ)) (rows others : List TimedRow) → Pr
         ≡ line_text config know.seen (asked_line asked.Query moment text (came.Asked moment answer.trace))
     query_prints =
         own_table
-        ∙ sym (ap (asked_text config know.seen (form.Query moment text) moment answer.trace) is.type_is)
+        ∙ sym (ap (asked_text config know.seen (question asked.Query moment text) moment answer.trace) is.type_is)
 
     pub check_prints : meant_text (text_type config.schemas text) (source_of know.seen answer.trace) moment
         ≡ line_text config know.seen (asked_line asked.Check moment text (came.Asked moment answer.trace))
     check_prints =
         ap (λ answered. meant_text answered (source_of know.seen answer.trace) moment) is.type_is
-        ∙ sym (ap (asked_text config know.seen (form.Check moment text) moment answer.trace) is.type_is)
+        ∙ sym (ap (asked_text config know.seen (question asked.Check moment text) moment answer.trace) is.type_is)
 
     pub explain_prints : printed_table answer.table
         ++ (flat_map op_line answer.levels ++ leaf_lines answer.trace 0 (leaves_in config.topology))
         ≡ line_text config know.seen (asked_line asked.Explain moment text (came.Asked moment answer.trace))
     explain_prints =
         (λ i. own_table i ++ (flat_map op_line (is.levels i) ++ leaf_lines answer.trace 0 (leaves_in config.topology)))
-        ∙ sym (ap (asked_text config know.seen (form.Explain moment text) moment answer.trace) is.type_is)
+        ∙ sym (ap (asked_text config know.seen (question asked.Explain moment text) moment answer.trace) is.type_is)

@@ -13,7 +13,7 @@ use Rattle.history_book.specs.declared.views.BookEntry.TheVariants as one
 use Rattle.history_book.specs.declared.views.History.{History}
 use Rattle.history_book.specs.declared.views.History.TheVariants as of
 use Rattle.know.specs.Knowledge.{Knowledge}
-use Rattle.line_runs.specs.Controls.{IsRecoveryRan, recover_told}
+use Rattle.line_runs.specs.Controls.{IsRecoveryRan, recover_told, recovery_told}
 use Rattle.line_runs.specs.LineWrites.{KeepsItsPlace, LineWrote, ran_line}
 use Rattle.line_runs.specs.declared.lines.LineRan.{LineRan}
 use Rattle.mon_config.specs.declared.config.Config.{Config}
@@ -41,13 +41,13 @@ use Rattle.query_core.specs.Traces.{IsBetween, found_leaves, lengths_of}
 use Rattle.range_cell.specs.declared.answers.RecoverFault.{RecoverFault}
 use Rattle.range_cell.specs.declared.answers.RecoverFault.TheVariants as unopened
 use Rattle.run_traces.specs.LineCauses.{HasNoSource, IsDenied}
-use Rattle.run_traces.specs.LineClaims.{RecoveryMade}
-use Rattle.run_traces.specs.LineForms.{IsRecoveryFault, Suits}
-use Rattle.run_traces.specs.LineTables.{cut_at, leaf_of}
-use Rattle.run_traces.specs.LineSwitches.{Recovery, StandsBetween, opens, recovers, recovery_of}
-use Rattle.run_traces.specs.LineTexts.{line_text, recovery_text}
-use Rattle.run_traces.specs.declared.traces.LineFault.{LineFault}
-use Rattle.run_traces.specs.declared.traces.LineFault.TheVariants as why
+use Rattle.run_traces.specs.LineAsks.{leaf_of, Recovery, recovery_of}
+use Rattle.run_traces.specs.LineForms.{Suits}
+use Rattle.run_traces.specs.LineSwitches.{IsAsked, RecoveryMade, StandsBetween, cut_at, opens, recovers, recovery_text}
+use Rattle.run_traces.specs.LineTexts.{line_text}
+use Rattle.run_traces.specs.declared.traces.ControlDone.TheVariants as did
+use Rattle.run_traces.specs.declared.traces.RecoveryFault.{RecoveryFault}
+use Rattle.run_traces.specs.declared.traces.RecoveryFault.TheVariants as closed
 use Rattle.run_traces.specs.declared.traces.LineTrace.TheVariants as came
 use Rattle.run_traces.proofs.ListFacts.{both_all, no_item}
 use Rattle.run_traces.proofs.Switched.{leaf_there, range_there}
@@ -68,40 +68,20 @@ use Rattle.query_core.proofs.LeafLemmas.{same_leaves}
 
 -- a line that asks for a recovery comes to one, or is refused
 recovery_suits : (what : LineForm) (recovery : Recovery) → recovery_of what ≡ Some recovery → (slot : Slot)
-    → Suits what (came.Recovered slot)
+    → Suits what (came.Controlled (did.Recovered slot))
 recovery_suits (form.Feed name) recovery is slot = absurd cc
-recovery_suits (form.Query moment text) recovery is slot = absurd cc
-recovery_suits (form.Check moment text) recovery is slot = absurd cc
-recovery_suits (form.Explain moment text) recovery is slot = absurd cc
-recovery_suits (form.Down leaf) recovery is slot = absurd cc
-recovery_suits (form.Up leaf) recovery is slot = absurd cc
-recovery_suits (form.Recover range leaf) recovery is slot = tt
-recovery_suits (form.Standing name period text) recovery is slot = absurd cc
-recovery_suits (form.Tick moment) recovery is slot = absurd cc
-recovery_suits form.Together recovery is slot = absurd cc
-recovery_suits form.End recovery is slot = absurd cc
+recovery_suits (form.Ask asked) recovery is slot = absurd cc
+recovery_suits (form.Control control) recovery is slot = subst IsAsked (sym is) tt
+recovery_suits (form.Standing line) recovery is slot = absurd cc
+recovery_suits (form.Block mark) recovery is slot = absurd cc
 
-of_recovery : (fault : RecoverFault) (told : LineFault) → recover_told fault ≡ Some told → IsRecoveryFault told
-of_recovery (unopened.Serving slot) told is = subst IsRecoveryFault (same_Some (why.Serving slot) told is) tt
-of_recovery unopened.ThreeServing told is = subst IsRecoveryFault (same_Some why.ThreeServing told is) tt
-of_recovery (unopened.SlotsSpent count) told is = subst IsRecoveryFault (same_Some (why.SlotsSpent count) told is) tt
-of_recovery (unopened.SourceDown founds) told is = subst IsRecoveryFault (same_Some (why.SourceDown founds) told is) tt
-of_recovery (unopened.TargetDown cut) told is = subst IsRecoveryFault (same_Some (why.TargetDown cut) told is) tt
-of_recovery unopened.OutOfMemory told is = absurd cc
-
-unopened_suits : (what : LineForm) (recovery : Recovery) → recovery_of what ≡ Some recovery → (fault : LineFault)
-    → IsRecoveryFault fault → Suits what (came.Refused fault)
-unopened_suits (form.Feed name) recovery is fault of = absurd cc
-unopened_suits (form.Query moment text) recovery is fault of = absurd cc
-unopened_suits (form.Check moment text) recovery is fault of = absurd cc
-unopened_suits (form.Explain moment text) recovery is fault of = absurd cc
-unopened_suits (form.Down leaf) recovery is fault of = absurd cc
-unopened_suits (form.Up leaf) recovery is fault of = absurd cc
-unopened_suits (form.Recover range leaf) recovery is fault of = of
-unopened_suits (form.Standing name period text) recovery is fault of = absurd cc
-unopened_suits (form.Tick moment) recovery is fault of = absurd cc
-unopened_suits form.Together recovery is fault of = absurd cc
-unopened_suits form.End recovery is fault of = absurd cc
+unopened_suits : (what : LineForm) (recovery : Recovery) → recovery_of what ≡ Some recovery → (fault : RecoveryFault)
+    → Suits what (came.Refused (recovery_told fault))
+unopened_suits (form.Feed name) recovery is fault = absurd cc
+unopened_suits (form.Ask asked) recovery is fault = absurd cc
+unopened_suits (form.Control control) recovery is fault = subst IsAsked (sym is) tt
+unopened_suits (form.Standing line) recovery is fault = absurd cc
+unopened_suits (form.Block mark) recovery is fault = absurd cc
 
 -- ---- where a new entry stands
 
@@ -230,7 +210,7 @@ module _ (config : Config) (what : LineForm) (recovery : Recovery) (asked : reco
               stands.place stands.there;
         }
 
-    pub recovered_wrote : LineWrote config (ran_line what content (came.Recovered slot))
+    pub recovered_wrote : LineWrote config (ran_line what content (came.Controlled (did.Recovered slot)))
         (recovery_text config.topology (Some recovery) slot) before after
     recovered_wrote = record {
       keeps = moved_lost recovered.moved;
@@ -321,28 +301,28 @@ module _ (config : Config) (what : LineForm) (recovery : Recovery) (asked : reco
     )
     target_cuts cut found other false same = tt
 
-    abbrev Caused : LineFault → Type 0
-    Caused = HasItsCause config what before after
+    abbrev Caused : RecoveryFault → Type 0
+    Caused told = HasItsCause config what before after (recovery_told told)
 
-    caused : (fault : RecoverFault) → IsNotRecovered config range leaf before after fault → (told : LineFault)
+    caused : (fault : RecoverFault) → IsNotRecovered config range leaf before after fault → (told : RecoveryFault)
         → recover_told fault ≡ Some told → Caused told
     caused (unopened.Serving slot) so told is =
-        subst Caused (same_Some (why.Serving slot) told is)
+        subst Caused (same_Some (closed.Serving slot) told is)
         (record { cause = denied (denial.ServesThere slot) so; cuts = λ other there. tt })
     caused unopened.ThreeServing so told is =
-        subst Caused (same_Some why.ThreeServing told is)
+        subst Caused (same_Some closed.ThreeServing told is)
         (record { cause = denied denial.ServesFully so; cuts = λ other there. tt })
     caused (unopened.SlotsSpent count) so told is =
-        subst Caused (same_Some (why.SlotsSpent count) told is)
+        subst Caused (same_Some (closed.SlotsSpent count) told is)
         (record { cause = denied (denial.SlotsSpent count) so; cuts = λ other there. tt })
     caused (unopened.SourceDown founds) so told is =
-        subst Caused (same_Some (why.SourceDown founds) told is) (record {
+        subst Caused (same_Some (closed.SourceDown founds) told is) (record {
           cause = source founds so;
           cuts = λ other there.
               founds_between before.seen after.seen other founds (all_found founds so.cause.1.down);
         })
     caused (unopened.TargetDown cut) so told is =
-        subst Caused (same_Some (why.TargetDown cut) told is) (record {
+        subst Caused (same_Some (closed.TargetDown cut) told is) (record {
           cause = record {
             recovery = recovery;
             asked = asked;
@@ -366,12 +346,12 @@ module _ (config : Config) (what : LineForm) (recovery : Recovery) (asked : reco
     caused unopened.OutOfMemory so told is = absurd cc
 
     pub unopened_wrote : (fault : RecoverFault) → IsNotRecovered config range leaf before after fault
-        → (told : LineFault) → recover_told fault ≡ Some told
-        → LineWrote config (ran_line what content (came.Refused told))
-        (line_text config after.seen (ran_line what content (came.Refused told))) before after
+        → (told : RecoveryFault) → recover_told fault ≡ Some told
+        → LineWrote config (ran_line what content (came.Refused (recovery_told told)))
+        (line_text config after.seen (ran_line what content (came.Refused (recovery_told told)))) before after
     unopened_wrote fault so told is =
-        refused_wrote config what content before after owns told
-        (unopened_suits what recovery asked told (of_recovery fault told is)) (caused fault so told is)
+        refused_wrote config what content before after owns (recovery_told told)
+        (unopened_suits what recovery asked told) (caused fault so told is)
 
   -- ---- however it ended
 

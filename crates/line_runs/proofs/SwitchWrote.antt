@@ -1,5 +1,5 @@
 -- What a line owes that took a leaf down or up, and one that found it so already.
-use Rattle.std.proofs.Common.{◌≡◌, ◌∙◌, ◌+◌, ◌≤◌, ◌++◌, ◌∷◌, ℕ, nat_eq, not, Bool, true, false, cond}
+use Rattle.std.proofs.Common.{◌≡◌, ◌∙◌, ◌+◌, ◌≤◌, ◌∷◌, ℕ, nat_eq, not, Bool, true, false, cond}
 use Rattle.std.proofs.Common.{List, [], length, take, slice_get, Some, None, Ok, Err, refl, sym, ap, subst, arith}
 use Rattle.std.specs.Prelude.{IfErr, IfOk, OnErr, Result, sum_by}
 use Rattle.std.specs.List.{AllByRecursion, count_by}
@@ -14,7 +14,6 @@ use Rattle.history_book.specs.declared.views.History.TheVariants as of
 use Rattle.know.specs.Knowledge.{Knowledge}
 use Rattle.leaf_cell.specs.Controls as cell
 use Rattle.leaf_cell.specs.Controls.{spent_fault, switch_fault}
-use Rattle.leaf_cell.specs.declared.controls.Control.TheVariants as going
 use Rattle.leaf_cell.specs.declared.controls.ControlFault.{ControlFault}
 use Rattle.leaf_cell.specs.declared.controls.ControlFault.TheVariants as unswitched
 use Rattle.line_runs.specs.Controls.{control_told, switch_ran, way}
@@ -34,12 +33,11 @@ use Rattle.mon_value.specs.declared.positions.Leaf.{Leaf}
 use Rattle.owners.specs.Puts.{pass_of}
 use Rattle.query_core.specs.Traces.{IsBetween, lengths_of}
 use Rattle.run_traces.specs.LineCauses.{HasSwitchedEnough, WasAlready}
-use Rattle.run_traces.specs.LineClaims.{SwitchMade}
-use Rattle.run_traces.specs.LineForms.{IsSwitchFault, Suits}
-use Rattle.run_traces.specs.LineTables.{cut_at, leaf_of}
-use Rattle.run_traces.specs.LineSwitches.{StandsBetween, Switch, goes, switch_entry, switch_of, switches}
-use Rattle.run_traces.specs.LineTexts.{line_text, switch_text}
-use Rattle.run_traces.specs.declared.traces.LineFault.TheVariants as why
+use Rattle.run_traces.specs.LineAsks.{leaf_of, Switch, switch_of}
+use Rattle.run_traces.specs.LineForms.{Suits}
+use Rattle.run_traces.specs.LineSwitches.{IsAsked, StandsBetween, SwitchMade, cut_at, goes, switch_entry, switch_text, switches}
+use Rattle.run_traces.specs.LineTexts.{line_text}
+use Rattle.run_traces.specs.declared.traces.ControlDone.TheVariants as did
 use Rattle.run_traces.specs.declared.traces.LineTrace.TheVariants as came
 use Rattle.run_traces.proofs.RunFacts.{book_length}
 use Rattle.line_runs.proofs.Causes.{HasItsCause, LiesBetween}
@@ -54,37 +52,20 @@ use Rattle.mon_value.proofs.PlainLemmas.{equal_means}
 
 -- a line that asks for a switch comes to one, or is refused
 switch_suits : (what : LineForm) (switch : Switch) → switch_of what ≡ Some switch → (cut : ℕ)
-    → Suits what (came.Switched cut)
+    → Suits what (came.Controlled (did.Switched cut))
 switch_suits (form.Feed name) switch is cut = absurd cc
-switch_suits (form.Query moment text) switch is cut = absurd cc
-switch_suits (form.Check moment text) switch is cut = absurd cc
-switch_suits (form.Explain moment text) switch is cut = absurd cc
-switch_suits (form.Down leaf) switch is cut = tt
-switch_suits (form.Up leaf) switch is cut = tt
-switch_suits (form.Recover range leaf) switch is cut = absurd cc
-switch_suits (form.Standing name period text) switch is cut = absurd cc
-switch_suits (form.Tick moment) switch is cut = absurd cc
-switch_suits form.Together switch is cut = absurd cc
-switch_suits form.End switch is cut = absurd cc
-
-of_switch : (fault : ControlFault) → IsSwitchFault (control_told fault)
-of_switch (unswitched.AlreadyDown cut) = tt
-of_switch (unswitched.AlreadyUp cut) = tt
-of_switch (unswitched.SwitchesSpent count) = tt
+switch_suits (form.Ask asked) switch is cut = absurd cc
+switch_suits (form.Control control) switch is cut = subst IsAsked (sym is) tt
+switch_suits (form.Standing line) switch is cut = absurd cc
+switch_suits (form.Block mark) switch is cut = absurd cc
 
 refusal_suits : (what : LineForm) (switch : Switch) → switch_of what ≡ Some switch → (fault : ControlFault)
     → Suits what (came.Refused (control_told fault))
 refusal_suits (form.Feed name) switch is fault = absurd cc
-refusal_suits (form.Query moment text) switch is fault = absurd cc
-refusal_suits (form.Check moment text) switch is fault = absurd cc
-refusal_suits (form.Explain moment text) switch is fault = absurd cc
-refusal_suits (form.Down leaf) switch is fault = of_switch fault
-refusal_suits (form.Up leaf) switch is fault = of_switch fault
-refusal_suits (form.Recover range leaf) switch is fault = absurd cc
-refusal_suits (form.Standing name period text) switch is fault = absurd cc
-refusal_suits (form.Tick moment) switch is fault = absurd cc
-refusal_suits form.Together switch is fault = absurd cc
-refusal_suits form.End switch is fault = absurd cc
+refusal_suits (form.Ask asked) switch is fault = absurd cc
+refusal_suits (form.Control control) switch is fault = subst IsAsked (sym is) tt
+refusal_suits (form.Standing line) switch is fault = absurd cc
+refusal_suits (form.Block mark) switch is fault = absurd cc
 
 -- ---- lists
 
@@ -188,7 +169,7 @@ module _ (config : Config) (what : LineForm) (switch : Switch) (asked : switch_o
       lost = λ n. ap (sum_by (times_among n)) switched.still.lost;
     }
 
-    pub switched_wrote : LineWrote config (ran_line what content (came.Switched cut))
+    pub switched_wrote : LineWrote config (ran_line what content (came.Controlled (did.Switched cut)))
         (switch_text config.topology (Some switch)) before after
     switched_wrote = record {
       keeps = switched_keeps;

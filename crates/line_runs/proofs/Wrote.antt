@@ -14,8 +14,8 @@ use Rattle.line_runs.proofs.Causes.{HasItsCause, LiesBetween, founds_between}
 use Rattle.line_runs.proofs.Growing.{forth, marks, seen_of}
 use Rattle.line_runs.specs.LineWrites.{KeepsItsPlace, LineWrote, ran_line}
 use Rattle.line_runs.specs.Questions.{asked_line, question}
-use Rattle.line_runs.specs.declared.asks.Asked.{Asked}
-use Rattle.line_runs.specs.declared.asks.Asked.TheVariants as asked
+use Rattle.mon_script.specs.declared.questions.How.{How}
+use Rattle.mon_script.specs.declared.questions.How.TheVariants as asked
 use Rattle.mon_config.specs.declared.config.Config.{Config}
 use Rattle.mon_store.specs.Writes.{own_entries}
 use Rattle.mon_table.specs.Tables.{table_text}
@@ -35,8 +35,9 @@ use Rattle.query_texts.specs.declared.faults.TextFault.{TextFault}
 use Rattle.run_traces.proofs.RunFacts.{book_length}
 use Rattle.run_traces.specs.LineCauses.{HasCause}
 use Rattle.run_traces.specs.LineClaims.{Finds, HaveGrown, LookFound, marked}
-use Rattle.run_traces.specs.LineForms.{IsQuestionFault, Suits}
-use Rattle.run_traces.specs.LineTables.{found_cuts, refusal_cuts, moment_of, text_of}
+use Rattle.run_traces.specs.LineForms.{Suits}
+use Rattle.run_traces.specs.LineSwitches.{found_cuts}
+use Rattle.run_traces.specs.LineTables.{refusal_cuts}
 use Rattle.mon_script.specs.declared.forms.LineForm.{LineForm}
 use Rattle.owners.specs.Puts.{pass_of}
 use Rattle.run_traces.specs.LineTexts.{asked_text, explanation, line_text}
@@ -56,30 +57,7 @@ pub record OwnsAsMuch (before after : Knowledge) : Type 0 where
   pub stock : after.purse.stock ≡ before.purse.stock
   pub lost : (n : ℕ) → times_lost n after.purse ≡ times_lost n before.purse
 
--- ---- the text of a question
-
-pub text_is : (what : Asked) (moment : ℤ) (text : List ℕ) → text_of (question what moment text) ≡ text
-text_is asked.Query moment text = refl
-text_is asked.Check moment text = refl
-text_is asked.Explain moment text = refl
-
-pub moment_is : (what : Asked) (moment : ℤ) (text : List ℕ) → moment_of (question what moment text) ≡ moment
-moment_is asked.Query moment text = refl
-moment_is asked.Check moment text = refl
-moment_is asked.Explain moment text = refl
-
--- what it comes to suits it
-pub suits_refused : (what : Asked) (moment : ℤ) (text : List ℕ) (told : LineFault) → IsQuestionFault told
-    → Suits (question what moment text) (came.Refused told)
-suits_refused asked.Query moment text told is = is
-suits_refused asked.Check moment text told is = is
-suits_refused asked.Explain moment text told is = is
-
-suits_asked : (what : Asked) (moment : ℤ) (text : List ℕ) (trace : Trace)
-    → Suits (question what moment text) (came.Asked moment trace)
-suits_asked asked.Query moment text trace = refl
-suits_asked asked.Check moment text trace = refl
-suits_asked asked.Explain moment text trace = refl
+-- ---- what is printed of a question
 
 -- where two histories have the same rows of a trace, an answer prints the same
 module _ (config : Config) (seen more : Histories) (moment : ℤ) (trace : Trace)
@@ -87,7 +65,7 @@ module _ (config : Config) (seen more : Histories) (moment : ℤ) (trace : Trace
   abbrev pub table_over : TypedTree → List Row → List ℕ
   table_over typed rows = table_text (column_names (columns_of typed.tree)) (meaning typed rows moment)
 
-  answer_alike : (answer : Result TypedTree TextFault) (what : Asked) (text : List ℕ)
+  answer_alike : (answer : Result TypedTree TextFault) (what : How) (text : List ℕ)
       → asked_text config more (question what moment text) moment trace answer
       ≡ asked_text config seen (question what moment text) moment trace answer
   answer_alike (Err fault) what text = refl
@@ -96,11 +74,11 @@ module _ (config : Config) (seen more : Histories) (moment : ℤ) (trace : Trace
   answer_alike (Ok typed) asked.Explain text =
       ap (λ rows. table_over typed rows ++ explanation config.topology typed trace) same
 
-  pub prints_alike : (what : Asked) (text : List ℕ)
+  pub prints_alike : (what : How) (text : List ℕ)
       → line_text config more (asked_line what moment text (came.Asked moment trace))
       ≡ line_text config seen (asked_line what moment text (came.Asked moment trace))
   prints_alike what text =
-      answer_alike (text_type config.schemas (text_of (question what moment text))) what text
+      answer_alike (text_type config.schemas text) what text
 
 -- ---- what a line owes that wrote nothing
 
@@ -166,7 +144,7 @@ module _ (config : Config) (form : LineForm) (content : List ℕ) (before after 
 
 -- ---- what a question owes that was answered
 
-module _ (config : Config) (what : Asked) (moment : ℤ) (text content : List ℕ) (before after : Knowledge)
+module _ (config : Config) (what : How) (moment : ℤ) (text content : List ℕ) (before after : Knowledge)
     (owns : OwnsAsMuch before after) where
   abbrev pub the_line : LineTrace → RanLine
   the_line trace = ran_line (question what moment text) content trace
@@ -182,7 +160,7 @@ module _ (config : Config) (what : Asked) (moment : ℤ) (text content : List �
       → Finds config after.seen since until (pass_of before) (the_line (came.Asked moment trace))
   asked_finds trace look = record {
     forth = forth before.seen after.seen owns.fronts;
-    suits = suits_asked what moment text trace;
+    suits = refl;
     told = tt;
     cuts = λ leaf there. (
       record { from = look.fresh.cuts leaf there; to = look.of.within leaf there },
@@ -193,8 +171,7 @@ module _ (config : Config) (what : Asked) (moment : ℤ) (text content : List �
           (subst (λ (high : Lengths). AllByRecursion (IsFoundBetween (marked since) high after.seen) trace.down)
           (marks after.seen) look.down))),
     );
-    found =
-        subst (λ asked. LookFound config after.seen since until asked moment trace) (sym (text_is what moment text)) look;
+    found = look;
   }
 
   pub asked_wrote : (trace : Trace) → LookFound config after.seen since until text moment trace

@@ -10,11 +10,17 @@ use Rattle.mon_topo.specs.declared.zones.ZoneSpec.{ZoneSpec}
 use Rattle.mon_value.specs.declared.positions.Slot.{Slot}
 use Rattle.range_cell.specs.declared.answers.RecoverFault.{RecoverFault}
 use Rattle.range_cell.specs.declared.answers.RecoverFault.TheVariants as unopened
-use Rattle.run_traces.specs.LineSwitches.{Recovery, Switch}
-use Rattle.run_traces.specs.LineTexts.{recovery_text, switch_text}
+use Rattle.run_traces.specs.LineAsks.{Recovery, Switch}
+use Rattle.run_traces.specs.LineSwitches.{recovery_text, switch_text}
+use Rattle.run_traces.specs.declared.traces.ControlDone.TheVariants as did
+use Rattle.run_traces.specs.declared.traces.ControlFault.TheVariants as undone
 use Rattle.run_traces.specs.declared.traces.LineFault.{LineFault}
 use Rattle.run_traces.specs.declared.traces.LineFault.TheVariants as why
 use Rattle.run_traces.specs.declared.traces.LineTrace.TheVariants as came
+use Rattle.run_traces.specs.declared.traces.RecoveryFault.{RecoveryFault}
+use Rattle.run_traces.specs.declared.traces.RecoveryFault.TheVariants as closed
+use Rattle.run_traces.specs.declared.traces.SwitchFault.{SwitchFault}
+use Rattle.run_traces.specs.declared.traces.SwitchFault.TheVariants as kept
 
 -- ---- switches
 
@@ -24,37 +30,43 @@ way true = going.Down
 way false = going.Up
 
 -- why a leaf isn't switched
+abbrev pub switch_told : ControlFault → SwitchFault
+switch_told (unswitched.AlreadyDown cut) = kept.AlreadyDown cut
+switch_told (unswitched.AlreadyUp cut) = kept.AlreadyUp cut
+switch_told (unswitched.SwitchesSpent count) = kept.SwitchesSpent count
+
 abbrev pub control_told : ControlFault → LineFault
-control_told (unswitched.AlreadyDown cut) = why.AlreadyDown cut
-control_told (unswitched.AlreadyUp cut) = why.AlreadyUp cut
-control_told (unswitched.SwitchesSpent count) = why.SwitchesSpent count
+control_told fault = why.Control (undone.Switch (switch_told fault))
 
 -- a leaf that was switched, with the length of its history then; or a refusal
 abbrev pub switch_ran : List ZoneSpec → Switch → Result ℕ ControlFault → LineRan
-switch_ran zones switch (Ok cut) = record { trace = came.Switched cut; text = switch_text zones (Some switch) }
+switch_ran zones switch (Ok cut) = record { trace = came.Controlled (did.Switched cut); text = switch_text zones (Some switch) }
 switch_ran zones switch (Err fault) = refused_for zones (control_told fault)
 
 -- ---- recoveries
 
 -- why no replica is opened, unless memory ran out
-abbrev pub recover_told : RecoverFault → Option LineFault
-recover_told (unopened.Serving slot) = Some (why.Serving slot)
-recover_told unopened.ThreeServing = Some why.ThreeServing
-recover_told (unopened.SlotsSpent count) = Some (why.SlotsSpent count)
-recover_told (unopened.SourceDown founds) = Some (why.SourceDown founds)
-recover_told (unopened.TargetDown cut) = Some (why.TargetDown cut)
+abbrev pub recover_told : RecoverFault → Option RecoveryFault
+recover_told (unopened.Serving slot) = Some (closed.Serving slot)
+recover_told unopened.ThreeServing = Some closed.ThreeServing
+recover_told (unopened.SlotsSpent count) = Some (closed.SlotsSpent count)
+recover_told (unopened.SourceDown founds) = Some (closed.SourceDown founds)
+recover_told (unopened.TargetDown cut) = Some (closed.TargetDown cut)
 recover_told unopened.OutOfMemory = None
+
+abbrev pub recovery_told : RecoveryFault → LineFault
+recovery_told fault = why.Control (undone.Recovery fault)
 
 -- a slot that was opened
 abbrev pub recovery_ran : List ZoneSpec → Recovery → Slot → LineRan
 recovery_ran zones recovery slot =
-    record { trace = came.Recovered slot; text = recovery_text zones (Some recovery) slot }
+    record { trace = came.Controlled (did.Recovered slot); text = recovery_text zones (Some recovery) slot }
 
 -- a refusal
 pub record IsNotOpenedFor (zones : List ZoneSpec) (fault : RecoverFault) (ran : LineRan) : Type 0 where
-  pub told : LineFault
+  pub told : RecoveryFault
   pub told_is : recover_told fault ≡ Some told
-  pub ran_is : ran ≡ refused_for zones told
+  pub ran_is : ran ≡ refused_for zones (recovery_told told)
 
 -- by the answer
 abbrev pub IsRecoveryRan : List ZoneSpec → Recovery → Result Slot RecoverFault → LineRan → Type 0

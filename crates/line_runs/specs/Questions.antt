@@ -3,8 +3,8 @@ use Rattle.std.specs.Prelude.{◌≡◌, ◌≤◌, ℕ, ℤ, true, List, [], Op
 use Rattle.std.specs.List.{AllByRecursion}
 use Rattle.know.specs.Knowledge.{Knowledge}
 use Rattle.line_runs.specs.LineWrites.{ran_line}
-use Rattle.line_runs.specs.declared.asks.Asked.{Asked}
-use Rattle.line_runs.specs.declared.asks.Asked.TheVariants as asked
+use Rattle.mon_script.specs.declared.questions.How.{How}
+use Rattle.mon_script.specs.Forms.{question as asking}
 use Rattle.line_runs.specs.declared.lines.LineRan.{LineRan}
 use Rattle.mon_config.specs.declared.config.Config.{Config}
 use Rattle.mon_meaning.specs.Central.{IsMeant}
@@ -28,19 +28,19 @@ use Rattle.run_traces.specs.LineTexts.{line_text, refused_line}
 use Rattle.run_traces.specs.RanLines.{RanLine}
 use Rattle.run_traces.specs.declared.traces.LineFault.{LineFault}
 use Rattle.run_traces.specs.declared.traces.LineFault.TheVariants as why
+use Rattle.run_traces.specs.declared.traces.QuestionFault.{QuestionFault}
+use Rattle.run_traces.specs.declared.traces.QuestionFault.TheVariants as unanswered
 use Rattle.run_traces.specs.declared.traces.LineTrace.{LineTrace}
 use Rattle.run_traces.specs.declared.traces.LineTrace.TheVariants as came
 use Rattle.mon_script.specs.declared.forms.LineForm.{LineForm}
 use Rattle.mon_script.specs.declared.forms.LineForm.TheVariants as form
 
 -- the line that asks so
-abbrev pub question : Asked → ℤ → List ℕ → LineForm
-question asked.Query moment text = form.Query moment text
-question asked.Check moment text = form.Check moment text
-question asked.Explain moment text = form.Explain moment text
+abbrev pub question : How → ℤ → List ℕ → LineForm
+question what moment text = form.Ask (asking what moment text)
 
 -- and what it came to
-abbrev pub asked_line : Asked → ℤ → List ℕ → LineTrace → RanLine
+abbrev pub asked_line : How → ℤ → List ℕ → LineTrace → RanLine
 asked_line what moment text trace = ran_line (question what moment text) [] trace
 
 -- ---- answers
@@ -57,7 +57,7 @@ pub record IsAnswerTo (config : Config) (text : List ℕ) (moment : ℤ) (know :
   pub levels : answer.levels ≡ op_levels typed
 
 -- the answer was printed, as far as its caller had seen then
-pub record IsPrinted (config : Config) (what : Asked) (moment : ℤ) (text : List ℕ) (know : Knowledge) (trace : Trace)
+pub record IsPrinted (config : Config) (what : How) (moment : ℤ) (text : List ℕ) (know : Knowledge) (trace : Trace)
     (ran : LineRan)
     : Type 0 where
   pub trace_is : ran.trace ≡ came.Asked moment trace
@@ -81,11 +81,11 @@ meant_text (Err fault) rows moment = []
 -- ---- refusals
 
 -- why a query has no table, unless memory ran out
-abbrev pub told_fault : QueryFault → Option LineFault
-told_fault (fault.Parse parse) = Some (why.Parse parse)
-told_fault (fault.Typing typing) = Some (why.Typing typing)
-told_fault (fault.NoReplica range founds) = Some (why.NoReplica range founds)
-told_fault (fault.StepLimit limit trace) = Some (why.StepLimit limit trace)
+abbrev pub told_fault : QueryFault → Option QuestionFault
+told_fault (fault.Parse parse) = Some (unanswered.Parse parse)
+told_fault (fault.Typing typing) = Some (unanswered.Typing typing)
+told_fault (fault.NoReplica range founds) = Some (unanswered.NoReplica range founds)
+told_fault (fault.StepLimit limit trace) = Some (unanswered.StepLimit limit trace)
 told_fault fault.OutOfMemory = None
 
 -- a line is refused for a fault
@@ -94,6 +94,6 @@ refused_for zones fault = record { trace = came.Refused fault; text = refused_li
 
 -- for that of a query
 pub record IsRefusedFor (zones : List ZoneSpec) (fault : QueryFault) (ran : LineRan) : Type 0 where
-  pub told : LineFault
+  pub told : QuestionFault
   pub told_is : told_fault fault ≡ Some told
-  pub ran_is : ran ≡ refused_for zones told
+  pub ran_is : ran ≡ refused_for zones (why.Question told)

@@ -4,7 +4,7 @@ use Rattle.line_runs.specs.Questions.{refused_for}
 use Rattle.line_runs.specs.declared.lines.LineRan.{LineRan}
 use Rattle.mon_table.specs.Tables.{newline}
 use Rattle.mon_topo.specs.declared.zones.ZoneSpec.{ZoneSpec}
-use Rattle.run_traces.specs.LineDues.{unstood_fault}
+use Rattle.run_traces.specs.declared.traces.LineFault.TheVariants as why
 use Rattle.run_traces.specs.declared.traces.LineTrace.TheVariants as came
 use Rattle.standing.specs.DueLists.{StandingState, standing_query, with_query}
 use Rattle.standing.specs.declared.faults.StandingFault.{StandingFault}
@@ -15,7 +15,7 @@ added name = record { trace = came.Done; text = codes "standing " ++ (name ++ (c
 -- by the fault of the query, if it has one
 abbrev pub standing_ran : List ZoneSpec → List ℕ → Option StandingFault → LineRan
 standing_ran zones name None = added name
-standing_ran zones name (Some fault) = refused_for zones (unstood_fault fault)
+standing_ran zones name (Some fault) = refused_for zones (why.Standing fault)
 
 -- what stands then
 abbrev pub standing_then : StandingState → List ℕ → ℤ → List ℕ → Option StandingFault → StandingState

@@ -14,6 +14,7 @@ use crate::explanations::explained_text;
 use crate::lines::LineRan;
 use crate::refusals::refused;
 use know::Names;
+use mon_script::{How, LineForm, Question};
 use mon_store::{Pass, Store};
 use mon_table::{equal_bags_print_alike, print};
 use mon_value::{OutOfMemory, Text};
@@ -22,15 +23,20 @@ use run_traces::LineTrace;
 use std::alloc::Global;
 use std::sync::Wait;
 
-/// What a question is asked for.
-#[derive(Clone, Copy)]
-pub(crate) enum Asked {
-    /// The table of a text.
-    Query,
-    /// The table that the text means, evaluated in one place over the rows that a query stands on.
-    Check,
-    /// The table, the level of each operation, and which leaves were read.
-    Explain,
+/// Asks a question.
+pub(crate) fn ask_question<N: Names, R: Wait>(
+    rt: &R,
+    alloc: Global,
+    store: &Store<N>,
+    p: &mut Pass<N>,
+    asked: &Question,
+) -> Result<LineRan, OutOfMemory>
+    requires moment { pos 0 ≤ℤ asked.now.moment }
+    ensures wrote { IfOk result (λ ran. (content : List ℕ) → LineWrote store.now
+        (ran_line (LineForm.Ask asked.now) content ran.trace) ran.text p.old p.new) }
+    ensures fronts { AreFronts p.old.seen p.new.seen }
+{
+    ask(rt, alloc, store, p, asked.how, asked.moment, &asked.text)
 }
 
 /// Asks a text at a moment.
@@ -39,7 +45,7 @@ pub(crate) fn ask<N: Names, R: Wait>(
     alloc: Global,
     store: &Store<N>,
     p: &mut Pass<N>,
-    what: Asked,
+    what: How,
     moment: i64,
     text: &Text,
 ) -> Result<LineRan, OutOfMemory>
@@ -63,7 +69,7 @@ fn answered<N: Names, R: Wait>(
     alloc: Global,
     store: &Store<N>,
     p: &mut Pass<N>,
-    what: Asked,
+    what: How,
     moment: i64,
     text: &Text,
     answer: Answer,
@@ -107,7 +113,7 @@ fn answer_text<N: Names, R: Wait>(
     alloc: Global,
     store: &Store<N>,
     p: &mut Pass<N>,
-    what: Asked,
+    what: How,
     moment: i64,
     text: &Text,
     answer: &Answer,
@@ -123,8 +129,8 @@ fn answer_text<N: Names, R: Wait>(
     store.is_set_up();
     p.is_sound();
     match what {
-        Asked::Query => print(alloc, &answer.table),
-        Asked::Check => checked_text(rt, alloc, store, p, moment, text, &answer.trace),
-        Asked::Explain => explained_text(alloc, &store.config().topology, answer),
+        How::Query => print(alloc, &answer.table),
+        How::Check => checked_text(rt, alloc, store, p, moment, text, &answer.trace),
+        How::Explain => explained_text(alloc, &store.config().topology, answer),
     }
 }

@@ -5,12 +5,13 @@ ghost use Rattle.line_runs.specs.LineWrites.{LineWrote, ran_line};
 ghost use Rattle.mon_script.specs.Lawful.{IsLawfulForm};
 ghost use Rattle.mon_script.specs.Blocks.{mark_of};
 ghost use Rattle.mon_script.specs.declared.places.Mark.TheVariants.{Acts};
+ghost use Rattle.run_traces.specs.LineAsks.{query_form};
 
-use crate::asks::{Asked, ask};
-use crate::controls::{recover, take_down, take_up};
+use crate::asks::{ask, ask_question};
+use crate::controls::run_control;
 use crate::feeds::feed;
 use know::Names;
-use mon_script::LineForm;
+use mon_script::{BlockMark, How, LineForm};
 use mon_store::{Pass, Store};
 use mon_value::{OutOfMemory, Text};
 use run_traces::LineTrace;
@@ -42,16 +43,11 @@ pub fn run_line<N: Names, R: Wait>(
 {
     match what {
         LineForm::Feed(name) => feed(rt, alloc, store, p, name, content),
-        LineForm::Query(moment, text) => ask(rt, alloc, store, p, Asked::Query, *moment, text),
-        LineForm::Check(moment, text) => ask(rt, alloc, store, p, Asked::Check, *moment, text),
-        LineForm::Explain(moment, text) => ask(rt, alloc, store, p, Asked::Explain, *moment, text),
-        LineForm::Down(leaf) => take_down(rt, alloc, store, p, *leaf),
-        LineForm::Up(leaf) => take_up(rt, alloc, store, p, *leaf),
-        LineForm::Recover(range, leaf) => recover(rt, alloc, store, p, *range, *leaf),
-        LineForm::Standing(_, _, _) => unreachable!(),
-        LineForm::Tick(_) => unreachable!(),
-        LineForm::Together => unreachable!(),
-        LineForm::End => unreachable!(),
+        LineForm::Ask(asked) => ask_question(rt, alloc, store, p, asked),
+        LineForm::Control(control) => run_control(rt, alloc, store, p, *control),
+        LineForm::Standing(_) => unreachable!(),
+        LineForm::Block(BlockMark::Together) => unreachable!(),
+        LineForm::Block(BlockMark::End) => unreachable!(),
     }
 }
 
@@ -66,8 +62,8 @@ pub fn run_query<N: Names, R: Wait>(
 ) -> Result<LineRan, OutOfMemory>
     requires moment { pos 0 ≤ℤ moment }
     ensures wrote { IfOk result (λ ran. LineWrote store.now
-        (ran_line (LineForm.Query moment text.now) [] ran.trace) ran.text p.old p.new) }
+        (ran_line (query_form moment text.now) [] ran.trace) ran.text p.old p.new) }
     ensures fronts { AreFronts p.old.seen p.new.seen }
 {
-    ask(rt, alloc, store, p, Asked::Query, moment, text)
+    ask(rt, alloc, store, p, How::Query, moment, text)
 }

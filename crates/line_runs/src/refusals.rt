@@ -2,15 +2,16 @@
 ghost use Rattle.std.specs.Prelude.{◌≡◌, IfOk, string_bytes};
 ghost use Rattle.line_runs.specs.Questions as spec;
 ghost use Rattle.line_runs.specs.Questions.{IsRefusedFor};
-ghost use Rattle.mon_script.specs.Controls.{control_refusal_text};
+ghost use Rattle.run_traces.specs.LineTexts as line;
 ghost use Rattle.run_traces.specs.LineTexts.{line_fault_text, refused_line};
 
+use crate::controls::control_text;
 use crate::lines::LineRan;
-use mon_script::{ControlRefusal, source_down_text};
 use mon_store::QueryFault;
 use mon_topo::{Topology, down_text};
 use mon_value::{OutOfMemory, Text};
-use run_traces::{LineFault, LineTrace};
+use run_traces::{LineFault, LineTrace, QuestionFault};
+use standing::{DueFault, StandingFault};
 use std::alloc::{AllocError, Global};
 
 /// A line whose query is refused. Where memory ran out the line has not run.
@@ -21,21 +22,21 @@ pub(crate) fn refused(
 ) -> Result<LineRan, OutOfMemory>
     ensures refused { IfOk result (IsRefusedFor topology.now fault) }
 {
-    match line_fault(fault) {
-        Some(told) => refused_for(alloc, topology, told),
+    match question_fault(fault) {
+        Some(told) => refused_for(alloc, topology, LineFault::Question(told)),
         None => Err(AllocError),
     }
 }
 
-// Why a line is refused, unless memory ran out.
-fn line_fault(fault: QueryFault) -> Option<LineFault>
+// Why a question has no table, unless memory ran out.
+fn question_fault(fault: QueryFault) -> Option<QuestionFault>
     ensures told { result ≡ spec.told_fault fault }
 {
     match fault {
-        QueryFault::Parse(fault) => Some(LineFault::Parse(fault)),
-        QueryFault::Typing(fault) => Some(LineFault::Typing(fault)),
-        QueryFault::NoReplica(range, founds) => Some(LineFault::NoReplica(range, founds)),
-        QueryFault::StepLimit(limit, trace) => Some(LineFault::StepLimit(limit, trace)),
+        QueryFault::Parse(fault) => Some(QuestionFault::Parse(fault)),
+        QueryFault::Typing(fault) => Some(QuestionFault::Typing(fault)),
+        QueryFault::NoReplica(range, founds) => Some(QuestionFault::NoReplica(range, founds)),
+        QueryFault::StepLimit(limit, trace) => Some(QuestionFault::StepLimit(limit, trace)),
         QueryFault::OutOfMemory => None,
     }
 }
@@ -73,36 +74,46 @@ fn fault_text(alloc: Global, topology: &Topology, fault: &LineFault) -> Result<S
     ensures text { IfOk result (λ text. string_bytes text ≡ line_fault_text topology.now fault.now) }
 {
     match fault {
-        LineFault::Parse(fault) => format!(in alloc; "Parse {fault}"),
-        LineFault::Typing(fault) => format!(in alloc; "Typing {fault}"),
-        LineFault::NoReplica(range, founds) => {
-            let down = down_text(alloc, topology, *range, founds.as_slice())?;
-            format!(in alloc; "NoReplica {down}")
-        }
-        LineFault::StepLimit(limit, _trace) => format!(in alloc; "StepLimit {limit}"),
-        LineFault::AlreadyDown(cut) => control_text(alloc, ControlRefusal::AlreadyDown(*cut)),
-        LineFault::AlreadyUp(cut) => control_text(alloc, ControlRefusal::AlreadyUp(*cut)),
-        LineFault::SwitchesSpent(most) => control_text(
-            alloc,
-            ControlRefusal::SwitchesSpent(*most as u64),
-        ),
-        LineFault::Serving(slot) => control_text(alloc, ControlRefusal::Serving(*slot)),
-        LineFault::ThreeServing => control_text(alloc, ControlRefusal::ThreeServing),
-        LineFault::SlotsSpent(count) => control_text(
-            alloc,
-            ControlRefusal::SlotsSpent(*count as u64),
-        ),
-        LineFault::SourceDown(founds) => source_down_text(alloc, topology, founds.as_slice()),
-        LineFault::TargetDown(cut) => control_text(alloc, ControlRefusal::TargetDown(*cut)),
-        LineFault::NameTaken => String::from_str(alloc, "NameTaken"),
-        LineFault::TooManyDue(most) => format!(in alloc; "TooManyDue {most}"),
-        LineFault::Backwards(last) => format!(in alloc; "Backwards {last}"),
+        LineFault::Question(fault) => question_text(alloc, topology, fault),
+        LineFault::Control(fault) => control_text(alloc, topology, fault),
+        LineFault::Standing(fault) => standing_text(alloc, *fault),
+        LineFault::Due(fault) => due_text(alloc, *fault),
     }
 }
 
-// Why a leaf is not switched, or a range is not recovered.
-fn control_text(alloc: Global, why: ControlRefusal) -> Result<String, OutOfMemory>
-    ensures text { IfOk result (λ text. string_bytes text ≡ control_refusal_text why) }
+fn question_text(
+    alloc: Global,
+    topology: &Topology,
+    fault: &QuestionFault,
+) -> Result<String, OutOfMemory>
+    ensures text { IfOk result (λ text. string_bytes text ≡ line.question_fault_text topology.now fault.now) }
 {
-    format!(in alloc; "{why}")
+    match fault {
+        QuestionFault::Parse(fault) => format!(in alloc; "Parse {fault}"),
+        QuestionFault::Typing(fault) => format!(in alloc; "Typing {fault}"),
+        QuestionFault::NoReplica(range, founds) => {
+            let down = down_text(alloc, topology, *range, founds.as_slice())?;
+            format!(in alloc; "NoReplica {down}")
+        }
+        QuestionFault::StepLimit(limit, _trace) => format!(in alloc; "StepLimit {limit}"),
+    }
+}
+
+fn standing_text(alloc: Global, fault: StandingFault) -> Result<String, OutOfMemory>
+    ensures text { IfOk result (λ text. string_bytes text ≡ line.standing_fault_text fault) }
+{
+    match fault {
+        StandingFault::NameTaken => String::from_str(alloc, "NameTaken"),
+        StandingFault::Parse(fault) => format!(in alloc; "Parse {fault}"),
+        StandingFault::Typing(fault) => format!(in alloc; "Typing {fault}"),
+    }
+}
+
+fn due_text(alloc: Global, fault: DueFault) -> Result<String, OutOfMemory>
+    ensures text { IfOk result (λ text. string_bytes text ≡ line.due_fault_text fault) }
+{
+    match fault {
+        DueFault::TooManyDue(most) => format!(in alloc; "TooManyDue {most}"),
+        DueFault::Backwards(last) => format!(in alloc; "Backwards {last}"),
+    }
 }

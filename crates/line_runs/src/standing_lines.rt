@@ -2,7 +2,6 @@
 ghost use Rattle.std.specs.Prelude.{◌≡◌, ◌≤ℤ◌, pos, IfOk, OnOk, string_bytes};
 ghost use Rattle.line_runs.specs.Questions as question;
 ghost use Rattle.line_runs.specs.StandingLines as spec;
-ghost use Rattle.run_traces.specs.LineDues as dues;
 ghost use Rattle.run_traces.specs.LineTexts as line;
 ghost use Rattle.standing.specs.DueLists.{add_fault};
 
@@ -12,7 +11,7 @@ use mon_schema::Schemas;
 use mon_topo::Topology;
 use mon_value::{OutOfMemory, Refusal, Text};
 use run_traces::{LineFault, LineTrace};
-use standing::{Due, DueFault, Standing, StandingFault};
+use standing::{Due, DueFault, Standing};
 use std::alloc::{AllocError, Global};
 
 /// Has a query stand under a name, unless another one has the name or its text has a fault.
@@ -33,7 +32,7 @@ pub fn add_standing(
 {
     match standing.add(name, period, text, schemas) {
         Ok(()) => added(alloc, name),
-        Err(Refusal::Fault(fault)) => refused_for(alloc, topology, standing_fault(fault)),
+        Err(Refusal::Fault(fault)) => refused_for(alloc, topology, LineFault::Standing(fault)),
         Err(Refusal::OutOfMemory) => Err(AllocError),
     }
 }
@@ -49,36 +48,15 @@ fn added(alloc: Global, name: &Text) -> Result<LineRan, OutOfMemory>
     })
 }
 
-// Why a query doesn't come to stand.
-fn standing_fault(fault: StandingFault) -> LineFault
-    ensures told { result ≡ dues.unstood_fault fault }
-{
-    match fault {
-        StandingFault::NameTaken => LineFault::NameTaken,
-        StandingFault::Parse(fault) => LineFault::Parse(fault),
-        StandingFault::Typing(fault) => LineFault::Typing(fault),
-    }
-}
-
 /// A tick whose moment isn't taken.
 pub fn refuse_tick(
     alloc: Global,
     topology: &Topology,
     fault: DueFault,
 ) -> Result<LineRan, OutOfMemory>
-    ensures ran { IfOk result (λ ran. ran ≡ question.refused_for topology.now (dues.undue_fault fault)) }
+    ensures ran { IfOk result (λ ran. ran ≡ question.refused_for topology.now (LineFault.Due fault)) }
 {
-    refused_for(alloc, topology, due_fault(fault))
-}
-
-// Why a moment isn't taken.
-fn due_fault(fault: DueFault) -> LineFault
-    ensures told { result ≡ dues.undue_fault fault }
-{
-    match fault {
-        DueFault::TooManyDue(most) => LineFault::TooManyDue(most),
-        DueFault::Backwards(last) => LineFault::Backwards(last),
-    }
+    refused_for(alloc, topology, LineFault::Due(fault))
 }
 
 /// The line in front of what a query prints that was due: its name and its time.

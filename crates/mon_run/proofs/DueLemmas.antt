@@ -7,6 +7,7 @@ use Rattle.std.proofs.lemmas.List.{length-map}
 use Rattle.line_runs.specs.declared.lines.LineRan.{LineRan}
 use Rattle.mon_schema.specs.Names.{SchemaLists}
 use Rattle.mon_script.specs.Blocks.{mark_of}
+use Rattle.mon_script.specs.declared.forms.BlockMark.TheVariants as block
 use Rattle.mon_script.specs.declared.forms.LineForm.{LineForm}
 use Rattle.mon_script.specs.declared.forms.LineForm.TheVariants as form
 use Rattle.mon_script.specs.declared.places.Mark.TheVariants as mark
@@ -146,30 +147,20 @@ module _ (schemas : SchemaLists) where
   opens_due : (state : StandingState) (what : LineForm) → mark_of what ≡ mark.Opens
       → IsDueBy schemas state what came.Done × (stands_behind state what came.Done ≡ state)
   opens_due state (form.Feed name) is = absurd cc
-  opens_due state (form.Query moment text) is = absurd cc
-  opens_due state (form.Check moment text) is = absurd cc
-  opens_due state (form.Explain moment text) is = absurd cc
-  opens_due state (form.Down leaf) is = absurd cc
-  opens_due state (form.Up leaf) is = absurd cc
-  opens_due state (form.Recover range leaf) is = absurd cc
-  opens_due state (form.Standing name period text) is = absurd cc
-  opens_due state (form.Tick moment) is = absurd cc
-  opens_due state form.Together is = (refl, refl)
-  opens_due state form.End is = absurd cc
+  opens_due state (form.Ask asked) is = absurd cc
+  opens_due state (form.Control control) is = absurd cc
+  opens_due state (form.Standing line) is = absurd cc
+  opens_due state (form.Block block.Together) is = (refl, refl)
+  opens_due state (form.Block block.End) is = absurd cc
 
   closes_due : (state : StandingState) (what : LineForm) → mark_of what ≡ mark.Closes
       → IsDueBy schemas state what came.Done × (stands_behind state what came.Done ≡ state)
   closes_due state (form.Feed name) is = absurd cc
-  closes_due state (form.Query moment text) is = absurd cc
-  closes_due state (form.Check moment text) is = absurd cc
-  closes_due state (form.Explain moment text) is = absurd cc
-  closes_due state (form.Down leaf) is = absurd cc
-  closes_due state (form.Up leaf) is = absurd cc
-  closes_due state (form.Recover range leaf) is = absurd cc
-  closes_due state (form.Standing name period text) is = absurd cc
-  closes_due state (form.Tick moment) is = absurd cc
-  closes_due state form.Together is = absurd cc
-  closes_due state form.End is = (refl, refl)
+  closes_due state (form.Ask asked) is = absurd cc
+  closes_due state (form.Control control) is = absurd cc
+  closes_due state (form.Standing line) is = absurd cc
+  closes_due state (form.Block block.Together) is = absurd cc
+  closes_due state (form.Block block.End) is = (refl, refl)
 
   -- lines that came to traces as they should, and left all that stands as it was
   abbrev StillDue : StandingState → Lines → Traces → Type 0

@@ -27,7 +27,8 @@ use Rattle.mon_script.specs.Blocks.{mark_of}
 use Rattle.run_theory.specs.Parts.{Alone, Beside, Part, all_lines, lines_of}
 use Rattle.run_traces.specs.LineDues.{is_refused, lines_status}
 use Rattle.run_traces.specs.LineTexts.{line_text}
-use Rattle.run_traces.specs.RanLines.{RanLine, file_named, parts_of}
+use Rattle.run_traces.specs.LineAsks.{file_of}
+use Rattle.run_traces.specs.RanLines.{RanLine, parts_of}
 use Rattle.run_traces.specs.declared.traces.LineTrace.{LineTrace}
 use Rattle.schedule_lines.specs.declared.calls.ScheduleFault.{ScheduleFault}
 use Rattle.weave_core.specs.Schedules.{Printed}
@@ -64,7 +65,7 @@ module _ (P : ℕ → Type 0) (not_long : P 8 → ⊥) (not_starved : P 6 → �
   lines_on [] contents rest is = record { same = refl; texts_are = refl }
   lines_on (what ∷ forms) [] rest is = record { same = refl; texts_are = refl }
   lines_on (what ∷ forms) (content ∷ contents) rest is =
-      let first = named_on (file_named what) content (lines_read forms contents rest) is in
+      let first = named_on (file_of what) content (lines_read forms contents rest) is in
       let second = lines_on forms contents rest (subst P (sym first.same) is) in
       record { same = second.same ∙ first.same; texts_are = first.texts_are ∙ second.texts_are }
 
@@ -90,7 +91,7 @@ module _ (P : ℕ → Type 0) (not_long : P 8 → ⊥) (not_starved : P 6 → �
   part_on : (text : RanLine → List ℕ) (part : Part RanLine) (rest : Plan) → P (part_plan text part rest).status
       → GoesOn (part_plan text part rest) (flat_map text (lines_of part)) rest
   part_on text (Alone line) rest is =
-      let on = named_on (file_named line.what) line.content
+      let on = named_on (file_of line.what) line.content
       (plan_behind (End line.trace ∷ Print (text line) ∷ []) rest) is in
       record {
         same = on.same;
@@ -127,7 +128,7 @@ module _ (P : ℕ → Type 0) (not_long : P 8 → ⊥) (not_starved : P 6 → �
 
   never_sought : (forms : List LineForm) (reads : Files) → P (sought forms reads).status → ⊥
   never_sought [] reads is = not_starved is
-  never_sought (what ∷ forms) reads is = sought_by (file_named what) reads (sought forms) (never_sought forms) is
+  never_sought (what ∷ forms) reads is = sought_by (file_of what) reads (sought forms) (never_sought forms) is
 
   none_left : (status : ℕ) (lines : List ScriptLine) (reads : Files) → P (left_plan status lines reads).status
       → lines ≡ []

@@ -18,7 +18,7 @@ use Rattle.mon_run.proofs.EndLemmas.{causes_earlier}
 use Rattle.mon_run.proofs.RunLemmas.{cut_at}
 use Rattle.mon_run.proofs.StepLemmas.{did_by, did_none, did_print, did_then, none_sought, not_long, plan_twice, starved}
 use Rattle.mon_run.proofs.StepLemmas.{stops_behind}
-use Rattle.run_traces.specs.RanLines.{file_named}
+use Rattle.run_traces.specs.LineAsks.{file_of}
 
 -- ---- parts of a plan, one behind the other
 
@@ -66,17 +66,17 @@ have_none = record {
 }
 
 -- of one
-pub have_one : (what : LineForm) (content : List ℕ) → (file_named what ≡ None → content ≡ [])
-    → HaveGiven (what ∷ []) (content ∷ []) (given_for (file_named what) content)
+pub have_one : (what : LineForm) (content : List ℕ) → (file_of what ≡ None → content ≡ [])
+    → HaveGiven (what ∷ []) (content ∷ []) (given_for (file_of what) content)
 have_one what content none = record {
   count = refl;
-  held = λ others more. next_content (file_named what) content more (contents_of others) none;
-  behind = λ more. next_behind (file_named what) content more (reads_behind []);
-  seeks = λ others more. next_seek (file_named what) content more (sought others);
+  held = λ others more. next_content (file_of what) content more (contents_of others) none;
+  behind = λ more. next_behind (file_of what) content more (reads_behind []);
+  seeks = λ others more. next_seek (file_of what) content more (sought others);
 }
 
 -- of one that names no file
-pub have_idle : (what : LineForm) → file_named what ≡ None → HaveGiven (what ∷ []) ([] ∷ []) []
+pub have_idle : (what : LineForm) → file_of what ≡ None → HaveGiven (what ∷ []) ([] ∷ []) []
 have_idle what none = subst (λ (name : Option (List ℕ)). HaveGiven (what ∷ []) ([] ∷ []) (given_for name [])) none
     (have_one what [] (λ same. refl))
 
@@ -90,7 +90,7 @@ pub behind_append : (forms others : List LineForm) (reads : Files)
     → reads_behind (forms ++ others) reads ≡ reads_behind others (reads_behind forms reads)
 behind_append [] others reads = refl
 behind_append (what ∷ forms) others reads =
-    behind_by (file_named what) reads (reads_behind forms) (reads_behind others) (reads_behind (forms ++ others))
+    behind_by (file_of what) reads (reads_behind forms) (reads_behind others) (reads_behind (forms ++ others))
     (behind_append forms others)
 
 reads_both : (forms others : List LineForm) (contents more : Contents) (rest : Plan) → length contents ≡ length forms
@@ -163,7 +163,7 @@ feed_stops what name stopped {before} {after} is stops =
     subst (λ (w : LineForm). FileStops w stopped before after) (sym is) (λ others. stops (λ content. sought others))
 
 -- another line has none
-pub other_read : (what other : LineForm) (content : List ℕ) (p : Progress) → what ≡ other → file_named other ≡ None
+pub other_read : (what other : LineForm) (content : List ℕ) (p : Progress) → what ≡ other → file_of other ≡ None
     → content ≡ [] → HaveRead (what ∷ []) (content ∷ []) p p
 other_read what other content p is none empty =
     subst (λ (w : LineForm). HaveRead (w ∷ []) (content ∷ []) p p) (sym is)

@@ -36,7 +36,8 @@ use Rattle.part_runs.specs.PartsDone.{PartTells}
 use Rattle.run_theory.specs.Parts.{Alone, Beside, Part, lines_of}
 use Rattle.run_traces.specs.LineClaims.{HaveGrown}
 use Rattle.run_traces.specs.LineTexts.{line_text}
-use Rattle.run_traces.specs.RanLines.{RanLine, file_named, ran_lines}
+use Rattle.run_traces.specs.LineAsks.{file_of}
+use Rattle.run_traces.specs.RanLines.{RanLine, ran_lines}
 use Rattle.run_traces.specs.declared.traces.LineTrace.{LineTrace}
 use Rattle.run_traces.specs.declared.traces.LineTrace.TheVariants as came
 use Rattle.running_query.proofs.GoingLemmas.{same_fronts}
@@ -381,31 +382,19 @@ pub block_count : (line end : ScriptLine) (traces : List LineTrace) (lines : Lis
 block_count line end traces lines count = ap (λ (n : ℕ). suc n) (counted end traces lines count)
 
 -- what begins a block, and what ends it, names no file
-opens_none : (what : LineForm) → mark_of what ≡ mark.Opens → file_named what ≡ None
+opens_none : (what : LineForm) → mark_of what ≡ mark.Opens → file_of what ≡ None
 opens_none (form.Feed name) is = absurd cc
-opens_none (form.Query moment text) is = refl
-opens_none (form.Check moment text) is = refl
-opens_none (form.Explain moment text) is = refl
-opens_none (form.Down leaf) is = refl
-opens_none (form.Up leaf) is = refl
-opens_none (form.Recover range leaf) is = refl
-opens_none (form.Standing name period text) is = refl
-opens_none (form.Tick moment) is = refl
-opens_none form.Together is = refl
-opens_none form.End is = refl
+opens_none (form.Ask asked) is = refl
+opens_none (form.Control control) is = refl
+opens_none (form.Standing line) is = refl
+opens_none (form.Block what) is = refl
 
-closes_none : (what : LineForm) → mark_of what ≡ mark.Closes → file_named what ≡ None
+closes_none : (what : LineForm) → mark_of what ≡ mark.Closes → file_of what ≡ None
 closes_none (form.Feed name) is = absurd cc
-closes_none (form.Query moment text) is = refl
-closes_none (form.Check moment text) is = refl
-closes_none (form.Explain moment text) is = refl
-closes_none (form.Down leaf) is = refl
-closes_none (form.Up leaf) is = refl
-closes_none (form.Recover range leaf) is = refl
-closes_none (form.Standing name period text) is = refl
-closes_none (form.Tick moment) is = refl
-closes_none form.Together is = refl
-closes_none form.End is = refl
+closes_none (form.Ask asked) is = refl
+closes_none (form.Control control) is = refl
+closes_none (form.Standing line) is = refl
+closes_none (form.Block what) is = refl
 
 -- what was read for the lines of a block was read for it with what begins it and what ends it
 block_given : (line : ScriptLine) (behind lines left : List ScriptLine) (contents : List (List ℕ)) (given : Files)

@@ -14,7 +14,7 @@ use Rattle.mon_run.specs.declared.stop.Stop.{Stop}
 use Rattle.mon_run.specs.declared.stop.Stop.TheVariants as stop
 use Rattle.mon_run.proofs.SinkLemmas.{nothing_written, written_both}
 use Rattle.mon_run.specs.within.Stops.{Done, Stops, StopsAtRead, StopsBefore}
-use Rattle.run_traces.specs.RanLines.{file_named}
+use Rattle.run_traces.specs.LineAsks.{file_of}
 use Rattle.run_traces.specs.declared.traces.LineTrace.{LineTrace}
 
 -- ---- steps behind steps
@@ -207,7 +207,7 @@ none_sought_by (Some name) (read ∷ reads) rest none = none_read name read.1 (r
 
 pub none_sought : (forms : List LineForm) (reads : Files) → AreNoLines (sought forms reads).steps
 none_sought [] reads = tt
-none_sought (what ∷ forms) reads = none_sought_by (file_named what) reads (sought forms) (none_sought forms)
+none_sought (what ∷ forms) reads = none_sought_by (file_of what) reads (sought forms) (none_sought forms)
 
 -- ---- stops at a read
 

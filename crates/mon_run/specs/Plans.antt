@@ -12,9 +12,10 @@ use Rattle.mon_script.specs.declared.places.Mark.TheVariants as mark
 use Rattle.mon_script.specs.declared.script.ScriptLine.{ScriptLine}
 use Rattle.mon_value.specs.declared.histories.Histories.{Histories}
 use Rattle.run_theory.specs.Parts.{Alone, Beside, Part}
+use Rattle.run_traces.specs.LineAsks.{file_of}
 use Rattle.run_traces.specs.LineDues.{lines_status}
 use Rattle.run_traces.specs.LineTexts.{line_text}
-use Rattle.run_traces.specs.RanLines.{RanLine, file_named, parts_of, ran_lines}
+use Rattle.run_traces.specs.RanLines.{RanLine, parts_of, ran_lines}
 use Rattle.run_traces.specs.declared.traces.LineTrace.{LineTrace}
 use Rattle.run_traces.specs.declared.traces.LineTrace.TheVariants as a_trace
 use Rattle.mon_value.specs.Same.{same_text}
@@ -50,7 +51,7 @@ named_read (Some name) content rest = read_plan name content rest
 
 -- the file that a line names, and which held this, is read before the rest
 abbrev pub line_read : LineForm → List ℕ → Plan → Plan
-line_read what = named_read (file_named what)
+line_read what = named_read (file_of what)
 
 -- the files of lines, in line order
 abbrev pub lines_read : List LineForm → List (List ℕ) → Plan → Plan
@@ -68,7 +69,7 @@ content_next (Some name) (read ∷ reads) rest = read.1 ∷ rest reads
 -- what the file of each line held: what the next of the reads gave, where the line names a file, as far as they go
 abbrev pub contents_of : List LineForm → Files → List (List ℕ)
 contents_of [] reads = []
-contents_of (what ∷ forms) reads = content_next (file_named what) reads (contents_of forms)
+contents_of (what ∷ forms) reads = content_next (file_of what) reads (contents_of forms)
 
 -- the reads behind the first
 abbrev pub behind_first : Files → Files
@@ -82,7 +83,7 @@ reads_next (Some name) reads rest = rest (behind_first reads)
 -- the reads behind those of lines
 abbrev pub reads_behind : List LineForm → Files → Files
 reads_behind [] reads = reads
-reads_behind (what ∷ forms) reads = reads_next (file_named what) reads (reads_behind forms)
+reads_behind (what ∷ forms) reads = reads_next (file_of what) reads (reads_behind forms)
 
 -- ---- lines that are left
 
@@ -93,7 +94,7 @@ seek (Some name) reads rest = next_read reads name (λ content. rest)
 -- the files of lines are read, in line order, and then memory runs out
 abbrev pub sought : List LineForm → Files → Plan
 sought [] reads = starved_plan
-sought (what ∷ forms) reads = seek (file_named what) reads (sought forms)
+sought (what ∷ forms) reads = seek (file_of what) reads (sought forms)
 
 -- what the lines of a block say, up to its end
 abbrev pub block_forms : List ScriptLine → List LineForm

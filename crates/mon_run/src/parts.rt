@@ -190,16 +190,10 @@ impl<'f, 'o, 'l, F: Folder, O: Sink> Run<'f, 'o, 'l, F, O> {
                 let content = self.read(name.as_str())?;
                 Ok(ListOf::from_vec(content))
             }
-            LineForm::Query(_, _) => Ok(ListOf::new(self.alloc)),
-            LineForm::Check(_, _) => Ok(ListOf::new(self.alloc)),
-            LineForm::Explain(_, _) => Ok(ListOf::new(self.alloc)),
-            LineForm::Down(_) => Ok(ListOf::new(self.alloc)),
-            LineForm::Up(_) => Ok(ListOf::new(self.alloc)),
-            LineForm::Recover(_, _) => Ok(ListOf::new(self.alloc)),
-            LineForm::Standing(_, _, _) => Ok(ListOf::new(self.alloc)),
-            LineForm::Tick(_) => Ok(ListOf::new(self.alloc)),
-            LineForm::Together => Ok(ListOf::new(self.alloc)),
-            LineForm::End => Ok(ListOf::new(self.alloc)),
+            LineForm::Ask(_) => Ok(ListOf::new(self.alloc)),
+            LineForm::Control(_) => Ok(ListOf::new(self.alloc)),
+            LineForm::Standing(_) => Ok(ListOf::new(self.alloc)),
+            LineForm::Block(_) => Ok(ListOf::new(self.alloc)),
         }
     }
 

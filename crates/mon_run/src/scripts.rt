@@ -187,8 +187,7 @@ fn is_refused(trace: &LineTrace) -> bool
         LineTrace::Refused(_) => true,
         LineTrace::Fed { .. } => false,
         LineTrace::Asked { .. } => false,
-        LineTrace::Switched(_) => false,
-        LineTrace::Recovered(_) => false,
+        LineTrace::Controlled(_) => false,
         LineTrace::Done => false,
     }
 }

@@ -1,17 +1,17 @@
 -- The blocks of a script that was read.
-use Rattle.std.proofs.Common.{◌≡◌, ℕ, ◌+◌, ◌<◌, ◌||◌, ◌==◌, nat_lt, Option, Some, None, Bool, true, false, cond, List, [], ◌∷◌}
+use Rattle.std.proofs.Common.{◌≡◌, ℕ, ◌+◌, ◌||◌, ◌==◌, nat_lt, Option, Some, None, Bool, true, false, cond, List, [], ◌∷◌}
 use Rattle.std.proofs.Common.{◌++◌, Result, Ok, Err, refl, sym, ap, subst, arith, ◌∙◌}
 use Rattle.std.specs.Prelude.{codes}
-use Rattle.std.specs.List.{list_any}
 use Rattle.std.proofs.lemmas.Bool.Decides.{nat_tests}
-use Rattle.mon_script.specs.Blocks.{AreInBlocks, StandsBefore, has_end, in_block, mark_of, next_place, one_more}
-use Rattle.mon_script.specs.Blocks.{outside, stand_at}
+use Rattle.mon_script.specs.Blocks.{AreInBlocks, StandsBefore, has_end, mark_of, next_place, one_more}
+use Rattle.mon_script.specs.Blocks.{stand_at}
 use Rattle.mon_script.specs.Forms.{Said, form_of}
 use Rattle.mon_script.specs.Lines.{is_remark}
 use Rattle.mon_script.specs.Scripts.{lines_read, line_read, numbered, read_as, said_read, script_from}
 use Rattle.mon_script.specs.declared.faults.ScriptFault.{ScriptFault}
 use Rattle.mon_script.specs.declared.faults.ScriptKind.{ScriptKind}
 use Rattle.mon_script.specs.declared.faults.ScriptKind.TheVariants as kind
+use Rattle.mon_script.specs.declared.forms.BlockMark.TheVariants as block
 use Rattle.mon_script.specs.declared.forms.LineForm.{LineForm}
 use Rattle.mon_script.specs.declared.forms.LineForm.TheVariants as form
 use Rattle.mon_script.specs.declared.places.Mark.{Mark}
@@ -34,9 +34,9 @@ is_end line = same_text line (codes "end")
 
 -- ---- the line that ends a block
 
-end_says : (zones : List ZoneSpec) (line : List ℕ) → is_end line ≡ true → form_of zones line ≡ Ok form.End
+end_says : (zones : List ZoneSpec) (line : List ℕ) → is_end line ≡ true → form_of zones line ≡ Ok (form.Block block.End)
 end_says zones line is =
-    subst (λ (text : List ℕ). form_of zones text ≡ Ok form.End) (sym ((same_text-Decides line (codes "end")).0 is)) refl
+    subst (λ (text : List ℕ). form_of zones text ≡ Ok (form.Block block.End)) (sym ((same_text-Decides line (codes "end")).0 is)) refl
 
 remark_is_none : (line : List ℕ) → is_remark line ≡ true → is_end line ≡ false
 remark_is_none [] is = refl
@@ -48,8 +48,8 @@ acts_is_none : (zones : List ZoneSpec) (line : List ℕ) (what : LineForm) (b : 
     → mark_of what ≡ mark.Acts → is_end line ≡ b → b ≡ false
 acts_is_none zones line what false says acts is = refl
 acts_is_none zones line what true says acts is =
-    let ends : form_of zones line ≡ Ok form.End = end_says zones line is in
-    let same : what ≡ form.End = cc in
+    let ends : form_of zones line ≡ Ok (form.Block block.End) = end_says zones line is in
+    let same : what ≡ form.Block block.End = cc in
     let closes : mark.Closes ≡ mark.Acts = sym (ap mark_of same) ∙ acts in
     absurd cc
 

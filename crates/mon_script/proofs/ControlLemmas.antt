@@ -1,13 +1,10 @@
 -- A leaf that a line names is there, and one that is recovered is in the range's zone.
 use Rattle.std.proofs.Common.{◌≡◌, ℕ, ◌<◌, Bool, true, false, cond, List, length, Option, Some, None, Result, Ok}
 use Rattle.std.proofs.Common.{Err, IfOk, arith, option_map, refl, sym, subst}
-use Rattle.std.specs.Prelude.{codes}
 use Rattle.std.specs.List.{position_from}
 use Rattle.std.specs.Option.{ok_or}
-use Rattle.mon_script.specs.Controls.{IsLawfulControl, IsRecoverable, control_of, control_word, leaf_of}
+use Rattle.mon_script.specs.Controls.{IsLawfulControl, IsRecoverable, control_of, leaf_of}
 use Rattle.mon_script.specs.Controls.{on_leaf_control, zoned_control}
-use Rattle.mon_script.specs.Forms.{as_line, control_form, control_form_by, tick_form}
-use Rattle.mon_script.specs.Lawful.{IsLawfulForm}
 use Rattle.mon_script.specs.Lines.{cut_at, has_space, space}
 use Rattle.mon_script.specs.declared.controls.ControlForm.{ControlForm}
 use Rattle.mon_script.specs.declared.controls.ControlForm.TheVariants as control
@@ -15,8 +12,6 @@ use Rattle.mon_script.specs.declared.controls.ControlWord.{ControlWord}
 use Rattle.mon_script.specs.declared.controls.ControlWord.TheVariants as word
 use Rattle.mon_script.specs.declared.faults.ScriptKind.{ScriptKind}
 use Rattle.mon_script.specs.declared.faults.ScriptKind.TheVariants as kind
-use Rattle.mon_script.specs.declared.forms.LineForm.{LineForm}
-use Rattle.mon_script.proofs.StandingLineLemmas.{tick_lawful}
 use Rattle.mon_topo.proofs.SharedZoneLemmas.{shared_zone}
 use Rattle.mon_topo.proofs.PositionLemmas.{found_within}
 use Rattle.mon_topo.proofs.RangeNameLemmas.{length-range_names}
@@ -127,41 +122,3 @@ pub if_lawful : (zones : List ZoneSpec) (what : ControlWord) (rest : List ℕ) (
     → said ≡ control_of zones what rest → IfOk said (IsLawfulControl zones)
 if_lawful zones what rest (Ok said) e = behind_lawful zones what rest said (sym e)
 if_lawful zones what rest (Err why) e = tt
-
--- ---- lines of scripts
-
-line_lawful : (zones : List ZoneSpec) (what : ControlForm) → IsLawfulControl zones what
-    → IsLawfulForm zones (as_line what)
-line_lawful zones (control.Down leaf) lawful = lawful
-line_lawful zones (control.Up leaf) lawful = lawful
-line_lawful zones (control.Recover range leaf) lawful = lawful.zoned
-
-controlled : (zones : List ZoneSpec) (found : Result ControlForm ScriptKind) (said : LineForm)
-    → ((what : ControlForm) → found ≡ Ok what → IsLawfulControl zones what)
-    → found >>= (λ what. Ok (as_line what)) ≡ Ok said → IsLawfulForm zones said
-controlled zones (Err why) said all e = absurd cc
-controlled zones (Ok what) said all e =
-    let same : as_line what ≡ said = cc in
-    subst (IsLawfulForm zones) same (line_lawful zones what (all what refl))
-
-either : (zones : List ZoneSpec) (test : Bool) (a b : Result LineForm ScriptKind) (said : LineForm)
-    → (a ≡ Ok said → IsLawfulForm zones said) → (b ≡ Ok said → IsLawfulForm zones said) → cond test a b ≡ Ok said
-    → IsLawfulForm zones said
-either zones true a b said first second e = first e
-either zones false a b said first second e = second e
-
-no_form : (zones : List ZoneSpec) (why : ScriptKind) (said : LineForm) → Err why ≡ Ok said → IsLawfulForm zones said
-no_form zones why said e = absurd cc
-
-by_word : (zones : List ZoneSpec) (word rest : List ℕ) (what : Option ControlWord) (said : LineForm)
-    → control_form_by zones word rest what ≡ Ok said → IsLawfulForm zones said
-by_word zones word rest (Some what) said e =
-    controlled zones (control_of zones what rest) said (λ found is. behind_lawful zones what rest found is) e
-by_word zones word rest None said e =
-    either zones (same_text word (codes "tick")) (tick_form rest) (Err kind.BadWord) said
-    (tick_lawful zones rest said) (no_form zones kind.BadWord said) e
-
--- what such a line says is lawful
-pub control_lawful : (zones : List ZoneSpec) (word rest : List ℕ) (said : LineForm)
-    → control_form zones word rest ≡ Ok said → IsLawfulForm zones said
-control_lawful zones word rest said e = by_word zones word rest (control_word word) said e

@@ -1,33 +1,36 @@
 -- The lines of a script that was read are lawful.
-use Rattle.std.proofs.Common.{◌≡◌, ℕ, ◌+◌, ℤ, ◌≤ℤ◌, ◌^◌, ◌-◌, ◌&&◌, pos, int_le, Option, Some, None, option_and_then}
-use Rattle.std.proofs.Common.{Bool, true, false, cond, List, [], ◌∷◌, ◌++◌, Result, Ok, Err, refl, subst, arith}
+use Rattle.std.proofs.Common.{◌≡◌, ℕ, ◌+◌, ℤ, ◌≤ℤ◌, pos, Option, Some, None}
+use Rattle.std.proofs.Common.{Bool, true, false, cond, List, [], ◌∷◌, ◌++◌, Result, Ok, Err, refl, subst}
 use Rattle.std.specs.List.{AllByRecursion}
 use Rattle.std.specs.Option.{ok_or}
 use Rattle.std.specs.Prelude.{codes}
 use Rattle.std.specs.Str.{is_utf8}
-use Rattle.std.proofs.lemmas.Int.{ints}
-use Rattle.mon_script.specs.Forms.{Said, ask_named, asked_at, asking, form_cut, form_of, said_by}
-use Rattle.mon_script.specs.Forms.{timed}
+use Rattle.mon_script.specs.Controls.{control_of, control_word, IsLawfulControl}
+use Rattle.mon_script.specs.Forms.{Said, asked_at, asked_form, form_cut, form_of, how_named, plain_by}
+use Rattle.mon_script.specs.Forms.{question, question_of, said_by, stand_form, tick_form, timed}
 use Rattle.mon_script.specs.Lawful.{IsLawfulForm, IsLawfulLine}
-use Rattle.mon_script.specs.Lines.{cut_at, is_remark, is_file_name, is_moment, moment_of, space}
+use Rattle.mon_script.specs.Lines.{cut_at, is_remark, is_file_name, moment_of, space}
 use Rattle.mon_script.specs.Blocks.{mark_of, stand_at}
+use Rattle.mon_script.specs.StandingLines.{IsLawfulStanding, stand_of, tick_of}
 use Rattle.mon_script.specs.Scripts.{line_read, lines_read, numbered, read_as}
 use Rattle.mon_script.specs.Scripts.{said_read, script_from}
 use Rattle.mon_script.specs.declared.faults.ScriptFault.{ScriptFault}
 use Rattle.mon_script.specs.declared.faults.ScriptKind.{ScriptKind}
 use Rattle.mon_script.specs.declared.faults.ScriptKind.TheVariants as kind
-use Rattle.mon_script.specs.declared.forms.Ask.{Ask}
-use Rattle.mon_script.specs.declared.forms.Ask.TheVariants as ask
+use Rattle.mon_script.specs.declared.controls.ControlWord.{ControlWord}
+use Rattle.mon_script.specs.declared.forms.BlockMark.TheVariants as mark
 use Rattle.mon_script.specs.declared.forms.LineForm.{LineForm}
 use Rattle.mon_script.specs.declared.forms.LineForm.TheVariants as form
+use Rattle.mon_script.specs.declared.questions.How.{How}
+use Rattle.mon_script.specs.declared.questions.Question.{Question}
 use Rattle.mon_script.specs.declared.script.LineRead.{LineRead}
 use Rattle.mon_script.specs.declared.script.ScriptLine.{ScriptLine}
 use Rattle.mon_topo.specs.declared.zones.ZoneSpec.{ZoneSpec}
 use Rattle.mon_value.specs.Answers.{◌>>=◌}
 use Rattle.mon_value.specs.Values.{number_of}
 use Rattle.mon_value.specs.Same.{same_text}
-use Rattle.mon_script.proofs.ControlLemmas.{control_lawful}
-use Rattle.mon_script.proofs.StandingLineLemmas.{moment_lawful, standing_lawful}
+use Rattle.mon_script.proofs.ControlLemmas.{behind_lawful}
+use Rattle.mon_script.proofs.StandingLineLemmas.{moment_lawful, standing_lawful, tick_lawful}
 
 -- ---- what a line says
 
@@ -35,41 +38,71 @@ module _ (zones : List ZoneSpec) where
   abbrev fault_of : ScriptKind → Said
   fault_of why = Err why
 
-  asking_lawful : (what : Ask) (moment : ℤ) (text : List ℕ) → pos 0 ≤ℤ moment → IsLawfulForm zones (asking what moment text)
-  asking_lawful ask.Query moment text lawful = lawful
-  asking_lawful ask.Check moment text lawful = lawful
-  asking_lawful ask.Explain moment text lawful = lawful
+  -- what a line says is lawful where the part of it that was read is
+  part_lawful : {X : Type 0} (Lawful : X → Type 0) (what : X → LineForm) (part : Result X ScriptKind) (said : LineForm)
+      → ((x : X) → Lawful x → IsLawfulForm zones (what x)) → ((x : X) → part ≡ Ok x → Lawful x)
+      → part >>= (λ x. Ok (what x)) ≡ Ok said → IsLawfulForm zones said
+  part_lawful Lawful what (Err why) said lawful all e = cc
+  part_lawful Lawful what (Ok x) said lawful all e =
+      let same : what x ≡ said = cc in subst (IsLawfulForm zones) same (lawful x (all x refl))
 
-  timed_lawful : (what : Ask) (text : List ℕ) (moment : Option ℤ) (said : LineForm)
+  abbrev IsLawfulQuestion : Question → Type 0
+  IsLawfulQuestion asked = pos 0 ≤ℤ asked.moment
+
+  timed_lawful : (way : How) (text : List ℕ) (moment : Option ℤ) (asked : Question)
       → ((m : ℤ) → moment ≡ Some m → pos 0 ≤ℤ m)
-      → ok_or moment kind.BadNumber >>= (λ m. Ok (asking what m text)) ≡ Ok said → IsLawfulForm zones said
-  timed_lawful what text None said all e = cc
-  timed_lawful what text (Some m) said all e =
-      let same : asking what m text ≡ said = cc in
-      subst (IsLawfulForm zones) same (asking_lawful what m text (all m refl))
+      → ok_or moment kind.BadNumber >>= (λ m. Ok (question way m text)) ≡ Ok asked → IsLawfulQuestion asked
+  timed_lawful way text None asked all e = cc
+  timed_lawful way text (Some m) asked all e =
+      let same : question way m text ≡ asked = cc in subst IsLawfulQuestion same (all m refl)
 
-  asked_lawful : (what : Ask) (word text : List ℕ) (utf8 : Bool) (said : LineForm)
-      → cond utf8 (timed what word text) (Err kind.BadWord) ≡ Ok said → IsLawfulForm zones said
-  asked_lawful what word text true said e =
-      timed_lawful what text (moment_of word) said (λ m. moment_lawful (number_of word) m) e
-  asked_lawful what word text false said e = cc
+  text_lawful : (way : How) (word text : List ℕ) (utf8 : Bool) (asked : Question)
+      → cond utf8 (timed way word text) (Err kind.BadWord) ≡ Ok asked → IsLawfulQuestion asked
+  text_lawful way word text true asked e =
+      timed_lawful way text (moment_of word) asked (λ m. moment_lawful (number_of word) m) e
+  text_lawful way word text false asked e = cc
 
-  words_lawful : (what : Ask) (cut : Option (List ℕ × List ℕ)) (said : LineForm)
-      → ok_or cut kind.BadWord >>= (λ words. asked_at what words.0 words.1) ≡ Ok said → IsLawfulForm zones said
-  words_lawful what None said e = cc
-  words_lawful what (Some words) said e = asked_lawful what words.0 words.1 (is_utf8 words.1) said e
+  words_lawful : (way : How) (cut : Option (List ℕ × List ℕ)) (asked : Question)
+      → ok_or cut kind.BadWord >>= (λ words. asked_at way words.0 words.1) ≡ Ok asked → IsLawfulQuestion asked
+  words_lawful way None asked e = cc
+  words_lawful way (Some words) asked e = text_lawful way words.0 words.1 (is_utf8 words.1) asked e
 
   by_lawful : (feed : Bool) (a b : Said) (said : LineForm) → (a ≡ Ok said → IsLawfulForm zones said)
       → (b ≡ Ok said → IsLawfulForm zones said) → cond feed a b ≡ Ok said → IsLawfulForm zones said
   by_lawful true a b said first second e = first e
   by_lawful false a b said first second e = second e
 
-  said_lawful : (word rest : List ℕ) (named : Option Ask) (said : LineForm)
+  bad_lawful : (said : LineForm) → fault_of kind.BadWord ≡ Ok said → IsLawfulForm zones said
+  bad_lawful said e = absurd cc
+
+  asked_lawful : (way : How) (rest : List ℕ) (said : LineForm) → asked_form way rest ≡ Ok said
+      → IsLawfulForm zones said
+  asked_lawful way rest said e =
+      part_lawful IsLawfulQuestion form.Ask (question_of way rest) said (λ asked lawful. lawful)
+      (words_lawful way (cut_at space rest)) e
+
+  stand_lawful : (rest : List ℕ) (said : LineForm) → stand_form rest ≡ Ok said → IsLawfulForm zones said
+  stand_lawful rest said e =
+      part_lawful IsLawfulStanding form.Standing (stand_of rest) said (λ line lawful. lawful) (standing_lawful rest) e
+
+  ticks_lawful : (rest : List ℕ) (said : LineForm) → tick_form rest ≡ Ok said → IsLawfulForm zones said
+  ticks_lawful rest said e =
+      part_lawful IsLawfulStanding form.Standing (tick_of rest) said (λ line lawful. lawful) (tick_lawful rest) e
+
+  plain_lawful : (word rest : List ℕ) (named : Option ControlWord) (said : LineForm)
+      → plain_by zones word rest named ≡ Ok said → IsLawfulForm zones said
+  plain_lawful word rest (Some what) said e =
+      part_lawful (IsLawfulControl zones) form.Control (control_of zones what rest) said (λ control lawful. lawful)
+      (behind_lawful zones what rest) e
+  plain_lawful word rest None said e =
+      by_lawful (same_text word (codes "tick")) _ _ said (ticks_lawful rest said) (bad_lawful said) e
+
+  said_lawful : (word rest : List ℕ) (named : Option How) (said : LineForm)
       → said_by zones word rest named ≡ Ok said → IsLawfulForm zones said
-  said_lawful word rest (Some what) said e = words_lawful what (cut_at space rest) said e
+  said_lawful word rest (Some way) said e = asked_lawful way rest said e
   said_lawful word rest None said e =
-      by_lawful (same_text word (codes "standing")) _ _ said (standing_lawful zones rest said)
-      (control_lawful zones word rest said) e
+      by_lawful (same_text word (codes "standing")) _ _ said (stand_lawful rest said)
+      (plain_lawful word rest (control_word word) said) e
 
   file_lawful : (name : List ℕ) (fits : Bool) (said : LineForm)
       → cond fits (Ok (form.Feed name)) (fault_of kind.BadWord) ≡ Ok said → IsLawfulForm zones said
@@ -82,17 +115,14 @@ module _ (zones : List ZoneSpec) where
   mark_lawful : (what said : LineForm) → IsLawfulForm zones what → said_form what ≡ Ok said → IsLawfulForm zones said
   mark_lawful what said lawful e = let same : what ≡ said = cc in subst (IsLawfulForm zones) same lawful
 
-  bad_lawful : (said : LineForm) → fault_of kind.BadWord ≡ Ok said → IsLawfulForm zones said
-  bad_lawful said e = absurd cc
-
   cut_lawful : (line : List ℕ) (cut : Option (List ℕ × List ℕ)) (said : LineForm)
       → form_cut zones line cut ≡ Ok said → IsLawfulForm zones said
   cut_lawful line (Some words) said e =
       by_lawful _ _ _ said (file_lawful words.1 (is_file_name words.1) said)
-      (said_lawful words.0 words.1 (ask_named words.0) said) e
+      (said_lawful words.0 words.1 (how_named words.0) said) e
   cut_lawful line None said e =
-      by_lawful _ _ _ said (mark_lawful form.Together said tt)
-      (by_lawful _ _ _ said (mark_lawful form.End said tt) (bad_lawful said)) e
+      by_lawful _ _ _ said (mark_lawful (form.Block mark.Together) said tt)
+      (by_lawful _ _ _ said (mark_lawful (form.Block mark.End) said tt) (bad_lawful said)) e
 
   -- a form that a line says is lawful
   pub form_lawful : (line : List ℕ) (said : LineForm) → form_of zones line ≡ Ok said

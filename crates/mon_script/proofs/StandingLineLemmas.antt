@@ -13,16 +13,14 @@ use Rattle.std.proofs.lemmas.Str.{IsUtf8-from_ascii, is_utf8-from_IsUtf8}
 use Rattle.std.proofs.lemmas.Str.Ascii.{IsAscii-from_all}
 use Rattle.mon_schema.specs.Names.{is_name, is_name_byte, is_name_start}
 use Rattle.mon_schema.specs.declared.limits.TheConstants.{LONGEST_NAME}
-use Rattle.mon_script.specs.Lawful.{IsLawfulForm}
 use Rattle.mon_script.specs.Lines.{cut_at, has_space, is_moment, moment_of, space}
-use Rattle.mon_script.specs.Forms.{is_period, moment_form, named_form, period_of, period_form, standing_form}
-use Rattle.mon_script.specs.Forms.{texts_form, tick_form}
+use Rattle.mon_script.specs.StandingLines.{behind_name, is_period, IsLawfulStanding, period_of, stand_of, texts_of}
+use Rattle.mon_script.specs.StandingLines.{tick_of, ticks_at, timed}
 use Rattle.mon_script.specs.declared.faults.ScriptKind.{ScriptKind}
 use Rattle.mon_script.specs.declared.faults.ScriptKind.TheVariants as kind
-use Rattle.mon_script.specs.declared.forms.LineForm.{LineForm}
-use Rattle.mon_script.specs.declared.forms.LineForm.TheVariants as form
+use Rattle.mon_script.specs.declared.standing_lines.StandingLine.{StandingLine}
+use Rattle.mon_script.specs.declared.standing_lines.StandingLine.TheVariants as line
 use Rattle.mon_script.specs.declared.standing_lines.TheConstants.{LONGEST_PERIOD}
-use Rattle.mon_topo.specs.declared.zones.ZoneSpec.{ZoneSpec}
 use Rattle.mon_value.specs.Answers.{◌>>=◌}
 use Rattle.mon_value.specs.Values.{number_of, text_in}
 
@@ -49,57 +47,56 @@ period_lawful None period e = cc
 period_lawful (Some z) period e =
     in_bounds (pos 1) z period (int_le (pos 1) z) (int_le z LONGEST_PERIOD) refl e
 
--- ---- forms
+-- ---- lines
 
-module _ (zones : List ZoneSpec) where
-  abbrev bad : ScriptKind → Result LineForm ScriptKind
-  bad why = Err why
+abbrev bad : ScriptKind → Result StandingLine ScriptKind
+bad why = Err why
 
-  timed : (moment : Option ℤ) (said : LineForm) → ((m : ℤ) → moment ≡ Some m → pos 0 ≤ℤ m)
-      → moment_form moment ≡ Ok said → IsLawfulForm zones said
-  timed None said all e = absurd cc
-  timed (Some m) said all e =
-      let same : form.Tick m ≡ said = cc in subst (IsLawfulForm zones) same (all m refl)
+ticks_by : (moment : Option ℤ) (said : StandingLine) → ((m : ℤ) → moment ≡ Some m → pos 0 ≤ℤ m)
+    → ticks_at moment ≡ Ok said → IsLawfulStanding said
+ticks_by None said all e = absurd cc
+ticks_by (Some m) said all e =
+    let same : line.Tick m ≡ said = cc in subst IsLawfulStanding same (all m refl)
 
-  tick_by : (word : List ℕ) (spaced : Bool) (said : LineForm)
-      → cond spaced (bad kind.BadWord) (moment_form (moment_of word)) ≡ Ok said → IsLawfulForm zones said
-  tick_by word true said e = absurd cc
-  tick_by word false said e = timed (moment_of word) said (moment_lawful (number_of word)) e
+tick_by : (word : List ℕ) (spaced : Bool) (said : StandingLine)
+    → cond spaced (bad kind.BadWord) (ticks_at (moment_of word)) ≡ Ok said → IsLawfulStanding said
+tick_by word true said e = absurd cc
+tick_by word false said e = ticks_by (moment_of word) said (moment_lawful (number_of word)) e
 
-  pub tick_lawful : (word : List ℕ) (said : LineForm) → tick_form word ≡ Ok said → IsLawfulForm zones said
-  tick_lawful word said e = tick_by word (has_space word) said e
+pub tick_lawful : (word : List ℕ) (said : StandingLine) → tick_of word ≡ Ok said → IsLawfulStanding said
+tick_lawful word said e = tick_by word (has_space word) said e
 
-  period_by : (name text : List ℕ) (period : Option ℤ) (said : LineForm)
-      → ((p : ℤ) → period ≡ Some p → pos 1 ≤ℤ p)
-      → ok_or period kind.BadNumber >>= (λ p. Ok (form.Standing name p text)) ≡ Ok said → IsLawfulForm zones said
-  period_by name text None said all e = absurd cc
-  period_by name text (Some p) said all e =
-      let same : form.Standing name p text ≡ said = cc in subst (IsLawfulForm zones) same (all p refl)
+period_by : (name text : List ℕ) (period : Option ℤ) (said : StandingLine)
+    → ((p : ℤ) → period ≡ Some p → pos 1 ≤ℤ p)
+    → ok_or period kind.BadNumber >>= (λ p. Ok (line.Stand name p text)) ≡ Ok said → IsLawfulStanding said
+period_by name text None said all e = absurd cc
+period_by name text (Some p) said all e =
+    let same : line.Stand name p text ≡ said = cc in subst IsLawfulStanding same (all p refl)
 
-  texts_by : (name word text : List ℕ) (utf8 : Bool) (said : LineForm)
-      → cond utf8 (period_form name word text) (bad kind.BadWord) ≡ Ok said → IsLawfulForm zones said
-  texts_by name word text true said e =
-      period_by name text (period_of word) said (period_lawful (number_of word)) e
-  texts_by name word text false said e = absurd cc
+texts_by : (name word text : List ℕ) (utf8 : Bool) (said : StandingLine)
+    → cond utf8 (timed name word text) (bad kind.BadWord) ≡ Ok said → IsLawfulStanding said
+texts_by name word text true said e =
+    period_by name text (period_of word) said (period_lawful (number_of word)) e
+texts_by name word text false said e = absurd cc
 
-  behind_by : (name : List ℕ) (cut : Option (List ℕ × List ℕ)) (said : LineForm)
-      → ok_or cut kind.BadWord >>= (λ words. texts_form name words.0 words.1) ≡ Ok said → IsLawfulForm zones said
-  behind_by name None said e = absurd cc
-  behind_by name (Some words) said e = texts_by name words.0 words.1 (is_utf8 words.1) said e
+behind_by : (name : List ℕ) (cut : Option (List ℕ × List ℕ)) (said : StandingLine)
+    → ok_or cut kind.BadWord >>= (λ words. texts_of name words.0 words.1) ≡ Ok said → IsLawfulStanding said
+behind_by name None said e = absurd cc
+behind_by name (Some words) said e = texts_by name words.0 words.1 (is_utf8 words.1) said e
 
-  named_by : (name rest : List ℕ) (named : Bool) (said : LineForm)
-      → cond named (ok_or (cut_at space rest) kind.BadWord >>= λ words. texts_form name words.0 words.1)
-      (bad kind.BadWord) ≡ Ok said → IsLawfulForm zones said
-  named_by name rest true said e = behind_by name (cut_at space rest) said e
-  named_by name rest false said e = absurd cc
+named_by : (name rest : List ℕ) (named : Bool) (said : StandingLine)
+    → cond named (ok_or (cut_at space rest) kind.BadWord >>= λ words. texts_of name words.0 words.1)
+    (bad kind.BadWord) ≡ Ok said → IsLawfulStanding said
+named_by name rest true said e = behind_by name (cut_at space rest) said e
+named_by name rest false said e = absurd cc
 
-  standing_by : (cut : Option (List ℕ × List ℕ)) (said : LineForm)
-      → ok_or cut kind.BadWord >>= (λ words. named_form words.0 words.1) ≡ Ok said → IsLawfulForm zones said
-  standing_by None said e = absurd cc
-  standing_by (Some words) said e = named_by words.0 words.1 (is_name words.0) said e
+standing_by : (cut : Option (List ℕ × List ℕ)) (said : StandingLine)
+    → ok_or cut kind.BadWord >>= (λ words. behind_name words.0 words.1) ≡ Ok said → IsLawfulStanding said
+standing_by None said e = absurd cc
+standing_by (Some words) said e = named_by words.0 words.1 (is_name words.0) said e
 
-  pub standing_lawful : (rest : List ℕ) (said : LineForm) → standing_form rest ≡ Ok said → IsLawfulForm zones said
-  standing_lawful rest said e = standing_by (cut_at space rest) said e
+pub standing_lawful : (rest : List ℕ) (said : StandingLine) → stand_of rest ≡ Ok said → IsLawfulStanding said
+standing_lawful rest said e = standing_by (cut_at space rest) said e
 
 -- ---- names
 

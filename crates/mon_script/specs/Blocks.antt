@@ -7,6 +7,8 @@ use Rattle.mon_value.specs.Answers.{◌>>=◌}
 use Rattle.mon_value.specs.Same.{same_text}
 use Rattle.mon_script.specs.declared.faults.ScriptKind.{ScriptKind}
 use Rattle.mon_script.specs.declared.faults.ScriptKind.TheVariants as kind
+use Rattle.mon_script.specs.declared.forms.BlockMark.{BlockMark}
+use Rattle.mon_script.specs.declared.forms.BlockMark.TheVariants as block
 use Rattle.mon_script.specs.declared.forms.LineForm.{LineForm}
 use Rattle.mon_script.specs.declared.forms.LineForm.TheVariants as form
 use Rattle.mon_script.specs.declared.places.Mark.{Mark}
@@ -16,18 +18,16 @@ use Rattle.mon_script.specs.declared.script.ScriptLine.{ScriptLine}
 
 -- Where lines stand: outside of any block, or in a block behind so many lines.
 
+abbrev pub block_mark : BlockMark → Mark
+block_mark block.Together = mark.Opens
+block_mark block.End = mark.Closes
+
 abbrev pub mark_of : LineForm → Mark
 mark_of (form.Feed name) = mark.Acts
-mark_of (form.Query moment text) = mark.Acts
-mark_of (form.Check moment text) = mark.Acts
-mark_of (form.Explain moment text) = mark.Acts
-mark_of (form.Down leaf) = mark.Acts
-mark_of (form.Up leaf) = mark.Acts
-mark_of (form.Recover range leaf) = mark.Acts
-mark_of (form.Standing name period text) = mark.Lone
-mark_of (form.Tick moment) = mark.Lone
-mark_of form.Together = mark.Opens
-mark_of form.End = mark.Closes
+mark_of (form.Ask question) = mark.Acts
+mark_of (form.Control control) = mark.Acts
+mark_of (form.Standing line) = mark.Lone
+mark_of (form.Block what) = block_mark what
 
 -- whether one of these lines ends a block
 abbrev pub has_end : List (List ℕ) → Bool

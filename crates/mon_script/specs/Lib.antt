@@ -6,3 +6,4 @@ pub mod Lines
 pub mod Made
 pub mod MadePlaces
 pub mod Scripts
+pub mod StandingLines

@@ -4,7 +4,7 @@ ghost use Rattle.mon_script.specs.Lines.{lines_of};
 ghost use Rattle.mon_script.specs.Blocks as spec;
 
 use crate::faults::ScriptKind;
-use crate::forms::LineForm;
+use crate::forms::{BlockMark, LineForm};
 use crate::lines::next_line;
 
 /// How many lines a script has at most.
@@ -31,17 +31,20 @@ pub fn mark_of(form: &LineForm) -> Mark
     ensures mark { result ≡ spec.mark_of form.now }
 {
     match form {
-        LineForm::Together => Mark::Opens,
-        LineForm::End => Mark::Closes,
         LineForm::Feed(_) => Mark::Acts,
-        LineForm::Query(_, _) => Mark::Acts,
-        LineForm::Check(_, _) => Mark::Acts,
-        LineForm::Explain(_, _) => Mark::Acts,
-        LineForm::Down(_) => Mark::Acts,
-        LineForm::Up(_) => Mark::Acts,
-        LineForm::Recover(_, _) => Mark::Acts,
-        LineForm::Standing(_, _, _) => Mark::Lone,
-        LineForm::Tick(_) => Mark::Lone,
+        LineForm::Ask(_) => Mark::Acts,
+        LineForm::Control(_) => Mark::Acts,
+        LineForm::Standing(_) => Mark::Lone,
+        LineForm::Block(mark) => block_mark(*mark),
+    }
+}
+
+fn block_mark(mark: BlockMark) -> Mark
+    ensures mark { result ≡ spec.block_mark mark }
+{
+    match mark {
+        BlockMark::Together => Mark::Opens,
+        BlockMark::End => Mark::Closes,
     }
 }
 

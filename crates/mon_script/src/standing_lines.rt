@@ -2,10 +2,9 @@
 ghost use Rattle.std.specs.Prelude.{◌≡◌, true};
 ghost use Rattle.mon_schema.specs.Names.{is_name as named};
 ghost use Rattle.mon_value.specs.Answers.{Gives};
-ghost use Rattle.mon_script.specs.Forms as spec;
+ghost use Rattle.mon_script.specs.StandingLines as spec;
 
 use crate::faults::ScriptKind;
-use crate::forms::LineForm;
 use crate::lines::cut_at;
 use crate::words::moment_of;
 use mon_schema::is_name;
@@ -15,54 +14,63 @@ use std::alloc::Global;
 /// The longest time from one moment of a standing query to the next, in seconds.
 const LONGEST_PERIOD: i128 = 1_000_000_000;
 
+/// What may stand outside of blocks alone.
+#[derive(Drop)]
+pub enum StandingLine {
+    /// Have a query of a name, a period in seconds and a text stand.
+    Stand { name: Text, period: i64, text: Text },
+    /// Ask the standing queries that are due at a moment, in seconds from the epoch.
+    Tick(i64),
+}
+
 /// A name, a period and a text, each behind one space.
-pub(crate) fn standing_form(alloc: Global, rest: &[u8]) -> Result<LineForm, Refusal<ScriptKind>>
-    ensures form { Gives result (spec.standing_form rest.now) }
+pub(crate) fn stand_of(alloc: Global, rest: &[u8]) -> Result<StandingLine, Refusal<ScriptKind>>
+    ensures line { Gives result (spec.stand_of rest.now) }
 {
     match cut_at(rest, b' ') {
-        Some((name, rest)) => named_form(alloc, name, rest),
+        Some((name, rest)) => behind_name(alloc, name, rest),
         None => Err(Refusal::Fault(ScriptKind::BadWord)),
     }
 }
 
 // A period and a text behind a name.
-fn named_form(alloc: Global, name: &[u8], rest: &[u8]) -> Result<LineForm, Refusal<ScriptKind>>
-    ensures form { Gives result (spec.named_form name.now rest.now) }
+fn behind_name(alloc: Global, name: &[u8], rest: &[u8]) -> Result<StandingLine, Refusal<ScriptKind>>
+    ensures line { Gives result (spec.behind_name name.now rest.now) }
 {
     if !is_name(name) {
         return Err(Refusal::Fault(ScriptKind::BadWord));
     }
     match cut_at(rest, b' ') {
-        Some((period, text)) => texts_form(alloc, name, period, text),
+        Some((period, text)) => texts_of(alloc, name, period, text),
         None => Err(Refusal::Fault(ScriptKind::BadWord)),
     }
 }
 
-fn texts_form(
+fn texts_of(
     alloc: Global,
     name: &[u8],
     period: &[u8],
     text: &[u8],
-) -> Result<LineForm, Refusal<ScriptKind>>
+) -> Result<StandingLine, Refusal<ScriptKind>>
     requires named { named name.now ≡ true }
-    ensures form { Gives result (spec.texts_form name.now period.now text.now) }
+    ensures line { Gives result (spec.texts_of name.now period.now text.now) }
 {
     match Text::from_utf8(alloc, name)? {
-        Some(name) => text_form(alloc, name, period, text),
+        Some(name) => text_of(alloc, name, period, text),
         None => unreachable!(),
     }
 }
 
-fn text_form(
+fn text_of(
     alloc: Global,
     name: Text,
     period: &[u8],
     text: &[u8],
-) -> Result<LineForm, Refusal<ScriptKind>>
-    ensures form { Gives result (spec.texts_form name period.now text.now) }
+) -> Result<StandingLine, Refusal<ScriptKind>>
+    ensures line { Gives result (spec.texts_of name period.now text.now) }
 {
     match Text::from_utf8(alloc, text) {
-        Ok(Some(text)) => period_form(name, period, text),
+        Ok(Some(text)) => timed(name, period, text),
         Ok(None) => {
             drop(name);
             Err(Refusal::Fault(ScriptKind::BadWord))
@@ -74,11 +82,11 @@ fn text_form(
     }
 }
 
-fn period_form(name: Text, period: &[u8], text: Text) -> Result<LineForm, Refusal<ScriptKind>>
-    ensures form { Gives result (spec.period_form name period.now text) }
+fn timed(name: Text, period: &[u8], text: Text) -> Result<StandingLine, Refusal<ScriptKind>>
+    ensures line { Gives result (spec.timed name period.now text) }
 {
     match period_of(period) {
-        Some(period) => Ok(LineForm::Standing(name, period, text)),
+        Some(period) => Ok(StandingLine::Stand { name, period, text }),
         None => Err(Refusal::Fault(ScriptKind::BadNumber)),
     }
 }
@@ -95,14 +103,14 @@ fn period_of(word: &[u8]) -> Option<i64>
 }
 
 /// A moment.
-pub(crate) fn tick_form(word: &[u8]) -> Result<LineForm, ScriptKind>
-    ensures form { result ≡ spec.tick_form word.now }
+pub(crate) fn tick_of(word: &[u8]) -> Result<StandingLine, ScriptKind>
+    ensures line { result ≡ spec.tick_of word.now }
 {
     if word.contains(&b' ') {
         return Err(ScriptKind::BadWord);
     }
     match moment_of(word) {
-        Some(moment) => Ok(LineForm::Tick(moment)),
+        Some(moment) => Ok(StandingLine::Tick(moment)),
         None => Err(ScriptKind::BadNumber),
     }
 }

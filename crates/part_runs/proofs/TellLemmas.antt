@@ -10,12 +10,13 @@ use Rattle.line_runs.specs.declared.lines.LineRan.{LineRan}
 use Rattle.mon_config.specs.declared.config.Config.{Config}
 use Rattle.mon_schema.specs.Names.{SchemaLists}
 use Rattle.mon_script.specs.Blocks.{mark_of}
+use Rattle.mon_script.specs.declared.forms.BlockMark.TheVariants as block
 use Rattle.mon_script.specs.declared.forms.LineForm.{LineForm}
 use Rattle.mon_script.specs.declared.forms.LineForm.TheVariants as form
 use Rattle.mon_script.specs.declared.places.Mark.TheVariants as mark
 use Rattle.mon_script.specs.declared.script.ScriptLine.{ScriptLine}
 use Rattle.mon_value.specs.declared.histories.Histories.{Histories}
-use Rattle.part_runs.specs.PartsDone.{AloneDid, PartDid, PartTells}
+use Rattle.part_runs.specs.PartsDone.{PartDid, PartTells}
 use Rattle.run_theory.specs.Parts.{IsWithin, Alone, Part, lines_of}
 use Rattle.run_theory.specs.Writings.{EachWrote}
 use Rattle.run_traces.specs.LineClaims.{AllRan, Finds, HasFound, HasWritten, HaveGrown, Makes}
@@ -63,8 +64,7 @@ module _ (config : Config) (seen : Histories) (from to : History → ℕ) (numbe
   plain_by (came.Fed pass accepted refused) found = (refl, refl)
   plain_by (came.Asked moment trace) found = (refl, refl)
   plain_by (came.Ticked dues) found = absurd found
-  plain_by (came.Switched cut) found = (refl, refl)
-  plain_by (came.Recovered slot) found = (refl, refl)
+  plain_by (came.Controlled done) found = (refl, refl)
   plain_by (came.Refused fault) found = (refl, refl)
   plain_by came.Done found = (refl, refl)
 
@@ -139,16 +139,11 @@ pub acting_due : (schemas : SchemaLists) (state : StandingState) (what : LineFor
     → mark_of what ≡ mark.Acts → is_ticked trace ≡ false
     → IsDueBy schemas state what trace × (state ≡ stands_behind state what trace)
 acting_due schemas state (form.Feed name) trace acts plain = (plain, refl)
-acting_due schemas state (form.Query moment text) trace acts plain = (plain, refl)
-acting_due schemas state (form.Check moment text) trace acts plain = (plain, refl)
-acting_due schemas state (form.Explain moment text) trace acts plain = (plain, refl)
-acting_due schemas state (form.Down leaf) trace acts plain = (plain, refl)
-acting_due schemas state (form.Up leaf) trace acts plain = (plain, refl)
-acting_due schemas state (form.Recover range leaf) trace acts plain = (plain, refl)
-acting_due schemas state (form.Standing name period text) trace acts plain = absurd cc
-acting_due schemas state (form.Tick moment) trace acts plain = absurd cc
-acting_due schemas state form.Together trace acts plain = absurd cc
-acting_due schemas state form.End trace acts plain = absurd cc
+acting_due schemas state (form.Ask asked) trace acts plain = (plain, refl)
+acting_due schemas state (form.Control control) trace acts plain = (plain, refl)
+acting_due schemas state (form.Standing line) trace acts plain = absurd cc
+acting_due schemas state (form.Block block.Together) trace acts plain = absurd cc
+acting_due schemas state (form.Block block.End) trace acts plain = absurd cc
 
 -- ---- what calls answer
 

@@ -4,6 +4,7 @@ ghost use Rattle.history_book.specs.Histories.{AreFronts};
 ghost use Rattle.history_book.specs.Seats.{HasEveryNumber};
 ghost use Rattle.line_runs.specs.LineWrites.{ran_line};
 ghost use Rattle.mon_script.specs.Lawful.{IsLawfulForm};
+ghost use Rattle.mon_script.specs.StandingLines.{IsLawfulStanding};
 ghost use Rattle.mon_script.specs.Blocks.{mark_of};
 ghost use Rattle.mon_script.specs.declared.places.Mark.TheVariants.{Acts, Lone};
 ghost use Rattle.part_runs.specs.PartsDone.{AloneDid, PartTells};
@@ -14,7 +15,7 @@ ghost use Rattle.run_traces.specs.RanLines.{acts_by};
 use crate::ticks::tick;
 use know::Names;
 use line_runs::{LineRan, add_standing, run_line};
-use mon_script::{LineForm, Mark, mark_of};
+use mon_script::{BlockMark, LineForm, Mark, StandingLine, mark_of};
 use mon_store::{Pass, Store};
 use mon_value::{OutOfMemory, Text};
 use run_traces::{runs_go_on, texts_stay};
@@ -92,19 +93,37 @@ fn lone<N: Names, R: Wait>(
     ensures fronts { AreFronts p.old.seen p.new.seen }
 {
     match what {
-        LineForm::Standing(name, period, text) => {
+        LineForm::Standing(line) => { stand_or_tick(rt, alloc, store, p, standing, line, content) }
+        LineForm::Feed(_) => unreachable!(),
+        LineForm::Ask(_) => unreachable!(),
+        LineForm::Control(_) => unreachable!(),
+        LineForm::Block(BlockMark::Together) => unreachable!(),
+        LineForm::Block(BlockMark::End) => unreachable!(),
+    }
+}
+
+// A query is to stand, or those that are due are asked.
+fn stand_or_tick<N: Names, R: Wait>(
+    rt: &R,
+    alloc: Global,
+    store: &Store<N>,
+    p: &mut Pass<N>,
+    standing: &mut Standing,
+    line: &StandingLine,
+    content: &[u8],
+) -> Result<LineRan, OutOfMemory>
+    requires lawful { IsLawfulStanding line.now }
+    requires every { HasEveryNumber p.old.purse }
+    ensures ran { IfOk result (λ ran. AloneDid store.now (LineForm.Standing line.now) content.now ran p.old p.new
+        standing.old standing.new) }
+    ensures stock { OnOk result (p.new.purse.stock ≡ p.old.purse.stock) }
+    ensures fronts { AreFronts p.old.seen p.new.seen }
+{
+    match line {
+        StandingLine::Stand { name, period, text } => {
             stand(alloc, store, p, standing, name, *period, text, content)
         }
-        LineForm::Tick(moment) => tick(rt, alloc, store, p, standing, *moment, content),
-        LineForm::Feed(_) => unreachable!(),
-        LineForm::Query(_, _) => unreachable!(),
-        LineForm::Check(_, _) => unreachable!(),
-        LineForm::Explain(_, _) => unreachable!(),
-        LineForm::Down(_) => unreachable!(),
-        LineForm::Up(_) => unreachable!(),
-        LineForm::Recover(_, _) => unreachable!(),
-        LineForm::Together => unreachable!(),
-        LineForm::End => unreachable!(),
+        StandingLine::Tick(moment) => tick(rt, alloc, store, p, standing, *moment, content),
     }
 }
 
@@ -121,8 +140,8 @@ fn stand<N: Names>(
 ) -> Result<LineRan, OutOfMemory>
     requires period { pos 1 ≤ℤ period }
     requires every { HasEveryNumber p.old.purse }
-    ensures ran { IfOk result (λ ran. AloneDid store.now (LineForm.Standing name.now period text.now) content.now ran
-        p.old p.new standing.old standing.new) }
+    ensures ran { IfOk result (λ ran. AloneDid store.now
+        (LineForm.Standing (StandingLine.Stand name.now period text.now)) content.now ran p.old p.new standing.old standing.new) }
     ensures same { p.new ≡ p.old }
 {
     runs_go_on();

@@ -8,6 +8,7 @@ ghost use Rattle.part_runs.specs.PartsDone.{AloneDid, PartTells};
 ghost use Rattle.part_runs.specs.Ticks.{DueAsked, DuesAsked, IsKept, TickRan};
 ghost use Rattle.run_theory.specs.Parts.{Alone};
 ghost use Rattle.run_traces.specs.LineDues.{end_trace};
+ghost use Rattle.run_traces.specs.LineAsks.{query_form};
 ghost use Rattle.run_traces.specs.LineForms.{IsAnswered};
 ghost use Rattle.run_traces.specs.LineTexts as line;
 ghost use Rattle.run_traces.specs.declared.traces.DueTrace.{DueTrace as Asked};
@@ -16,7 +17,7 @@ ghost use Rattle.standing.proofs.MomentLemmas.{HasMoment};
 
 use know::Names;
 use line_runs::{LineRan, due_heading, refuse_tick, run_query};
-use mon_script::LineForm;
+use mon_script::{LineForm, StandingLine};
 use mon_store::{Pass, Store};
 use mon_value::{ListOf, OutOfMemory, Refusal, Text};
 use run_traces::{DueEnd, DueTrace, LineTrace, runs_go_on, texts_stay};
@@ -37,7 +38,7 @@ pub(crate) fn tick<N: Names, R: Wait>(
 ) -> Result<LineRan, OutOfMemory>
     requires moment { pos 0 ≤ℤ moment }
     requires every { HasEveryNumber p.old.purse }
-    ensures ran { IfOk result (λ ran. AloneDid store.now (LineForm.Tick moment) content.now ran
+    ensures ran { IfOk result (λ ran. AloneDid store.now (LineForm.Standing (StandingLine.Tick moment)) content.now ran
         p.old p.new standing.old standing.new) }
     ensures stock { OnOk result (p.new.purse.stock ≡ p.old.purse.stock) }
     ensures fronts { AreFronts p.old.seen p.new.seen }
@@ -136,7 +137,7 @@ fn query_due<N: Names, R: Wait>(
     requires moment { HasMoment due.now }
     requires every { HasEveryNumber p.old.purse }
     ensures tells { IfOk result (λ ran. PartTells store.now
-        (Alone (ran_line (LineForm.Query due.now.at due.now.text) [] ran.trace)) (ran.text ∷ []) p.old p.new) }
+        (Alone (ran_line (query_form due.now.at due.now.text) [] ran.trace)) (ran.text ∷ []) p.old p.new) }
     ensures answered { IfOk result (λ ran. IsAnswered due.now.at ran.trace) }
     ensures stock { OnOk result (p.new.purse.stock ≡ p.old.purse.stock) }
     ensures fronts { AreFronts p.old.seen p.new.seen }
@@ -199,8 +200,7 @@ fn due_trace(due: Due, trace: LineTrace) -> DueTrace
         },
         LineTrace::Fed { .. } => unreachable!(),
         LineTrace::Ticked(_) => unreachable!(),
-        LineTrace::Switched(_) => unreachable!(),
-        LineTrace::Recovered(_) => unreachable!(),
+        LineTrace::Controlled(_) => unreachable!(),
         LineTrace::Done => unreachable!(),
     }
 }

@@ -1,11 +1,10 @@
 -- What is acknowledged under a number is what the lines of that number accepted.
-use Rattle.std.proofs.Common.{◌≡◌, ℕ, ◌+◌, nat_eq, ◌&&◌, Bool, true, false, cond, List, [], ◌∷◌, ◌++◌, Option, Some, None}
+use Rattle.std.proofs.Common.{◌≡◌, ℕ, ◌+◌, nat_eq, Bool, true, false, cond, List, [], ◌∷◌, ◌++◌}
 use Rattle.std.proofs.Common.{length, map, filter, refl, sym, ap, ◌∙◌, arith}
 use Rattle.std.specs.List.{AllByRecursion, flat_map, range_with_len}
-use Rattle.std.proofs.lemmas.Bool.{and_parts, false≢true}
 use Rattle.std.proofs.lemmas.Bool.Decides.{nat_tests}
 use Rattle.std.proofs.lemmas.List.Concat.{flat_map-append}
-use Rattle.history_book.specs.Histories.{AreFronts, book_entry_pass, entries, same_history}
+use Rattle.history_book.specs.Histories.{AreFronts, book_entry_pass, entries}
 use Rattle.history_book.specs.declared.views.BookEntry.{BookEntry}
 use Rattle.history_book.specs.declared.views.BookEntry.TheVariants as one
 use Rattle.history_book.specs.declared.views.History.{History}
@@ -14,13 +13,12 @@ use Rattle.mon_config.specs.declared.config.Config.{Config}
 use Rattle.mon_topo.specs.HeldHistories.{first_histories, first_range_history, openings_from}
 use Rattle.mon_topo.specs.Zones.{first_replicas, ranges_in}
 use Rattle.mon_topo.specs.declared.zones.ZoneSpec.{ZoneSpec}
-use Rattle.mon_value.specs.Histories.{range_history, same_range}
+use Rattle.mon_value.specs.Histories.{range_history}
 use Rattle.mon_value.specs.declared.histories.Histories.{Histories}
 use Rattle.mon_value.specs.declared.histories.RangeEntry.{RangeEntry}
 use Rattle.mon_value.specs.declared.histories.RangeEntry.TheVariants as range_entry
 use Rattle.mon_value.specs.declared.positions.Leaf.{Leaf}
 use Rattle.mon_value.specs.declared.positions.Range.{Range}
-use Rattle.mon_value.specs.declared.positions.Slot.{Slot}
 use Rattle.mon_value.specs.declared.rows.Row.{Row}
 use Rattle.mon_script.specs.declared.forms.LineForm.{LineForm}
 use Rattle.run_theory.specs.Parts.{between, Part, all_lines}
@@ -30,55 +28,16 @@ use Rattle.run_theory.proofs.Stands.{same_to}
 use Rattle.run_theory.proofs.Tiles.{parts_tell}
 use Rattle.run_traces.specs.LineClaims.{AllRan, Finds, HasMade, Makes, book_row}
 use Rattle.run_traces.specs.LineFeeds.{AreAcknowledged, accepted_in, acked_under, lies_in}
-use Rattle.run_traces.specs.LineSwitches.{Recovery, Switch, goes, opens, recovers, recovery_of, switch_of, switches}
 use Rattle.run_traces.specs.RanLines.{RanLine}
 use Rattle.run_traces.specs.declared.traces.LineTrace.{LineTrace}
 use Rattle.run_traces.specs.declared.traces.LineTrace.TheVariants as came
-use Rattle.run_traces.proofs.ListFacts.{all_as}
+use Rattle.run_traces.proofs.Controls.{done_tells}
 use Rattle.run_traces.proofs.Owners.{all_chosen, begins}
 
 no_rows : List Row
 no_rows = []
 
 -- ---- what lines tell
-
-none_told : (es : List BookEntry) → AllByRecursion (λ e. book_row e ≡ []) es → flat_map book_row es ≡ []
-none_told [] all = refl
-none_told (e ∷ es) all = ap (λ w. w ++ flat_map book_row es) all.0 ∙ none_told es all.1
-
--- a switch acknowledges nothing
-going_tells : (down b : Bool) (e : BookEntry) → (b && goes down e) ≡ true → book_row e ≡ []
-going_tells down b (one.Leaf e) is = refl
-going_tells down b (one.Range e) is = absurd (false≢true (and_parts b false is).1)
-
-switched_tells : (switch : Option Switch) (h : History) (e : BookEntry) → switches switch h e ≡ true → book_row e ≡ []
-switched_tells None h e is = absurd (false≢true is)
-switched_tells (Some switch) h e is = going_tells switch.down (same_history (of.Leaf switch.leaf) h) e is
-
-switch_tells : (what : LineForm) (h : History) (es : List BookEntry)
-    → AllByRecursion (λ e. switches (switch_of what) h e ≡ true) es → flat_map book_row es ≡ []
-switch_tells what h es all = none_told es (all_as (λ e. switches (switch_of what) h e ≡ true) (λ e. book_row e ≡ [])
-    (λ e is. switched_tells (switch_of what) h e is) es all)
-
--- nor does a recovery
-opening_tells : (recovery : Recovery) (slot : Slot) (h : History) (e : BookEntry) → opens recovery slot h e ≡ true
-    → book_row e ≡ []
-opening_tells recovery slot h (one.Leaf e) is = refl
-opening_tells recovery slot h (one.Range (range_entry.Opened by place on)) is = refl
-opening_tells recovery slot (of.Leaf leaf) (one.Range (range_entry.Acked by row ack)) is = absurd (false≢true is)
-opening_tells recovery slot (of.Range range) (one.Range (range_entry.Acked by row ack)) is =
-    absurd (false≢true (and_parts (same_range recovery.range range) false is).1)
-
-recovered_tells : (recovery : Option Recovery) (slot : Slot) (h : History) (e : BookEntry)
-    → recovers recovery slot h e ≡ true → book_row e ≡ []
-recovered_tells None slot h e is = absurd (false≢true is)
-recovered_tells (Some recovery) slot h e is = opening_tells recovery slot h e is
-
-recovery_tells : (what : LineForm) (slot : Slot) (h : History) (es : List BookEntry)
-    → AllByRecursion (λ e. recovers (recovery_of what) slot h e ≡ true) es → flat_map book_row es ≡ []
-recovery_tells what slot h es all = none_told es
-    (all_as (λ e. recovers (recovery_of what) slot h e ≡ true) (λ e. book_row e ≡ [])
-    (λ e is. recovered_tells (recovery_of what) slot h e is) es all)
 
 module _ (config : Config) where
   -- of a range's history what the line accepted there, and of a leaf's nothing
@@ -95,10 +54,7 @@ module _ (config : Config) where
   own_by n line (came.Fed pass rows refused) made range makes =
       makes.1.acks range ∙ sym (feed_tells n pass (filter (lies_in config range) rows) makes.0)
   own_by n line (came.Asked moment trace) made range makes = ap (flat_map book_row) (makes (of.Range range))
-  own_by n line (came.Switched cut) made range makes =
-      switch_tells line.what (of.Range range) (made (of.Range range)) (makes.own (of.Range range))
-  own_by n line (came.Recovered slot) made range makes =
-      recovery_tells line.what slot (of.Range range) (made (of.Range range)) (makes (of.Range range))
+  own_by n line (came.Controlled done) made range makes = done_tells config line.what done (of.Range range) made makes
   own_by n line (came.Refused why) made range makes = ap (flat_map book_row) (makes (of.Range range))
   own_by n line (came.Ticked dues) made range makes = ap (flat_map book_row) (makes (of.Range range))
   own_by n line came.Done made range makes = ap (flat_map book_row) (makes (of.Range range))
@@ -107,10 +63,7 @@ module _ (config : Config) where
       → HasMade config n line.what trace made → flat_map book_row (made (of.Leaf leaf)) ≡ []
   leaf_by n line (came.Fed pass rows refused) made leaf makes = makes.1.puts leaf
   leaf_by n line (came.Asked moment trace) made leaf makes = ap (flat_map book_row) (makes (of.Leaf leaf))
-  leaf_by n line (came.Switched cut) made leaf makes =
-      switch_tells line.what (of.Leaf leaf) (made (of.Leaf leaf)) (makes.own (of.Leaf leaf))
-  leaf_by n line (came.Recovered slot) made leaf makes =
-      recovery_tells line.what slot (of.Leaf leaf) (made (of.Leaf leaf)) (makes (of.Leaf leaf))
+  leaf_by n line (came.Controlled done) made leaf makes = done_tells config line.what done (of.Leaf leaf) made makes
   leaf_by n line (came.Refused why) made leaf makes = ap (flat_map book_row) (makes (of.Leaf leaf))
   leaf_by n line (came.Ticked dues) made leaf makes = ap (flat_map book_row) (makes (of.Leaf leaf))
   leaf_by n line came.Done made leaf makes = ap (flat_map book_row) (makes (of.Leaf leaf))
@@ -124,8 +77,7 @@ module _ (config : Config) where
   other_by number n what (came.Fed pass rows refused) made range makes differ =
       ap (λ b. cond b (filter (lies_in config range) rows) []) (ap (nat_eq n) makes.0 ∙ differ)
   other_by number n what (came.Asked moment trace) made range makes differ = refl
-  other_by number n what (came.Switched cut) made range makes differ = refl
-  other_by number n what (came.Recovered slot) made range makes differ = refl
+  other_by number n what (came.Controlled done) made range makes differ = refl
   other_by number n what (came.Refused why) made range makes differ = refl
   other_by number n what (came.Ticked dues) made range makes differ = refl
   other_by number n what came.Done made range makes differ = refl

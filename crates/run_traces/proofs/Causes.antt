@@ -1,5 +1,5 @@
 -- Why lines and records were refused, at lengths in their places.
-use Rattle.std.proofs.Common.{◌≡◌, ℕ, zero, suc, ◌+◌, ◌<◌, ◌≤◌, nat_eq, nat_le, ◌&&◌, ◌||◌, Bool, true, false, List}
+use Rattle.std.proofs.Common.{◌≡◌, ℕ, zero, suc, ◌+◌, ◌<◌, ◌≤◌, nat_eq, nat_le, ◌||◌, Bool, true, false, List}
 use Rattle.std.proofs.Common.{[], ◌∷◌, ◌++◌, length, take, drop, slice_get, Some, refl, ap, ◌∙◌, arith}
 use Rattle.std.proofs.Common.{subst, sym}
 use Rattle.std.specs.Prelude.{ℤ, map, Contains}
@@ -38,19 +38,29 @@ use Rattle.run_theory.specs.Parts.{RanBefore, RanBehind}
 use Rattle.run_theory.proofs.Lists.{first_place_behind, last_end_within}
 use Rattle.run_traces.specs.LineCauses.{HasCause, HasNoSource, HasNoTarget, HasNoneUp, HasRowCause, HasSwitchedEnough}
 use Rattle.run_traces.specs.LineCauses.{IsCaused, IsDenied, IsLeftWithout, IsOverLimit, IsRefusedByRange, IsUnwritten, LineIsCaused}
-use Rattle.run_traces.specs.LineCauses.{WasAlready}
+use Rattle.run_traces.specs.LineCauses.{ControlCause, QuestionCause, RecoveryCause, StandingCause, SwitchCause, WasAlready}
 use Rattle.run_traces.specs.LineCauses.{RowHasCause, RowIsTaken, RowsAreTaken, RowsHaveCauses, WereMissed, fed, rows_before}
 use Rattle.run_traces.specs.LineClaims.{AllTakenFound, FoundAmid, HasFound, Makes, RowFound, RowsFound, TakenFound, marked}
 use Rattle.run_traces.specs.LineSwitches.{first_length, high, highs, is_entry_of, is_fed, is_row, is_traced, low, lows}
-use Rattle.run_traces.specs.LineTables.{moment_of, text_of}
+use Rattle.run_traces.specs.LineAsks.{moment_of, text_of}
 use Rattle.run_traces.specs.RanLines.{RanLine}
+use Rattle.run_traces.specs.declared.traces.ControlFault.{ControlFault}
+use Rattle.run_traces.specs.declared.traces.ControlFault.TheVariants as undone
 use Rattle.run_traces.specs.declared.traces.LineFault.{LineFault}
 use Rattle.run_traces.specs.declared.traces.LineFault.TheVariants as why
 use Rattle.run_traces.specs.declared.traces.LineTrace.{LineTrace}
 use Rattle.run_traces.specs.declared.traces.LineTrace.TheVariants as came
+use Rattle.run_traces.specs.declared.traces.QuestionFault.{QuestionFault}
+use Rattle.run_traces.specs.declared.traces.QuestionFault.TheVariants as unanswered
+use Rattle.run_traces.specs.declared.traces.RecoveryFault.{RecoveryFault}
+use Rattle.run_traces.specs.declared.traces.RecoveryFault.TheVariants as unopened
 use Rattle.run_traces.specs.declared.traces.RowRefusal.{RowRefusal}
 use Rattle.run_traces.specs.declared.traces.RowRefused.{RowRefused}
 use Rattle.run_traces.specs.declared.traces.RowRefused.TheVariants as refused
+use Rattle.run_traces.specs.declared.traces.SwitchFault.{SwitchFault}
+use Rattle.run_traces.specs.declared.traces.SwitchFault.TheVariants as unswitched
+use Rattle.standing.specs.declared.faults.StandingFault.{StandingFault}
+use Rattle.standing.specs.declared.faults.StandingFault.TheVariants as unstood
 use Rattle.mon_script.specs.declared.forms.LineForm.{LineForm}
 use Rattle.write_core.specs.Recovering.{denial_of}
 use Rattle.write_core.specs.RangeAnswers.{refusal}
@@ -269,24 +279,45 @@ module _ (widen : (typed : TypedTree) (moment : ℤ) (from to earlier later : Le
       down = find from to first last seen more (record { leaf = has.recovery.leaf; cut = cut }) wide has.down;
     }
 
+    question_wider : (what : LineForm) (fault : QuestionFault) → QuestionCause config seen from to what fault
+        → QuestionCause config more first last what fault
+    question_wider what (unanswered.Parse parse) cause = cause
+    question_wider what (unanswered.Typing typing) cause = cause
+    question_wider what (unanswered.NoReplica range founds) cause = left_wider (text_of what) range founds cause
+    question_wider what (unanswered.StepLimit limit trace) cause =
+        over_wider (text_of what) (moment_of what) limit trace cause
+
+    switch_wider : (what : LineForm) (fault : SwitchFault) → SwitchCause config seen from to what fault
+        → SwitchCause config more first last what fault
+    switch_wider what (unswitched.AlreadyDown cut) cause = already_wider what true cut cause
+    switch_wider what (unswitched.AlreadyUp cut) cause = already_wider what false cut cause
+    switch_wider what (unswitched.SwitchesSpent count) cause = enough_wider what count cause
+
+    recovery_wider : (what : LineForm) (fault : RecoveryFault) → RecoveryCause config seen from to what fault
+        → RecoveryCause config more first last what fault
+    recovery_wider what (unopened.Serving slot) cause = denied_wider what (denial.ServesThere slot) cause
+    recovery_wider what unopened.ThreeServing cause = denied_wider what denial.ServesFully cause
+    recovery_wider what (unopened.SlotsSpent count) cause = denied_wider what (denial.SlotsSpent count) cause
+    recovery_wider what (unopened.SourceDown founds) cause = source_wider what founds cause
+    recovery_wider what (unopened.TargetDown cut) cause = target_wider what cut cause
+
+    control_wider : (what : LineForm) (fault : ControlFault) → ControlCause config seen from to what fault
+        → ControlCause config more first last what fault
+    control_wider what (undone.Switch fault) cause = switch_wider what fault cause
+    control_wider what (undone.Recovery fault) cause = recovery_wider what fault cause
+
+    standing_wider : (what : LineForm) (fault : StandingFault) → StandingCause config seen from to what fault
+        → StandingCause config more first last what fault
+    standing_wider what unstood.NameTaken cause = cause
+    standing_wider what (unstood.Parse parse) cause = cause
+    standing_wider what (unstood.Typing typing) cause = cause
+
     pub line_wider : (what : LineForm) (fault : LineFault) → HasCause config seen from to what fault
         → HasCause config more first last what fault
-    line_wider what (why.Parse parse) cause = cause
-    line_wider what (why.Typing typing) cause = cause
-    line_wider what (why.NoReplica range founds) cause = left_wider (text_of what) range founds cause
-    line_wider what (why.StepLimit limit trace) cause =
-        over_wider (text_of what) (moment_of what) limit trace cause
-    line_wider what (why.AlreadyDown cut) cause = already_wider what true cut cause
-    line_wider what (why.AlreadyUp cut) cause = already_wider what false cut cause
-    line_wider what (why.SwitchesSpent count) cause = enough_wider what count cause
-    line_wider what (why.Serving slot) cause = denied_wider what (denial.ServesThere slot) cause
-    line_wider what why.ThreeServing cause = denied_wider what denial.ServesFully cause
-    line_wider what (why.SlotsSpent count) cause = denied_wider what (denial.SlotsSpent count) cause
-    line_wider what (why.SourceDown founds) cause = source_wider what founds cause
-    line_wider what (why.TargetDown cut) cause = target_wider what cut cause
-    line_wider what why.NameTaken cause = cause
-    line_wider what (why.TooManyDue most) cause = cause
-    line_wider what (why.Backwards last) cause = cause
+    line_wider what (why.Question fault) cause = question_wider what fault cause
+    line_wider what (why.Control fault) cause = control_wider what fault cause
+    line_wider what (why.Standing fault) cause = standing_wider what fault cause
+    line_wider what (why.Due fault) cause = cause
 
     range_wider : (row : Row) (told : Refused) → IsRefusedByRange config seen from to row told
         → IsRefusedByRange config more first last row told
@@ -478,8 +509,7 @@ module _ (widen : (typed : TypedTree) (moment : ℤ) (from to earlier later : Le
       rows_taken ended seen later line place pass rows refusals is 0 rows found.taken,
     )
     caused_by (came.Asked moment trace) is found = tt
-    caused_by (came.Switched cut) is found = tt
-    caused_by (came.Recovered slot) is found = tt
+    caused_by (came.Controlled done) is found = tt
     caused_by (came.Refused fault) is found = line_wider ended ended (marked place.from) (marked place.to)
         (lows config.topology ended seen) (highs config.topology ended later)
         (wider config ended seen later line place) line.what fault found

@@ -13,7 +13,7 @@ use Rattle.run_traces.specs.RanLines.{RanLine}
 use Rattle.run_traces.specs.declared.traces.LineTrace.{LineTrace}
 use Rattle.run_traces.specs.declared.traces.LineTrace.TheVariants as came
 use Rattle.run_traces.proofs.RunFacts.{InPlace, low_below}
-use Rattle.run_traces.proofs.Switched.{recovered_wider, switched_wider}
+use Rattle.run_traces.proofs.Controls.{done_wider}
 
 module _ (config : Config) (ended : Histories) (seen later : List RanLine) (line : RanLine)
     (place : InPlace config ended seen later line) where
@@ -33,15 +33,10 @@ module _ (config : Config) (ended : Histories) (seen later : List RanLine) (line
       → IsControlled config ended seen later line.what trace
   controlled_by (came.Fed pass rows refused) found = tt
   controlled_by (came.Asked moment trace) found = tt
-  controlled_by (came.Switched cut) found = (
+  controlled_by (came.Controlled done) found = (
     place.number,
-    switched_wider ended ended place.from place.to (low config.topology ended seen) (high config.topology ended later)
-        sooner behind leaf_itself range_itself place.number line.what cut found,
-  )
-  controlled_by (came.Recovered slot) found = (
-    place.number,
-    recovered_wider ended ended place.from place.to (low config.topology ended seen) (high config.topology ended later)
-        sooner behind leaf_itself range_itself place.number line.what slot found,
+    done_wider ended ended place.from place.to (low config.topology ended seen) (high config.topology ended later)
+        sooner behind leaf_itself range_itself place.number line.what done found,
   )
   controlled_by (came.Refused fault) found = tt
   controlled_by (came.Ticked dues) found = tt

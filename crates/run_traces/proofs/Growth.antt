@@ -42,7 +42,7 @@ use Rattle.run_traces.specs.declared.traces.RowRefusal.{RowRefusal}
 use Rattle.run_traces.proofs.Causes.{line_wider, row_wider, take_front}
 use Rattle.run_traces.proofs.ListFacts.{all_as}
 use Rattle.run_traces.proofs.RunFacts.{book_length, range_length}
-use Rattle.run_traces.proofs.Switched.{recovered_wider, switched_wider}
+use Rattle.run_traces.proofs.Controls.{done_wider}
 use Rattle.mon_value.proofs.PlainLemmas.{prefix_map}
 
 -- ---- lists
@@ -253,10 +253,8 @@ module _ (widen : (typed : TypedTree) (moment : ℤ) (from to earlier later : Le
               (found.read.read leaf (subst (λ w. leaf.0 < w) grown.leaves there));
         };
       }
-      found_still number (came.Switched cut) found = switched_wider seen more from to from to (λ h. omega arith)
-          (λ h. omega arith) leaf_goes_on range_goes_on number line.what cut found
-      found_still number (came.Recovered slot) found = recovered_wider seen more from to from to (λ h. omega arith)
-          (λ h. omega arith) leaf_goes_on range_goes_on number line.what slot found
+      found_still number (came.Controlled done) found = done_wider seen more from to from to (λ h. omega arith)
+          (λ h. omega arith) leaf_goes_on range_goes_on number line.what done found
       found_still number (came.Refused fault) found = line_wider widen find rows config seen more (marked from)
           (marked to) (marked from) (marked to) wide line.what fault found
       found_still number (came.Ticked dues) found = absurd found

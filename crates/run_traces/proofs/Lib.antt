@@ -1,6 +1,7 @@
 pub mod Acks
 pub mod Causes
 pub mod Controlled
+pub mod Controls
 pub mod Growth
 pub mod Kept
 pub mod ListFacts

@@ -2,7 +2,7 @@
 use Rattle.std.proofs.Common.{◌≡◌, ℕ, zero, suc, ◌<◌, ◌≤◌, nat_eq, Bool, true, false, List, [], ◌∷◌, ◌++◌, length}
 use Rattle.std.proofs.Common.{map, filter, slice_get, Some, refl, sym, ap, ◌∙◌, subst, arith, ◌+◌, if◌then◌else◌}
 use Rattle.std.specs.List.{AllByRecursion, flat_map, list_any, range_with_len, slice_index_or}
-use Rattle.std.proofs.lemmas.Bool.{false≢true, and_from}
+use Rattle.std.proofs.lemmas.Bool.{false≢true}
 use mathlib.Core.List.{IsPrefix}
 use Rattle.history_book.specs.Histories.{AreFronts, book_entry_pass, entries}
 use Rattle.history_book.specs.declared.views.BookEntry.{BookEntry}
@@ -24,18 +24,17 @@ use Rattle.mon_value.specs.declared.rows.Row.{Row}
 use Rattle.run_theory.specs.InPlace.{AreDistinct, AreNotFirst, AreTheirs, AreUnder}
 use Rattle.run_theory.specs.Parts.{AreBelow, Ran, between}
 use Rattle.run_theory.proofs.Stands.{between_stands, kept_stands, same_to}
-use Rattle.mon_value.specs.declared.positions.Slot.{Slot}
-use Rattle.run_traces.specs.LineClaims.{FeedMade, Finds, HasFound, HasMade, HasRange, IsNewIn, Makes, SwitchMade}
+use Rattle.run_traces.specs.LineClaims.{FeedMade, Finds, HasFound, HasMade, HasRange, IsNewIn, Makes}
 use Rattle.run_traces.specs.LineFeeds.{lies_in}
-use Rattle.run_traces.specs.LineSwitches.{first_length, is_entry_of, is_fed, is_row, is_traced, IsSwitchedBetween}
-use Rattle.run_traces.specs.LineSwitches.{recovers, recovery_of, switch_entry, switch_of, switches}
+use Rattle.run_traces.specs.LineSwitches.{first_length, is_entry_of, is_fed, is_row, is_traced}
 use Rattle.run_traces.specs.RanLines.{RanLine}
+use Rattle.run_traces.specs.declared.traces.ControlDone.{ControlDone}
 use Rattle.run_traces.specs.declared.traces.LineTrace.{LineTrace}
 use Rattle.run_traces.specs.declared.traces.LineTrace.TheVariants as came
 use Rattle.run_traces.specs.declared.traces.RowRefusal.{RowRefusal}
 use Rattle.run_traces.proofs.ListFacts.{all_at, any_at, both_all, no_item}
-use Rattle.run_traces.proofs.Switched.{IsTheirs, lone_between, not_recovering, not_switching, recovered_there}
-use Rattle.run_traces.proofs.Switched.{switch_pass, switched_entry, switched_leaf, switched_there}
+use Rattle.run_traces.proofs.Controls.{done_made, done_not_fed, done_place}
+use Rattle.run_traces.proofs.Switched.{IsTheirs}
 use Rattle.run_traces.proofs.RowFacts.{fed_pass, fed_row, lies_as, row_joined, row_key, rows_before}
 use Rattle.mon_value.proofs.PlainLemmas.{prefix_map}
 
@@ -50,20 +49,12 @@ module _ (config : Config) (ended : Histories)
   abbrev LineRan : (History → ℕ) → (History → ℕ) → ℕ → RanLine → Type 0
   LineRan = Ran entries book_entry_pass (Makes config) (Finds config) ended
 
-  -- ---- switches and recoveries, by their places
-
-  switch_place : (from to : History → ℕ) (number : ℕ) (line : RanLine) (cut : ℕ) (h : History) (k : ℕ) (e : BookEntry)
-      → HasFound config ended from to number line (came.Switched cut) → slice_get (entries ended h) k ≡ Some e
-      → is_traced line.what (came.Switched cut) h k e ≡ true → IsTheirs from to number h k e
-  switch_place from to number line cut h k e found there is =
-      switched_there config ended from to number line.what cut found h k e there is
-
-  recovery_place : (from to : History → ℕ) (number : ℕ) (line : RanLine) (slot : Slot) (h : History) (k : ℕ)
-      (e : BookEntry) → HasFound config ended from to number line (came.Recovered slot)
-      → slice_get (entries ended h) k ≡ Some e
-      → is_traced line.what (came.Recovered slot) h k e ≡ true → IsTheirs from to number h k e
-  recovery_place from to number line slot h k e found there is =
-      recovered_there config ended from to number line.what slot found whole fronts held h k e there is
+  control_place : (from to : History → ℕ) (number : ℕ) (line : RanLine) (done : ControlDone) (h : History) (k : ℕ)
+      (e : BookEntry) → HasFound config ended from to number line (came.Controlled done)
+      → slice_get (entries ended h) k ≡ Some e → is_traced line.what (came.Controlled done) h k e ≡ true
+      → IsTheirs from to number h k e
+  control_place from to number line done h k e found there is =
+      done_place config ended whole fronts held from to number line.what done h k e found there is
 
   -- ---- numbers
 
@@ -74,10 +65,8 @@ module _ (config : Config) (ended : Histories)
   under_by from to number line h k e (came.Fed pass accepted refused) made makes found there is =
       fed_pass pass accepted e is ∙ makes.0
   under_by from to number line h k e (came.Asked moment trace) made makes found there is = absurd (false≢true is)
-  under_by from to number line h k e (came.Switched cut) made makes found there is =
-      (switch_place from to number line cut h k e found there is).under
-  under_by from to number line h k e (came.Recovered slot) made makes found there is =
-      (recovery_place from to number line slot h k e found there is).under
+  under_by from to number line h k e (came.Controlled done) made makes found there is =
+      (control_place from to number line done h k e found there is).under
   under_by from to number line h k e (came.Refused why) made makes found there is = absurd (false≢true is)
   under_by from to number line h k e (came.Ticked dues) made makes found there is = absurd (false≢true is)
   under_by from to number line h k e came.Done made makes found there is = absurd (false≢true is)
@@ -87,30 +76,6 @@ module _ (config : Config) (ended : Histories)
       under_by from to number line h k e line.trace ran.made ran.makes ran.found.found there is
 
   -- ---- what was made
-
-  -- the one entry of a switch is the last of so many
-  switch_made : (from to : History → ℕ) (number : ℕ) (line : RanLine) (cut : ℕ) (h : History) (k j : ℕ) (e : BookEntry)
-      (made : History → List BookEntry) → SwitchMade config line.what made
-      → IsSwitchedBetween ended from to number line.what cut
-      → filter (λ x. nat_eq (book_entry_pass x) number) (between (from h) (to h) (entries ended h)) ≡ made h
-      → slice_get (entries ended h) k ≡ Some e → from h ≤ k → k < to h → book_entry_pass e ≡ number
-      → slice_get (made h) j ≡ Some e
-      → is_traced line.what (came.Switched cut) h k e ≡ true
-  switch_made from to number line cut h k j e made makes found exact there low high mine at =
-      let own = all_at (λ x. switches (switch_of line.what) h x ≡ true) (made h) j e (makes.own h) at in
-      let leaf = switched_leaf config ended from to number line.what cut found h e own in
-      let entered = switched_entry config ended from to number line.what cut found h leaf in
-      let few = subst (λ w. length w ≤ 1) (sym exact) (makes.few h) in
-      let stands = found.stands in
-      let since = subst (λ w. from w ≤ stands.place) leaf stands.since in
-      let until = subst (λ w. stands.place < to w) leaf stands.until in
-      let place : stands.place ≡ k = lone_between (λ x. nat_eq (book_entry_pass x) number) (from h) (to h)
-      (entries ended h) stands.place k (one.Leaf (switch_entry found.switch.down number)) e few entered since until
-      (same_to (book_entry_pass (one.Leaf (switch_entry found.switch.down number))) number
-      (switch_pass found.switch.down number))
-      there low high (same_to (book_entry_pass e) number mine) in
-      let counted : stands.place + 1 ≡ cut = found.last in
-      and_from (switches (switch_of line.what) h e) (nat_eq (k + 1) cut) own (same_to (k + 1) cut (omega arith))
 
   made_by : (from to : History → ℕ) (number : ℕ) (line : RanLine) (trace : LineTrace) (made : History → List BookEntry)
       (h : History) (k j : ℕ) (e : BookEntry) → HasMade config number line.what trace made
@@ -122,10 +87,9 @@ module _ (config : Config) (ended : Histories)
       all_at (λ x. is_fed pass accepted x ≡ true) (made h) j e (makes.1.own h) at
   made_by from to number line (came.Asked moment trace) made h k j e makes found exact there low high mine at =
       absurd (none_made made h j e makes at)
-  made_by from to number line (came.Switched cut) made h k j e makes found exact there low high mine at =
-      switch_made from to number line cut h k j e made makes found exact there low high mine at
-  made_by from to number line (came.Recovered slot) made h k j e makes found exact there low high mine at =
-      all_at (λ x. recovers (recovery_of line.what) slot h x ≡ true) (made h) j e (makes h) at
+  made_by from to number line (came.Controlled done) made h k j e makes found exact there low high mine at =
+      done_made config ended whole fronts held from to number line.what done h k j e made makes found exact there low
+      high mine at
   made_by from to number line (came.Refused why) made h k j e makes found exact there low high mine at =
       absurd (none_made made h j e makes at)
   made_by from to number line (came.Ticked dues) made h k j e makes found exact there low high mine at =
@@ -183,12 +147,8 @@ module _ (config : Config) (ended : Histories)
         (all_at (λ x. is_fed pass' rows' x ≡ true) (one.made h) j e (makes.1.own h) at) is
     made_sooner (came.Asked moment trace) pass rows refused h j e makes found found' at is =
         none_made one.made h j e makes at
-    made_sooner (came.Switched cut) pass rows refused h j e makes found found' at is =
-        not_switching pass rows (switch_of sooner.what) h e
-        (all_at (λ x. switches (switch_of sooner.what) h x ≡ true) (one.made h) j e (makes.own h) at) is
-    made_sooner (came.Recovered slot) pass rows refused h j e makes found found' at is =
-        not_recovering pass rows (recovery_of sooner.what) slot h e
-        (all_at (λ x. recovers (recovery_of sooner.what) slot h x ≡ true) (one.made h) j e (makes h) at) is
+    made_sooner (came.Controlled done) pass rows refused h j e makes found found' at is =
+        done_not_fed config pass rows sooner.what done h j e one.made makes at is
     made_sooner (came.Refused why) pass rows refused h j e makes found found' at is =
         none_made one.made h j e makes at
     made_sooner (came.Ticked dues) pass rows refused h j e makes found found' at is = none_made one.made h j e makes at
@@ -205,12 +165,8 @@ module _ (config : Config) (ended : Histories)
         (all_at (λ x. is_fed pass' rows' x ≡ true) (other.made h) j e (makes.1.own h) at)
     made_later (came.Asked moment trace) pass rows refused h j e makes found makes' found' at is =
         none_made other.made h j e makes at
-    made_later (came.Switched cut) pass rows refused h j e makes found makes' found' at is =
-        not_switching pass rows (switch_of later.what) h e
-        (all_at (λ x. switches (switch_of later.what) h x ≡ true) (other.made h) j e (makes.own h) at) is
-    made_later (came.Recovered slot) pass rows refused h j e makes found makes' found' at is =
-        not_recovering pass rows (recovery_of later.what) slot h e
-        (all_at (λ x. recovers (recovery_of later.what) slot h x ≡ true) (other.made h) j e (makes h) at) is
+    made_later (came.Controlled done) pass rows refused h j e makes found makes' found' at is =
+        done_not_fed config pass rows later.what done h j e other.made makes at is
     made_later (came.Refused why) pass rows refused h j e makes found makes' found' at is =
         none_made other.made h j e makes at
     made_later (came.Ticked dues) pass rows refused h j e makes found makes' found' at is = none_made other.made h j e makes at
@@ -223,11 +179,8 @@ module _ (config : Config) (ended : Histories)
     not_later (came.Fed pass rows refused) h j k e found there at less is =
         made_sooner sooner.trace pass rows refused h j e one.makes one.found.found found at is
     not_later (came.Asked moment trace) h j k e found there at less is = false≢true is
-    not_later (came.Switched cut) h j k e found there at less is =
-        let theirs = switch_place c d m later cut h k e found there is in
-        let low = theirs.low in let apart = behind h in omega arith
-    not_later (came.Recovered slot) h j k e found there at less is =
-        let theirs = recovery_place c d m later slot h k e found there is in
+    not_later (came.Controlled done) h j k e found there at less is =
+        let theirs = control_place c d m later done h k e found there is in
         let low = theirs.low in let apart = behind h in omega arith
     not_later (came.Refused why) h j k e found there at less is = false≢true is
     not_later (came.Ticked dues) h j k e found there at less is = false≢true is
@@ -241,11 +194,8 @@ module _ (config : Config) (ended : Histories)
     not_sooner (came.Fed pass rows refused) h j k e makes found there at more is =
         made_later later.trace pass rows refused h j e other.makes other.found.found makes found at is
     not_sooner (came.Asked moment trace) h j k e makes found there at more is = false≢true is
-    not_sooner (came.Switched cut) h j k e makes found there at more is =
-        let theirs = switch_place a b n sooner cut h k e found there is in
-        let high = theirs.high in let apart = behind h in omega arith
-    not_sooner (came.Recovered slot) h j k e makes found there at more is =
-        let theirs = recovery_place a b n sooner slot h k e found there is in
+    not_sooner (came.Controlled done) h j k e makes found there at more is =
+        let theirs = control_place a b n sooner done h k e found there is in
         let high = theirs.high in let apart = behind h in omega arith
     not_sooner (came.Refused why) h j k e makes found there at more is = false≢true is
     not_sooner (came.Ticked dues) h j k e makes found there at more is = false≢true is
@@ -344,11 +294,8 @@ module _ (config : Config) (ended : Histories) (begun : AreFronts (first_histori
       (firsts_open config.topology h) (ap (λ w. slice_get w k) p.1 ∙ there) less in
       false≢true (sym (opens pass rows) ∙ is)
   not_first from to number line (came.Asked moment trace) h k e found low there less is = false≢true is
-  not_first from to number line (came.Switched cut) h k e found low there less is =
-      let theirs = switch_place config ended whole fronts held from to number line cut h k e found there is in
-      let a = theirs.low in let b = low h in omega arith
-  not_first from to number line (came.Recovered slot) h k e found low there less is =
-      let theirs = recovery_place config ended whole fronts held from to number line slot h k e found there is in
+  not_first from to number line (came.Controlled done) h k e found low there less is =
+      let theirs = control_place config ended whole fronts held from to number line done h k e found there is in
       let a = theirs.low in let b = low h in omega arith
   not_first from to number line (came.Refused why) h k e found low there less is = false≢true is
   not_first from to number line (came.Ticked dues) h k e found low there less is = false≢true is

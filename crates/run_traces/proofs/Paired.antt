@@ -1,29 +1,27 @@
 -- Each put of a line is of a row that is acknowledged, as one that the put's slot took.
-use Rattle.std.proofs.Common.{◌≡◌, ◌∙◌, ◌+◌, ℕ, nat_eq, true, List, take, drop, slice_get, Some, None, refl, ap, subst, sym}
-use Rattle.std.specs.Prelude.{Contains, Option}
-use Rattle.std.proofs.lemmas.Bool.{and_parts, false≢true}
+use Rattle.std.proofs.Common.{◌≡◌, ◌∙◌, ℕ, nat_eq, true, List, take, drop, slice_get, Some, refl, ap, subst, sym}
+use Rattle.std.specs.Prelude.{Contains}
+use Rattle.std.proofs.lemmas.Bool.{false≢true}
 use Rattle.std.proofs.lemmas.List.{take-append-drop}
 use Rattle.std.proofs.lemmas.List.Elements.{Contains-append_left, Contains-append_right}
-use Rattle.history_book.specs.Histories.{book_entry_pass, entries, same_history}
+use Rattle.history_book.specs.Histories.{book_entry_pass, entries}
 use Rattle.history_book.specs.declared.views.BookEntry.{BookEntry}
 use Rattle.history_book.specs.declared.views.BookEntry.TheVariants as one
 use Rattle.history_book.specs.declared.views.History.{History}
 use Rattle.history_book.specs.declared.views.History.TheVariants as of
 use Rattle.mon_config.specs.declared.config.Config.{Config}
-use Rattle.mon_value.specs.Histories.{same_leaf}
 use Rattle.mon_value.specs.declared.histories.Entry.TheVariants as entry
 use Rattle.mon_value.specs.declared.histories.Histories.{Histories}
 use Rattle.mon_value.specs.declared.histories.RangeEntry.TheVariants as range_entry
-use Rattle.mon_value.specs.declared.positions.Slot.{Slot}
 use Rattle.run_theory.specs.Parts.{between}
 use Rattle.run_theory.proofs.Stands.{between_stands, kept_stands, same_to}
 use Rattle.run_traces.specs.LineClaims.{HasMade}
 use Rattle.run_traces.specs.LineFeeds.{HasItsAck, LineIsPaired}
-use Rattle.run_traces.specs.LineSwitches.{Recovery, Switch, goes, is_traced, opens_here, recovers, recovery_of, switch_of}
-use Rattle.run_traces.specs.LineSwitches.{switches}
+use Rattle.run_traces.specs.LineSwitches.{is_traced}
 use Rattle.run_traces.specs.RanLines.{RanLine}
 use Rattle.run_traces.specs.declared.traces.LineTrace.{LineTrace}
 use Rattle.run_traces.specs.declared.traces.LineTrace.TheVariants as came
+use Rattle.run_traces.proofs.Controls.{done_paired}
 use Rattle.run_traces.proofs.ListFacts.{all_at}
 use Rattle.run_traces.proofs.RowFacts.{fed_pass}
 use Rattle.run_traces.proofs.RunFacts.{InPlace}
@@ -44,33 +42,6 @@ among_all made all of_all (one.Leaf (entry.Put pass range slot row)) h = record 
 among_all made all of_all (one.Leaf (entry.Down pass)) h = h
 among_all made all of_all (one.Leaf (entry.Up pass)) h = h
 among_all made all of_all (one.Range e) h = h
-
--- no switch is a put, and no opening
-unpaired_switch : (made : History → List BookEntry) (switch : Option Switch) (h : History) (e : BookEntry)
-    → switches switch h e ≡ true → HasItsAck made e
-unpaired_switch made None h e is = absurd (false≢true is)
-unpaired_switch made (Some switch) h e is =
-    by e (and_parts (same_history (of.Leaf switch.leaf) h) (goes switch.down e) is).1
-  where
-    by : (e : BookEntry) → goes switch.down e ≡ true → HasItsAck made e
-    by (one.Leaf (entry.Opened pass range slot rows)) is = tt
-    by (one.Leaf (entry.Put pass range slot row)) is = absurd (false≢true is)
-    by (one.Leaf (entry.Down pass)) is = tt
-    by (one.Leaf (entry.Up pass)) is = tt
-    by (one.Range e) is = tt
-
-unpaired_opening : (made : History → List BookEntry) (recovery : Option Recovery) (slot : Slot) (h : History)
-    (e : BookEntry) → recovers recovery slot h e ≡ true → HasItsAck made e
-unpaired_opening made None slot h e is = absurd (false≢true is)
-unpaired_opening made (Some recovery) slot h (one.Leaf (entry.Opened pass range other rows)) is = tt
-unpaired_opening made (Some recovery) slot (of.Leaf leaf) (one.Leaf (entry.Put pass range other row)) is =
-    absurd (false≢true (and_parts (same_leaf recovery.leaf leaf)
-    (opens_here recovery.range slot (entry.Put pass range other row)) is).1)
-unpaired_opening made (Some recovery) slot (of.Range range) (one.Leaf (entry.Put pass on other row)) is =
-    absurd (false≢true is)
-unpaired_opening made (Some recovery) slot h (one.Leaf (entry.Down pass)) is = tt
-unpaired_opening made (Some recovery) slot h (one.Leaf (entry.Up pass)) is = tt
-unpaired_opening made (Some recovery) slot h (one.Range e) is = tt
 
 module _ (config : Config) (ended : Histories) (seen later : List RanLine) (line : RanLine)
     (place : InPlace config ended seen later line) where
@@ -105,11 +76,8 @@ module _ (config : Config) (ended : Histories) (seen later : List RanLine) (line
       (ap (λ (xs : List BookEntry). slice_get xs kept.0) (sym (place.ran.exact h)) ∙ kept.1))
   paired_by h k e there (came.Asked moment trace) same makes mine = absurd (false≢true mine)
   paired_by h k e there (came.Ticked dues) same makes mine = absurd (false≢true mine)
-  paired_by h k e there (came.Switched cut) same makes mine =
-      unpaired_switch (entries ended) (switch_of line.what) h e
-      (and_parts (switches (switch_of line.what) h e) (nat_eq (k + 1) cut) mine).0
-  paired_by h k e there (came.Recovered slot) same makes mine =
-      unpaired_opening (entries ended) (recovery_of line.what) slot h e mine
+  paired_by h k e there (came.Controlled done) same makes mine =
+      done_paired line.what done (entries ended) h k e mine
   paired_by h k e there (came.Refused why) same makes mine = absurd (false≢true mine)
   paired_by h k e there came.Done same makes mine = absurd (false≢true mine)
 

@@ -35,20 +35,22 @@ use Rattle.run_traces.specs.LineCauses.{HasRowCause, WereMissed}
 use Rattle.run_traces.specs.LineClaims.{AllTakenFound, Finds, FoundAmid, HasFound, HaveGrown, Makes, RowsFound}
 use Rattle.run_traces.specs.LineClaims.{StandsAmong}
 use Rattle.run_traces.specs.LineClaims.{marked}
-use Rattle.run_traces.specs.LineTables.{cuts_named, text_of}
-use Rattle.run_traces.specs.LineSwitches.{first_length}
-use Rattle.run_traces.specs.LineTexts.{asked_text, explanation, line_text, typed_text}
+use Rattle.run_traces.specs.LineAsks.{text_of}
+use Rattle.run_traces.specs.LineTables.{cuts_named}
+use Rattle.run_traces.specs.LineTexts.{asked_text, explanation, line_text, shown_text, typed_text}
 use Rattle.run_traces.specs.RanLines.{RanLine}
 use Rattle.run_traces.specs.declared.traces.LineTrace.{LineTrace}
 use Rattle.run_traces.specs.declared.traces.LineTrace.TheVariants as came
 use Rattle.run_traces.specs.declared.traces.RowRefusal.{RowRefusal}
 use Rattle.mon_script.specs.declared.forms.LineForm.{LineForm}
 use Rattle.mon_script.specs.declared.forms.LineForm.TheVariants as form
+use Rattle.mon_script.specs.declared.questions.How.{How}
+use Rattle.mon_script.specs.declared.questions.How.TheVariants as ways
 use Rattle.run_traces.proofs.Causes.{line_wider}
 use Rattle.run_traces.proofs.Growth.{claims_grow, goes_on}
 use Rattle.run_traces.proofs.ListFacts.{all_as, all_at}
 use Rattle.run_traces.proofs.RowFacts.{fed_pass}
-use Rattle.run_traces.proofs.Switched.{recovered_wider, switched_wider}
+use Rattle.run_traces.proofs.Controls.{done_wider}
 use Rattle.run_traces.proofs.RunFacts.{book_length, range_length}
 
 -- ---- lists
@@ -208,10 +210,8 @@ module _ (widen : (typed : TypedTree) (moment : ℤ) (from to earlier later : Le
       within = found.within;
       read = found.read;
     }
-    found_raised number made (came.Switched cut) none makes found = switched_wider more more from to from later
-        (λ h. omega arith) up leaf_itself range_itself number line.what cut found
-    found_raised number made (came.Recovered slot) none makes found = recovered_wider more more from to from later
-        (λ h. omega arith) up leaf_itself range_itself number line.what slot found
+    found_raised number made (came.Controlled done) none makes found = done_wider more more from to from later
+        (λ h. omega arith) up leaf_itself range_itself number line.what done found
     found_raised number made (came.Refused fault) none makes found =
         line_wider widen find rows config more more (marked from) (marked to) (marked from) (marked later) raised
         line.what fault found
@@ -263,25 +263,26 @@ module _ (widen : (typed : TypedTree) (moment : ℤ) (from to earlier later : Le
 
     -- ---- texts
 
+    shown_same : (how : How) (moment : ℤ) (trace : Trace) (typed : TypedTree)
+        → source_of more trace ≡ source_of seen trace
+        → shown_text config more how moment trace typed ≡ shown_text config seen how moment trace typed
+    shown_same ways.Query moment trace typed e =
+        ap (λ (some : List Row). table_text (column_names (columns_of typed.tree)) (meaning typed some moment)) e
+    shown_same ways.Check moment trace typed e =
+        ap (λ (some : List Row). table_text (column_names (columns_of typed.tree)) (meaning typed some moment)) e
+    shown_same ways.Explain moment trace typed e = ap
+        (λ (some : List Row). table_text (column_names (columns_of typed.tree)) (meaning typed some moment)
+        ++ explanation config.topology typed trace)
+        e
+
     typed_same : (what : LineForm) (moment : ℤ) (trace : Trace) (typed : TypedTree)
         → source_of more trace ≡ source_of seen trace
         → typed_text config more what moment trace typed ≡ typed_text config seen what moment trace typed
     typed_same (form.Feed name) moment trace typed e = refl
-    typed_same (form.Query at text) moment trace typed e =
-        ap (λ (some : List Row). table_text (column_names (columns_of typed.tree)) (meaning typed some moment)) e
-    typed_same (form.Check at text) moment trace typed e =
-        ap (λ (some : List Row). table_text (column_names (columns_of typed.tree)) (meaning typed some moment)) e
-    typed_same (form.Explain at text) moment trace typed e = ap
-        (λ (some : List Row). table_text (column_names (columns_of typed.tree)) (meaning typed some moment)
-        ++ explanation config.topology typed trace)
-        e
-    typed_same (form.Down leaf) moment trace typed e = refl
-    typed_same (form.Up leaf) moment trace typed e = refl
-    typed_same (form.Recover range leaf) moment trace typed e = refl
-    typed_same (form.Standing name period text) moment trace typed e = refl
-    typed_same (form.Tick at) moment trace typed e = refl
-    typed_same form.Together moment trace typed e = refl
-    typed_same form.End moment trace typed e = refl
+    typed_same (form.Ask asked) moment trace typed e = shown_same asked.how moment trace typed e
+    typed_same (form.Control what) moment trace typed e = refl
+    typed_same (form.Standing what) moment trace typed e = refl
+    typed_same (form.Block mark) moment trace typed e = refl
 
     asked_same : (what : LineForm) (moment : ℤ) (trace : Trace) (typed : Result TypedTree TextFault)
         → source_of more trace ≡ source_of seen trace
@@ -321,8 +322,7 @@ module _ (widen : (typed : TypedTree) (moment : ℤ) (from to earlier later : Le
         asked_same what moment trace (text_type config.schemas (text_of what))
         (rows found.typed moment (marked from) (marked to) (marked from) (marked to) seen more trace
         (wide from to forth within) found.of)
-    text_same from to number what content (came.Switched cut) forth within found = refl
-    text_same from to number what content (came.Recovered slot) forth within found = refl
+    text_same from to number what content (came.Controlled done) forth within found = refl
     text_same from to number what content (came.Refused fault) forth within found = refl
     text_same from to number what content (came.Ticked dues) forth within found = absurd found
     text_same from to number what content came.Done forth within found = refl

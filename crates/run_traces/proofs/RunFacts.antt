@@ -23,10 +23,11 @@ use Rattle.query_core.specs.declared.answers.Trace.{Trace}
 use Rattle.run_theory.specs.InPlace.{FoundThere, RanInPlace}
 use Rattle.run_theory.specs.InPlace as theory
 use Rattle.run_theory.specs.Parts.{RanBefore, Each, Part, all_lines, lines_of}
+use Rattle.run_traces.specs.LineAsks.{text_of}
 use Rattle.run_traces.specs.LineClaims.{Finds, HasFound, HasMade, HasRange, Makes, marked}
 use Rattle.run_traces.specs.LineFeeds.{lies_in}
 use Rattle.run_traces.specs.LineTables.{CutsRise, HoldsRows, LineIsFresh, cuts_named, IsRead, LineIsRead, IsTabled}
-use Rattle.run_traces.specs.LineTables.{LineIsPlaced, LineIsTabled, text_of}
+use Rattle.run_traces.specs.LineTables.{LineIsPlaced, LineIsTabled}
 use Rattle.run_traces.specs.LineSwitches.{LineStands, first_length, high, highs, is_entry_of, low, lows}
 use Rattle.run_traces.specs.RanLines.{RanLine, accepted_rows, trace_rows}
 use Rattle.run_traces.specs.declared.traces.LineTrace.{LineTrace}
@@ -149,8 +150,7 @@ module _ (config : Config) (ended : Histories) where
           (λ range there. rows_before config ended before.from before.to before.number pass rows before.ran.made makes.1
           before.ran.exact P range (place.from (of.Range range)) (before.below (of.Range range)) (fresh range there))
       rows_by other (came.Asked moment trace) before makes found = tt
-      rows_by other (came.Switched cut) before makes found = tt
-      rows_by other (came.Recovered slot) before makes found = tt
+      rows_by other (came.Controlled done) before makes found = tt
       rows_by other (came.Refused fault) before makes found = tt
       rows_by other (came.Ticked dues) before makes found = tt
       rows_by other came.Done before makes found = tt
@@ -164,8 +164,7 @@ module _ (config : Config) (ended : Histories) where
         → HoldsRows ended seen trace
     holds_rows (came.Fed pass rows refused) found = tt
     holds_rows (came.Asked moment trace) found = rows_of (Contains (source_of ended trace)) found.fresh.rows
-    holds_rows (came.Switched cut) found = tt
-    holds_rows (came.Recovered slot) found = tt
+    holds_rows (came.Controlled done) found = tt
     holds_rows (came.Refused fault) found = tt
     holds_rows (came.Ticked dues) found = tt
     holds_rows came.Done found = tt
@@ -195,8 +194,7 @@ module _ (config : Config) (ended : Histories) where
         → IsRead config ended (text_of line.what) trace
     read_by (came.Fed pass rows refused) found = tt
     read_by (came.Asked moment trace) found = found.read
-    read_by (came.Switched cut) found = tt
-    read_by (came.Recovered slot) found = tt
+    read_by (came.Controlled done) found = tt
     read_by (came.Refused fault) found = tt
     read_by (came.Ticked dues) found = tt
     read_by came.Done found = tt
@@ -226,8 +224,7 @@ module _ (config : Config) (ended : Histories) where
             (highs config.topology ended later) ended ended one wider is) trace.down found.down;
         within = found.within;
       }
-      tabled_by (came.Switched cut) found = tt
-      tabled_by (came.Recovered slot) found = tt
+      tabled_by (came.Controlled done) found = tt
       tabled_by (came.Refused fault) found = tt
       tabled_by (came.Ticked dues) found = tt
       tabled_by came.Done found = tt

@@ -32,8 +32,9 @@ use Rattle.mon_value.specs.declared.rows.Row.{Row}
 use Rattle.mon_script.specs.declared.forms.LineForm.{LineForm}
 use Rattle.run_theory.specs.Parts.{AreBelow, between}
 use Rattle.run_theory.proofs.Stands.{kept_stands}
-use Rattle.run_traces.specs.LineSwitches.{is_fed, IsRecoveredBetween, IsSwitchedBetween, Recovery, StandsBetween, goes}
-use Rattle.run_traces.specs.LineSwitches.{opens, recovers, recovery_of, switch_entry, switch_of, switches}
+use Rattle.run_traces.specs.LineAsks.{Recovery, recovery_of, switch_of}
+use Rattle.run_traces.specs.LineSwitches.{is_fed, IsRecoveredBetween, IsSwitchedBetween, StandsBetween, goes}
+use Rattle.run_traces.specs.LineSwitches.{opens, recovers, switch_entry, switches}
 use Rattle.run_traces.proofs.ListFacts.{no_item}
 use Rattle.query_core.proofs.LeafLemmas.{same_leaves}
 

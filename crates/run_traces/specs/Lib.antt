@@ -1,4 +1,5 @@
 pub mod Headline
+pub mod LineAsks
 pub mod LineCauses
 pub mod LineClaims
 pub mod LineDues

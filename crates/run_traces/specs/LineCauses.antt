@@ -33,16 +33,26 @@ use Rattle.query_texts.specs.declared.faults.TextFault.TheVariants as fault
 use Rattle.range_cell.specs.declared.answers.WriteFault.{WriteFault}
 use Rattle.range_cell.specs.declared.answers.WriteFault.TheVariants as unwritten
 use Rattle.mon_script.specs.declared.forms.LineForm.{LineForm}
-use Rattle.run_traces.specs.LineSwitches.{highs, lows, Recovery, Switch, recovery_of, switch_of}
-use Rattle.run_traces.specs.LineTables.{moment_of, text_of}
+use Rattle.run_traces.specs.LineAsks.{moment_of, Recovery, recovery_of, Switch, switch_of, text_of}
+use Rattle.run_traces.specs.LineSwitches.{highs, lows}
 use Rattle.run_traces.specs.RanLines.{RanLine}
+use Rattle.run_traces.specs.declared.traces.ControlFault.{ControlFault}
+use Rattle.run_traces.specs.declared.traces.ControlFault.TheVariants as undone
 use Rattle.run_traces.specs.declared.traces.LineFault.{LineFault}
 use Rattle.run_traces.specs.declared.traces.LineFault.TheVariants as why
 use Rattle.run_traces.specs.declared.traces.LineTrace.{LineTrace}
 use Rattle.run_traces.specs.declared.traces.LineTrace.TheVariants as came
+use Rattle.run_traces.specs.declared.traces.QuestionFault.{QuestionFault}
+use Rattle.run_traces.specs.declared.traces.QuestionFault.TheVariants as unanswered
+use Rattle.run_traces.specs.declared.traces.RecoveryFault.{RecoveryFault}
+use Rattle.run_traces.specs.declared.traces.RecoveryFault.TheVariants as unopened
 use Rattle.run_traces.specs.declared.traces.RowRefusal.{RowRefusal}
 use Rattle.run_traces.specs.declared.traces.RowRefused.{RowRefused}
 use Rattle.run_traces.specs.declared.traces.RowRefused.TheVariants as refused
+use Rattle.run_traces.specs.declared.traces.SwitchFault.{SwitchFault}
+use Rattle.run_traces.specs.declared.traces.SwitchFault.TheVariants as unswitched
+use Rattle.standing.specs.declared.faults.StandingFault.{StandingFault}
+use Rattle.standing.specs.declared.faults.StandingFault.TheVariants as unstood
 use Rattle.write_core.specs.Recovering.{denial_of}
 use Rattle.write_core.specs.RangeAnswers.{refusal}
 use Rattle.write_core.specs.declared.copies.Denial.{Denial}
@@ -139,23 +149,42 @@ module _ (config : Config) (ended : Histories) (from to : Lengths) where
     pub source : HasSource recovery.range found
     pub down : IsFoundBetween from to ended (record { leaf = recovery.leaf; cut = cut })
 
-  -- why a line is refused; that a query isn't to stand, or a moment isn't taken, is told by the queries that stand
+  -- why a question has no table
+  abbrev pub QuestionCause : LineForm → QuestionFault → Type 0
+  QuestionCause what (unanswered.Parse parse) = text_type config.schemas (text_of what) ≡ Err (fault.Parse parse)
+  QuestionCause what (unanswered.Typing typing) = text_type config.schemas (text_of what) ≡ Err (fault.Typing typing)
+  QuestionCause what (unanswered.NoReplica range founds) = IsLeftWithout (text_of what) range founds
+  QuestionCause what (unanswered.StepLimit limit trace) = IsOverLimit (text_of what) (moment_of what) limit trace
+
+  -- why a control isn't done
+  abbrev pub SwitchCause : LineForm → SwitchFault → Type 0
+  SwitchCause what (unswitched.AlreadyDown cut) = WasAlready what true cut
+  SwitchCause what (unswitched.AlreadyUp cut) = WasAlready what false cut
+  SwitchCause what (unswitched.SwitchesSpent count) = HasSwitchedEnough what count
+
+  abbrev pub RecoveryCause : LineForm → RecoveryFault → Type 0
+  RecoveryCause what (unopened.Serving slot) = IsDenied what (denial.ServesThere slot)
+  RecoveryCause what unopened.ThreeServing = IsDenied what denial.ServesFully
+  RecoveryCause what (unopened.SlotsSpent count) = IsDenied what (denial.SlotsSpent count)
+  RecoveryCause what (unopened.SourceDown founds) = HasNoSource what founds
+  RecoveryCause what (unopened.TargetDown cut) = HasNoTarget what cut
+
+  abbrev pub ControlCause : LineForm → ControlFault → Type 0
+  ControlCause what (undone.Switch fault) = SwitchCause what fault
+  ControlCause what (undone.Recovery fault) = RecoveryCause what fault
+
+  -- why a query isn't to stand; that its name is taken is told by the queries that stand
+  abbrev pub StandingCause : LineForm → StandingFault → Type 0
+  StandingCause what unstood.NameTaken = Unit {0}
+  StandingCause what (unstood.Parse parse) = text_type config.schemas (text_of what) ≡ Err (fault.Parse parse)
+  StandingCause what (unstood.Typing typing) = text_type config.schemas (text_of what) ≡ Err (fault.Typing typing)
+
+  -- why a line is refused; that a moment isn't taken is told by the queries that stand, too
   abbrev pub HasCause : LineForm → LineFault → Type 0
-  HasCause what (why.Parse parse) = text_type config.schemas (text_of what) ≡ Err (fault.Parse parse)
-  HasCause what (why.Typing typing) = text_type config.schemas (text_of what) ≡ Err (fault.Typing typing)
-  HasCause what (why.NoReplica range founds) = IsLeftWithout (text_of what) range founds
-  HasCause what (why.StepLimit limit trace) = IsOverLimit (text_of what) (moment_of what) limit trace
-  HasCause what (why.AlreadyDown cut) = WasAlready what true cut
-  HasCause what (why.AlreadyUp cut) = WasAlready what false cut
-  HasCause what (why.SwitchesSpent count) = HasSwitchedEnough what count
-  HasCause what (why.Serving slot) = IsDenied what (denial.ServesThere slot)
-  HasCause what why.ThreeServing = IsDenied what denial.ServesFully
-  HasCause what (why.SlotsSpent count) = IsDenied what (denial.SlotsSpent count)
-  HasCause what (why.SourceDown founds) = HasNoSource what founds
-  HasCause what (why.TargetDown cut) = HasNoTarget what cut
-  HasCause what why.NameTaken = Unit {0}
-  HasCause what (why.TooManyDue most) = Unit {0}
-  HasCause what (why.Backwards last) = Unit {0}
+  HasCause what (why.Question fault) = QuestionCause what fault
+  HasCause what (why.Control fault) = ControlCause what fault
+  HasCause what (why.Standing fault) = StandingCause what fault
+  HasCause what (why.Due fault) = Unit {0}
 
   -- the range's history at a length between them refuses the row so
   pub record IsRefusedByRange (row : Row) (told : Refused) : Type 0 where
@@ -242,13 +271,9 @@ module _ (config : Config) (ended : Histories) where
   IsCaused seen later line (came.Fed pass accepted refusals) =
       RowsHaveCauses config ended seen later line pass (reads_of config.schemas line.content) accepted 0 refusals
       × RowsAreTaken config ended seen later line pass accepted 0 accepted
-  IsCaused seen later line (came.Asked moment trace) = Unit {0}
-  IsCaused seen later line (came.Ticked dues) = Unit {0}
-  IsCaused seen later line (came.Switched cut) = Unit {0}
-  IsCaused seen later line (came.Recovered slot) = Unit {0}
   IsCaused seen later line (came.Refused fault) =
       HasCause config ended (lows config.topology ended seen) (highs config.topology ended later) line.what fault
-  IsCaused seen later line came.Done = Unit {0}
+  IsCaused seen later line other = Unit {0}
 
   abbrev pub LineIsCaused : List RanLine → List RanLine → RanLine → Type 0
   LineIsCaused seen later line = IsCaused seen later line line.trace

@@ -17,7 +17,6 @@ use Rattle.mon_value.specs.declared.histories.Histories.{Histories}
 use Rattle.mon_value.specs.declared.histories.RangeEntry.TheVariants as range_entry
 use Rattle.mon_value.specs.declared.positions.Leaf.{Leaf}
 use Rattle.mon_value.specs.declared.positions.Range.{Range}
-use Rattle.mon_value.specs.declared.positions.Slot.{Slot}
 use Rattle.mon_value.specs.declared.rows.Row.{Row}
 use Rattle.mon_script.specs.declared.forms.LineForm.{LineForm}
 use Rattle.typed_trees.specs.Nodes.{TypedTree}
@@ -33,9 +32,9 @@ use Rattle.run_theory.specs.Writings.{PartWrote}
 use Rattle.run_traces.specs.LineCauses.{HasCause, HasRowCause, WereMissed, rows_before}
 use Rattle.run_traces.specs.LineFeeds.{HasItsAck, IsTold, lies_in}
 use Rattle.run_traces.specs.LineForms.{LineSuits}
-use Rattle.run_traces.specs.LineTables.{cuts_named, IsReadByPlan, text_of}
-use Rattle.run_traces.specs.LineSwitches.{first_length, is_fed, is_row, IsRecoveredBetween, IsSwitchedBetween, recovers}
-use Rattle.run_traces.specs.LineSwitches.{recovery_of, switch_of, switches}
+use Rattle.run_traces.specs.LineAsks.{text_of}
+use Rattle.run_traces.specs.LineTables.{cuts_named, IsReadByPlan}
+use Rattle.run_traces.specs.LineSwitches.{DoneMade, first_length, is_fed, is_row, IsDoneBetween}
 use Rattle.run_traces.specs.RanLines.{RanLine}
 use Rattle.run_traces.specs.declared.traces.LineTrace.{LineTrace}
 use Rattle.run_traces.specs.declared.traces.RowRefusal.{RowRefusal}
@@ -66,24 +65,10 @@ module _ (config : Config) where
     pub acks : (range : Range) → flat_map book_row (made (of.Range range)) ≡ filter (lies_in config range) accepted
     pub paired : (history : History) → AllByRecursion (HasItsAck made) (made history)
 
-  -- a switch made one entry at most, the one that is asked for
-  pub record SwitchMade (what : LineForm) (made : History → List BookEntry) : Type 0 where
-    pub own : (history : History) → AllByRecursion (λ e. switches (switch_of what) history e ≡ true) (made history)
-    pub few : (history : History) → length (made history) ≤ 1
-
-  -- a recovery made nothing but what opens its slot
-  abbrev pub RecoveryMade : LineForm → Slot → (History → List BookEntry) → Type 0
-  RecoveryMade what slot made = (history : History)
-      → AllByRecursion (λ e. recovers (recovery_of what) slot history e ≡ true) (made history)
-
   abbrev pub HasMade : ℕ → LineForm → LineTrace → (History → List BookEntry) → Type 0
   HasMade n what (came.Fed pass accepted refused) made = (pass ≡ n) × FeedMade pass accepted made
-  HasMade n what (came.Asked moment trace) made = (history : History) → made history ≡ []
-  HasMade n what (came.Ticked dues) made = (history : History) → made history ≡ []
-  HasMade n what (came.Switched cut) made = SwitchMade what made
-  HasMade n what (came.Recovered slot) made = RecoveryMade what slot made
-  HasMade n what (came.Refused why) made = (history : History) → made history ≡ []
-  HasMade n what came.Done made = (history : History) → made history ≡ []
+  HasMade n what (came.Controlled done) made = DoneMade config what done made
+  HasMade n what other made = (history : History) → made history ≡ []
 
   abbrev pub Makes : ℕ → RanLine → (History → List BookEntry) → Type 0
   Makes n line made = HasMade n line.what line.trace made
@@ -166,8 +151,7 @@ module _ (config : Config) (seen : Histories) (from to : History → ℕ) where
   HasFound n line (came.Fed pass accepted refused) = FeedFound line.content pass accepted refused
   HasFound n line (came.Asked moment trace) = LookFound (text_of line.what) moment trace
   HasFound n line (came.Ticked dues) = ⊥
-  HasFound n line (came.Switched cut) = IsSwitchedBetween seen from to n line.what cut
-  HasFound n line (came.Recovered slot) = IsRecoveredBetween seen from to n line.what slot
+  HasFound n line (came.Controlled done) = IsDoneBetween seen from to n line.what done
   HasFound n line (came.Refused why) = HasCause config seen (marked from) (marked to) line.what why
   HasFound n line came.Done = Unit {0}
 

@@ -6,13 +6,13 @@ use Rattle.mon_schema.specs.Names.{SchemaLists}
 use Rattle.mon_script.specs.declared.forms.LineForm.{LineForm}
 use Rattle.mon_script.specs.declared.forms.LineForm.TheVariants as form
 use Rattle.mon_script.specs.declared.script.ScriptLine.{ScriptLine}
+use Rattle.mon_script.specs.declared.standing_lines.StandingLine.{StandingLine}
+use Rattle.mon_script.specs.declared.standing_lines.StandingLine.TheVariants as line
 use Rattle.run_theory.specs.Parts.{Alone, Beside, Part}
 use Rattle.standing.specs.DueLists.{add_fault, due_answer, StandingState, at_moment, standing_query, with_query}
 use Rattle.standing.specs.declared.dues.Due.{Due}
 use Rattle.standing.specs.declared.faults.DueFault.{DueFault}
-use Rattle.standing.specs.declared.faults.DueFault.TheVariants as undue
-use Rattle.standing.specs.declared.faults.StandingFault.{StandingFault}
-use Rattle.standing.specs.declared.faults.StandingFault.TheVariants as unstood
+use Rattle.run_traces.specs.LineAsks.{query_form}
 use Rattle.run_traces.specs.RanLines.{RanLine}
 use Rattle.run_traces.specs.declared.traces.DueEnd.{DueEnd}
 use Rattle.run_traces.specs.declared.traces.DueEnd.TheVariants as end
@@ -31,13 +31,9 @@ is_due_refused (end.Refused fault) = true
 
 -- whether a line was refused, or a query that it asked
 abbrev pub is_refused : LineTrace → Bool
-is_refused (came.Fed pass accepted refused) = false
-is_refused (came.Asked moment trace) = false
 is_refused (came.Ticked dues) = list_any (λ (one : DueTrace). is_due_refused one.end) dues
-is_refused (came.Switched cut) = false
-is_refused (came.Recovered slot) = false
 is_refused (came.Refused fault) = true
-is_refused came.Done = false
+is_refused other = false
 
 -- 7 where a line was refused or a query that was due, and else 0
 abbrev pub lines_status : List RanLine → ℕ
@@ -55,20 +51,15 @@ end_trace moment (end.Refused fault) = came.Refused fault
 -- a query that was due, as a line that asks its text at its time
 abbrev pub due_line : DueTrace → RanLine
 due_line one = record {
-  what = form.Query one.due.at one.due.text;
+  what = query_form one.due.at one.due.text;
   content = [];
   trace = end_trace one.due.at one.end;
 }
 
 -- a tick as the queries that it asked, one after another, and any other line as it is
 abbrev pub asked_by : RanLine → LineTrace → List RanLine
-asked_by line (came.Fed pass accepted refused) = line ∷ []
-asked_by line (came.Asked moment trace) = line ∷ []
 asked_by line (came.Ticked dues) = map due_line dues
-asked_by line (came.Switched cut) = line ∷ []
-asked_by line (came.Recovered slot) = line ∷ []
-asked_by line (came.Refused fault) = line ∷ []
-asked_by line came.Done = line ∷ []
+asked_by line other = line ∷ []
 
 -- a line alone as such parts; the lines of a block ask no such queries
 abbrev pub asked_part : Part RanLine → List (Part RanLine)
@@ -82,79 +73,47 @@ asked_parts = flat_map asked_part
 
 -- which queries were asked, or why none was
 abbrev pub due_told : LineTrace → Option (Result (List Due) LineFault)
-due_told (came.Fed pass accepted refused) = None
-due_told (came.Asked moment trace) = None
 due_told (came.Ticked dues) = Some (Ok (map (λ (one : DueTrace). one.due) dues))
-due_told (came.Switched cut) = None
-due_told (came.Recovered slot) = None
 due_told (came.Refused fault) = Some (Err fault)
-due_told came.Done = None
+due_told other = None
 
 -- that a query came to stand, or why it didn't
 abbrev pub stood_told : LineTrace → Option (Option LineFault)
-stood_told (came.Fed pass accepted refused) = None
-stood_told (came.Asked moment trace) = None
-stood_told (came.Ticked dues) = None
-stood_told (came.Switched cut) = None
-stood_told (came.Recovered slot) = None
 stood_told (came.Refused fault) = Some (Some fault)
 stood_told came.Done = Some None
+stood_told other = None
 
 abbrev pub is_ticked : LineTrace → Bool
-is_ticked (came.Fed pass accepted refused) = false
-is_ticked (came.Asked moment trace) = false
 is_ticked (came.Ticked dues) = true
-is_ticked (came.Switched cut) = false
-is_ticked (came.Recovered slot) = false
-is_ticked (came.Refused fault) = false
-is_ticked came.Done = false
-
-abbrev pub unstood_fault : StandingFault → LineFault
-unstood_fault unstood.NameTaken = why.NameTaken
-unstood_fault (unstood.Parse fault) = why.Parse fault
-unstood_fault (unstood.Typing fault) = why.Typing fault
-
-abbrev pub undue_fault : DueFault → LineFault
-undue_fault (undue.TooManyDue most) = why.TooManyDue most
-undue_fault (undue.Backwards last) = why.Backwards last
+is_ticked other = false
 
 abbrev pub due_outcome : Result (List Due) DueFault → Result (List Due) LineFault
 due_outcome (Ok dues) = Ok dues
-due_outcome (Err fault) = Err (undue_fault fault)
+due_outcome (Err fault) = Err (why.Due fault)
 
 -- ---- lines one after another
 
 -- what stands behind a line
-abbrev pub stands_behind : StandingState → LineForm → LineTrace → StandingState
-stands_behind state (form.Feed name) trace = state
-stands_behind state (form.Query moment text) trace = state
-stands_behind state (form.Check moment text) trace = state
-stands_behind state (form.Explain moment text) trace = state
-stands_behind state (form.Down leaf) trace = state
-stands_behind state (form.Up leaf) trace = state
-stands_behind state (form.Recover range leaf) trace = state
-stands_behind state (form.Standing name period text) trace =
+abbrev pub standing_behind : StandingState → StandingLine → LineTrace → StandingState
+standing_behind state (line.Stand name period text) trace =
     if is_refused trace then state else with_query state (standing_query name period text)
-stands_behind state (form.Tick moment) trace = if is_ticked trace then at_moment state moment else state
-stands_behind state form.Together trace = state
-stands_behind state form.End trace = state
+standing_behind state (line.Tick moment) trace = if is_ticked trace then at_moment state moment else state
+
+abbrev pub stands_behind : StandingState → LineForm → LineTrace → StandingState
+stands_behind state (form.Standing what) trace = standing_behind state what trace
+stands_behind state other trace = state
 
 -- A query comes to stand unless its name is taken or its text has a fault; a tick asks just the queries that are due, in
 -- their order, unless its moment isn't taken; and no other line asks such queries
-abbrev pub IsDueBy : SchemaLists → StandingState → LineForm → LineTrace → Type 0
-IsDueBy schemas state (form.Feed name) trace = is_ticked trace ≡ false
-IsDueBy schemas state (form.Query moment text) trace = is_ticked trace ≡ false
-IsDueBy schemas state (form.Check moment text) trace = is_ticked trace ≡ false
-IsDueBy schemas state (form.Explain moment text) trace = is_ticked trace ≡ false
-IsDueBy schemas state (form.Down leaf) trace = is_ticked trace ≡ false
-IsDueBy schemas state (form.Up leaf) trace = is_ticked trace ≡ false
-IsDueBy schemas state (form.Recover range leaf) trace = is_ticked trace ≡ false
-IsDueBy schemas state (form.Standing name period text) trace =
-    stood_told trace ≡ Some (option_map unstood_fault (add_fault schemas state.queries name text))
-IsDueBy schemas state (form.Tick moment) trace =
+abbrev pub StandsBy : SchemaLists → StandingState → StandingLine → LineTrace → Type 0
+StandsBy schemas state (line.Stand name period text) trace =
+    stood_told trace ≡ Some (option_map why.Standing (add_fault schemas state.queries name text))
+StandsBy schemas state (line.Tick moment) trace =
     due_told trace ≡ Some (due_outcome (due_answer state.last moment state.queries))
-IsDueBy schemas state form.Together trace = is_ticked trace ≡ false
-IsDueBy schemas state form.End trace = is_ticked trace ≡ false
+
+abbrev pub IsDueBy : SchemaLists → StandingState → LineForm → LineTrace → Type 0
+IsDueBy schemas state (form.Standing what) trace = StandsBy schemas state what trace
+IsDueBy schemas state other trace = is_ticked trace ≡ false
 
 -- of each line of a script that came to something, with what stands before it
 abbrev pub AreDue : SchemaLists → StandingState → List ScriptLine → List LineTrace → Type 0

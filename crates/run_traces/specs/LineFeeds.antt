@@ -59,12 +59,7 @@ module _ (config : Config) where
   -- each record of the file is told of, once and in order
   abbrev pub IsTold : List ℕ → LineTrace → Type 0
   IsTold content (came.Fed pass accepted refusals) = AreTold 1 (reads_of config.schemas content) accepted refusals
-  IsTold content (came.Asked moment trace) = Unit {0}
-  IsTold content (came.Ticked dues) = Unit {0}
-  IsTold content (came.Switched cut) = Unit {0}
-  IsTold content (came.Recovered slot) = Unit {0}
-  IsTold content (came.Refused fault) = Unit {0}
-  IsTold content came.Done = Unit {0}
+  IsTold content other = Unit {0}
 
   abbrev pub LineIsTold : RanLine → Type 0
   LineIsTold line = IsTold line.content line.trace
@@ -83,12 +78,7 @@ module _ (config : Config) where
   abbrev pub accepted_in : ℕ → Range → LineTrace → List Row
   accepted_in n range (came.Fed pass accepted refusals) =
       if nat_eq n pass then filter (lies_in range) accepted else []
-  accepted_in n range (came.Asked moment trace) = []
-  accepted_in n range (came.Ticked dues) = []
-  accepted_in n range (came.Switched cut) = []
-  accepted_in n range (came.Recovered slot) = []
-  accepted_in n range (came.Refused fault) = []
-  accepted_in n range came.Done = []
+  accepted_in n range other = []
 
   -- what is acknowledged under a number in a range's history is what the lines of that number accepted, in their order
   abbrev pub AreAcknowledged : Histories → List RanLine → Type 0

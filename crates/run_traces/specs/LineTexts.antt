@@ -26,9 +26,8 @@ use Rattle.query_texts.specs.TextTypes.{text_type}
 use Rattle.query_texts.specs.declared.faults.TextFault.{TextFault}
 use Rattle.range_cell.specs.declared.answers.WriteFault.{WriteFault}
 use Rattle.range_cell.specs.declared.answers.WriteFault.TheVariants as unwritten
-use Rattle.mon_value.specs.declared.positions.Slot.{Slot}
-use Rattle.run_traces.specs.LineSwitches.{Recovery, Switch, recovery_of, switch_of}
-use Rattle.run_traces.specs.LineTables.{text_of}
+use Rattle.run_traces.specs.LineAsks.{file_of, query_form, text_of}
+use Rattle.run_traces.specs.LineSwitches.{control_done_text, control_fault_text}
 use Rattle.run_traces.specs.RanLines.{RanLine}
 use Rattle.run_traces.specs.declared.traces.DueEnd.{DueEnd}
 use Rattle.run_traces.specs.declared.traces.DueEnd.TheVariants as end
@@ -37,14 +36,22 @@ use Rattle.run_traces.specs.declared.traces.LineFault.{LineFault}
 use Rattle.run_traces.specs.declared.traces.LineFault.TheVariants as why
 use Rattle.run_traces.specs.declared.traces.LineTrace.{LineTrace}
 use Rattle.run_traces.specs.declared.traces.LineTrace.TheVariants as came
+use Rattle.run_traces.specs.declared.traces.QuestionFault.{QuestionFault}
+use Rattle.run_traces.specs.declared.traces.QuestionFault.TheVariants as unanswered
 use Rattle.run_traces.specs.declared.traces.RowRefusal.{RowRefusal}
 use Rattle.run_traces.specs.declared.traces.RowRefused.{RowRefused}
 use Rattle.run_traces.specs.declared.traces.RowRefused.TheVariants as refused
-use Rattle.mon_script.specs.Controls.{control_refusal_text, recovered_text, source_down_text, switched_text}
-use Rattle.mon_script.specs.declared.control_texts.ControlRefusal.TheVariants as control
 use Rattle.mon_script.specs.declared.forms.LineForm.{LineForm}
 use Rattle.mon_script.specs.declared.forms.LineForm.TheVariants as form
+use Rattle.mon_script.specs.declared.questions.How.{How}
+use Rattle.mon_script.specs.declared.questions.How.TheVariants as how
+use Rattle.mon_script.specs.declared.standing_lines.StandingLine.{StandingLine}
+use Rattle.mon_script.specs.declared.standing_lines.StandingLine.TheVariants as line
 use Rattle.standing.specs.declared.dues.Due.{Due}
+use Rattle.standing.specs.declared.faults.DueFault.{DueFault}
+use Rattle.standing.specs.declared.faults.DueFault.TheVariants as undue
+use Rattle.standing.specs.declared.faults.StandingFault.{StandingFault}
+use Rattle.standing.specs.declared.faults.StandingFault.TheVariants as unstood
 use Rattle.write_core.specs.RangeAnswers.{no_zone_text, refused_text}
 use Rattle.write_core.specs.declared.refusals.Refused.TheVariants as ranged
 
@@ -75,19 +82,10 @@ abbrev pub feed_text : List ZoneSpec → List ℕ → ℕ → List RowRefusal �
 feed_text zones name accepted refused =
     feed_summary name accepted (length refused) ++ flat_map (refusal_line zones) refused
 
--- the name of a line's file, if it has one
-abbrev pub file_of : LineForm → List ℕ
-file_of (form.Feed name) = name
-file_of (form.Query moment text) = []
-file_of (form.Check moment text) = []
-file_of (form.Explain moment text) = []
-file_of (form.Down leaf) = []
-file_of (form.Up leaf) = []
-file_of (form.Recover range leaf) = []
-file_of (form.Standing name period text) = []
-file_of (form.Tick moment) = []
-file_of form.Together = []
-file_of form.End = []
+-- the name of a file, if there is one
+abbrev pub file_name : Option (List ℕ) → List ℕ
+file_name (Some name) = name
+file_name None = []
 
 -- ---- explanations
 
@@ -123,33 +121,16 @@ leaf_lines trace n (name ∷ names) =
 abbrev pub explanation : List ZoneSpec → TypedTree → Trace → List ℕ
 explanation zones typed trace = flat_map op_line (op_levels typed) ++ leaf_lines trace 0 (leaves_in zones)
 
--- ---- leaves that are switched, and replicas that are opened
-
--- the leaf that went down, or came up
-abbrev pub switch_text : List ZoneSpec → Option Switch → List ℕ
-switch_text zones None = []
-switch_text zones (Some switch) = switched_text zones switch.leaf switch.down
-
--- the range and the leaf, and the slot that was opened
-abbrev pub recovery_text : List ZoneSpec → Option Recovery → Slot → List ℕ
-recovery_text zones None slot = []
-recovery_text zones (Some recovery) slot = recovered_text zones recovery.range recovery.leaf slot
-
 -- ---- standing queries
 
 -- a query stands from then on; a line that begins a block or ends it prints nothing
+abbrev pub stood_text : StandingLine → List ℕ
+stood_text (line.Stand name period text) = codes "standing " ++ (name ++ (codes ": added" ++ newline))
+stood_text (line.Tick moment) = []
+
 abbrev pub done_text : LineForm → List ℕ
-done_text (form.Feed name) = []
-done_text (form.Query moment text) = []
-done_text (form.Check moment text) = []
-done_text (form.Explain moment text) = []
-done_text (form.Down leaf) = []
-done_text (form.Up leaf) = []
-done_text (form.Recover range leaf) = []
-done_text (form.Standing name period text) = codes "standing " ++ (name ++ (codes ": added" ++ newline))
-done_text (form.Tick moment) = []
-done_text form.Together = []
-done_text form.End = []
+done_text (form.Standing what) = stood_text what
+done_text other = []
 
 -- the name of a query that was due, and when
 abbrev pub due_heading : Due → List ℕ
@@ -157,22 +138,26 @@ due_heading due = due.name ++ (codes " at " ++ (signed_decimal due.at ++ (codes 
 
 -- ---- lines
 
+abbrev pub question_fault_text : List ZoneSpec → QuestionFault → List ℕ
+question_fault_text zones (unanswered.Parse fault) = codes "Parse " ++ parse_fault_text fault
+question_fault_text zones (unanswered.Typing fault) = codes "Typing " ++ type_fault_text fault
+question_fault_text zones (unanswered.NoReplica range founds) = codes "NoReplica " ++ down_text zones range founds
+question_fault_text zones (unanswered.StepLimit limit trace) = limit_text limit
+
+abbrev pub standing_fault_text : StandingFault → List ℕ
+standing_fault_text unstood.NameTaken = codes "NameTaken"
+standing_fault_text (unstood.Parse fault) = codes "Parse " ++ parse_fault_text fault
+standing_fault_text (unstood.Typing fault) = codes "Typing " ++ type_fault_text fault
+
+abbrev pub due_fault_text : DueFault → List ℕ
+due_fault_text (undue.TooManyDue most) = codes "TooManyDue " ++ decimal most
+due_fault_text (undue.Backwards last) = codes "Backwards " ++ signed_decimal last
+
 abbrev pub line_fault_text : List ZoneSpec → LineFault → List ℕ
-line_fault_text zones (why.Parse fault) = codes "Parse " ++ parse_fault_text fault
-line_fault_text zones (why.Typing fault) = codes "Typing " ++ type_fault_text fault
-line_fault_text zones (why.NoReplica range founds) = codes "NoReplica " ++ down_text zones range founds
-line_fault_text zones (why.StepLimit limit trace) = limit_text limit
-line_fault_text zones (why.AlreadyDown cut) = control_refusal_text (control.AlreadyDown cut)
-line_fault_text zones (why.AlreadyUp cut) = control_refusal_text (control.AlreadyUp cut)
-line_fault_text zones (why.SwitchesSpent count) = control_refusal_text (control.SwitchesSpent count)
-line_fault_text zones (why.Serving slot) = control_refusal_text (control.Serving slot)
-line_fault_text zones why.ThreeServing = control_refusal_text control.ThreeServing
-line_fault_text zones (why.SlotsSpent count) = control_refusal_text (control.SlotsSpent count)
-line_fault_text zones (why.SourceDown founds) = source_down_text zones founds
-line_fault_text zones (why.TargetDown cut) = control_refusal_text (control.TargetDown cut)
-line_fault_text zones why.NameTaken = codes "NameTaken"
-line_fault_text zones (why.TooManyDue most) = codes "TooManyDue " ++ decimal most
-line_fault_text zones (why.Backwards last) = codes "Backwards " ++ signed_decimal last
+line_fault_text zones (why.Question fault) = question_fault_text zones fault
+line_fault_text zones (why.Control fault) = control_fault_text zones fault
+line_fault_text zones (why.Standing fault) = standing_fault_text fault
+line_fault_text zones (why.Due fault) = due_fault_text fault
 
 abbrev pub refused_line : List ZoneSpec → LineFault → List ℕ
 refused_line zones fault = codes "refused: " ++ (line_fault_text zones fault ++ newline)
@@ -183,19 +168,16 @@ module _ (config : Config) (ended : Histories) where
   trace_table typed moment trace =
       table_text (column_names (columns_of typed.tree)) (meaning typed (source_of ended trace) moment)
 
-  abbrev pub typed_text : LineForm → ℤ → Trace → TypedTree → List ℕ
-  typed_text (form.Feed name) moment trace typed = []
-  typed_text (form.Query at text) moment trace typed = trace_table typed moment trace
-  typed_text (form.Check at text) moment trace typed = trace_table typed moment trace
-  typed_text (form.Explain at text) moment trace typed =
+  -- as it is asked
+  abbrev pub shown_text : How → ℤ → Trace → TypedTree → List ℕ
+  shown_text how.Query moment trace typed = trace_table typed moment trace
+  shown_text how.Check moment trace typed = trace_table typed moment trace
+  shown_text how.Explain moment trace typed =
       trace_table typed moment trace ++ explanation config.topology typed trace
-  typed_text (form.Down leaf) moment trace typed = []
-  typed_text (form.Up leaf) moment trace typed = []
-  typed_text (form.Recover range leaf) moment trace typed = []
-  typed_text (form.Standing name period text) moment trace typed = []
-  typed_text (form.Tick at) moment trace typed = []
-  typed_text form.Together moment trace typed = []
-  typed_text form.End moment trace typed = []
+
+  abbrev pub typed_text : LineForm → ℤ → Trace → TypedTree → List ℕ
+  typed_text (form.Ask asked) moment trace typed = shown_text asked.how moment trace typed
+  typed_text other moment trace typed = []
 
   abbrev pub asked_text : LineForm → ℤ → Trace → Result TypedTree TextFault → List ℕ
   asked_text what moment trace (Ok typed) = typed_text what moment trace typed
@@ -204,7 +186,7 @@ module _ (config : Config) (ended : Histories) where
   -- what a query that was due prints: its name and its time, and then its table or its refusal
   abbrev pub due_end_text : Due → DueEnd → List ℕ
   due_end_text due (end.Answered trace) =
-      asked_text (form.Query due.at due.text) due.at trace (text_type config.schemas due.text)
+      asked_text (query_form due.at due.text) due.at trace (text_type config.schemas due.text)
   due_end_text due (end.Refused fault) = refused_line config.topology fault
 
   abbrev pub due_text : DueTrace → List ℕ
@@ -212,11 +194,10 @@ module _ (config : Config) (ended : Histories) where
 
   abbrev pub text_by : LineForm → List ℕ → LineTrace → List ℕ
   text_by what text (came.Fed pass accepted refused) =
-      feed_text config.topology (file_of what) (length accepted) refused
+      feed_text config.topology (file_name (file_of what)) (length accepted) refused
   text_by what text (came.Asked moment trace) = asked_text what moment trace (text_type config.schemas text)
   text_by what text (came.Ticked dues) = flat_map due_text dues
-  text_by what text (came.Switched cut) = switch_text config.topology (switch_of what)
-  text_by what text (came.Recovered slot) = recovery_text config.topology (recovery_of what) slot
+  text_by what text (came.Controlled done) = control_done_text config.topology what done
   text_by what text (came.Refused fault) = refused_line config.topology fault
   text_by what text came.Done = done_text what
 

@@ -6,7 +6,6 @@ use Rattle.run_traces.specs.declared.traces.LineTrace.{LineTrace}
 use Rattle.run_traces.specs.declared.traces.LineTrace.TheVariants as came
 use Rattle.mon_script.specs.Blocks.{mark_of}
 use Rattle.mon_script.specs.declared.forms.LineForm.{LineForm}
-use Rattle.mon_script.specs.declared.forms.LineForm.TheVariants as form
 use Rattle.mon_script.specs.declared.places.Mark.{Mark}
 use Rattle.mon_script.specs.declared.places.Mark.TheVariants as mark
 use Rattle.mon_script.specs.declared.script.ScriptLine.{ScriptLine}
@@ -16,11 +15,6 @@ pub record RanLine : Type 0 where
   pub what : LineForm
   pub content : List ℕ
   pub trace : LineTrace
-
--- the file that a line names
-abbrev pub file_named : LineForm → Option (List ℕ)
-file_named (form.Feed name) = Some name
-file_named other = None
 
 -- the lines of a script that have a trace, with what the file of each held
 abbrev pub ran_lines : List ScriptLine → List (List ℕ) → List LineTrace → List RanLine
@@ -80,12 +74,7 @@ acts line = acts_by (mark_of line.what)
 
 abbrev pub trace_rows : LineTrace → List Row
 trace_rows (came.Fed pass accepted refused) = accepted
-trace_rows (came.Asked moment trace) = []
-trace_rows (came.Ticked dues) = []
-trace_rows (came.Switched cut) = []
-trace_rows (came.Recovered slot) = []
-trace_rows (came.Refused fault) = []
-trace_rows came.Done = []
+trace_rows other = []
 
 abbrev pub accepted_rows : RanLine → List Row
 accepted_rows line = trace_rows line.trace

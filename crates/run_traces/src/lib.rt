@@ -8,6 +8,6 @@ mod traces;
 pub use fed_rows::FedRows;
 pub use laws::{finds_stay, parts_keep_the_lines, runs_go_on, runs_hold, texts_stay};
 pub use traces::{
-    DueEnd, DueTrace, DueTraces, LineFault, LineTrace, LineTraces, RowRefusal, RowRefusals,
-    RowRefused,
+    ControlDone, ControlFault, DueEnd, DueTrace, DueTraces, LineFault, LineTrace, LineTraces,
+    QuestionFault, RecoveryFault, RowRefusal, RowRefusals, RowRefused, SwitchFault,
 };

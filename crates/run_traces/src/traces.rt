@@ -5,7 +5,7 @@ use mon_value::{Founds, ListOf, Range, Slot};
 use mql_parse::ParseFault;
 use query_core::Trace;
 use range_cell::WriteFault;
-use standing::Due;
+use standing::{Due, DueFault, StandingFault};
 use typed_trees::TypeFault;
 
 /// Why a record of a file was refused.
@@ -27,9 +27,9 @@ pub struct RowRefusal {
 /// The records of a file that were refused, in order.
 pub type RowRefusals = ListOf<RowRefusal>;
 
-/// Why a line was refused.
+/// Why a question has no table.
 #[derive(Drop)]
-pub enum LineFault {
+pub enum QuestionFault {
     /// No query is spelled so.
     Parse(ParseFault),
     /// The query has no type.
@@ -38,28 +38,52 @@ pub enum LineFault {
     NoReplica(Range, Founds),
     /// The query's load is above the limit; what was looked at.
     StepLimit(u64, Trace),
-    /// The leaf is down already, where its history has so many entries.
+}
+
+/// Why a leaf was not switched.
+#[derive(Clone, Copy)]
+pub enum SwitchFault {
+    /// It is down already, where its history has so many entries.
     AlreadyDown(u64),
-    /// The leaf is up already, where its history has so many entries.
+    /// It is up already, where its history has so many entries.
     AlreadyUp(u64),
-    /// The leaf was switched so often, and is switched no more.
+    /// It was switched so often, and is switched no more.
     SwitchesSpent(u32),
-    /// A replica of the range serves on the leaf already, in this slot.
+}
+
+/// Why no replica of a range was opened on a leaf.
+#[derive(Drop)]
+pub enum RecoveryFault {
+    /// One serves there already, in this slot.
     Serving(Slot),
-    /// As many replicas of the range serve as may.
+    /// As many serve as may.
     ThreeServing,
     /// As many slots of the range were opened as may be.
     SlotsSpent(u32),
-    /// Each replica of the range that serves is on a leaf that was found down, so that no rows could be copied.
+    /// Each replica that serves is on a leaf that was found down, so that no rows could be copied.
     SourceDown(Founds),
     /// The leaf was found down, where its history has so many entries.
     TargetDown(u64),
-    /// A query of that name stands already.
-    NameTaken,
-    /// More queries than this would be due.
-    TooManyDue(u32),
-    /// The moment lies before that of an earlier line, which was this one.
-    Backwards(i64),
+}
+
+/// Why a control was not done.
+#[derive(Drop)]
+pub enum ControlFault {
+    Switch(SwitchFault),
+    Recovery(RecoveryFault),
+}
+
+/// Why a line was refused.
+#[derive(Drop)]
+pub enum LineFault {
+    /// A question has no table.
+    Question(QuestionFault),
+    /// A control was not done.
+    Control(ControlFault),
+    /// A query does not come to stand.
+    Standing(StandingFault),
+    /// A moment is not taken at which standing queries may be due.
+    Due(DueFault),
 }
 
 /// What a standing query came to at a time at which it was due.
@@ -81,6 +105,15 @@ pub struct DueTrace {
 /// The standing queries that were due, in their order.
 pub type DueTraces = ListOf<DueTrace>;
 
+/// What came of a control that was done.
+#[derive(Clone, Copy)]
+pub enum ControlDone {
+    /// A leaf went down or came up: how many entries its history has then.
+    Switched(u64),
+    /// A range has one replica more: its slot.
+    Recovered(Slot),
+}
+
 /// What a line of a script came to.
 #[derive(Drop)]
 pub enum LineTrace {
@@ -97,10 +130,8 @@ pub enum LineTrace {
     },
     /// Standing queries that were due were asked.
     Ticked(DueTraces),
-    /// A leaf went down or came up: how many entries its history has then.
-    Switched(u64),
-    /// A range has one replica more: its slot.
-    Recovered(Slot),
+    /// A control was done.
+    Controlled(ControlDone),
     /// The line was refused.
     Refused(LineFault),
     /// A query that stands from then on; or a line that begins a block or ends it.

@@ -17,12 +17,7 @@ accepted_in = sum_by (λ trace. length (trace_rows trace))
 
 abbrev pub refusals_in : LineTrace → List RowRefusal
 refusals_in (came.Fed pass accepted refused) = refused
-refusals_in (came.Asked moment trace) = []
-refusals_in (came.Ticked dues) = []
-refusals_in (came.Switched cut) = []
-refusals_in (came.Recovered slot) = []
-refusals_in (came.Refused fault) = []
-refusals_in came.Done = []
+refusals_in other = []
 
 abbrev pub refused_in : List LineTrace → ℕ
 refused_in = sum_by (λ trace. length (refusals_in trace))
@@ -67,23 +62,16 @@ first_line (line ∷ lines) = line
 -- What is said of a line: of a query with a table how many rows that has and the sum of its last column, and of one that
 -- was refused why, as it was printed
 abbrev pub line_text : Place → LineTrace → List ℕ
-line_text at (came.Fed pass accepted refused) = []
 line_text at (came.Asked moment trace) = query_line at.number (table_text (table_behind at.lines))
-line_text at (came.Ticked dues) = []
-line_text at (came.Switched cut) = []
-line_text at (came.Recovered slot) = []
 line_text at (came.Refused fault) = query_line at.number (first_line at.lines)
-line_text at came.Done = []
+line_text at other = []
 
 -- A feed printed a line, and one for each record that it refused; a query its table, or why it was refused
 abbrev pub behind : Place → LineTrace → Place
 behind at (came.Fed pass accepted refused) = place at.number (drop (length refused) (drop 1 at.lines))
 behind at (came.Asked moment trace) = place (at.number + 1) (table_behind at.lines).rest
-behind at (came.Ticked dues) = at
-behind at (came.Switched cut) = at
-behind at (came.Recovered slot) = at
 behind at (came.Refused fault) = place (at.number + 1) (drop 1 at.lines)
-behind at came.Done = at
+behind at other = at
 
 abbrev pub queries_text : Place → List LineTrace → List ℕ
 queries_text at [] = []

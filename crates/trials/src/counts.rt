@@ -37,8 +37,7 @@ fn accepted_by(trace: &LineTrace) -> usize
         LineTrace::Fed { accepted, .. } => accepted.len(),
         LineTrace::Asked { .. } => 0,
         LineTrace::Ticked(_) => 0,
-        LineTrace::Switched(_) => 0,
-        LineTrace::Recovered(_) => 0,
+        LineTrace::Controlled(_) => 0,
         LineTrace::Refused(_) => 0,
         LineTrace::Done => 0,
     }
@@ -52,8 +51,7 @@ fn refused_by(trace: &LineTrace) -> usize
         LineTrace::Fed { refused, .. } => refused.len(),
         LineTrace::Asked { .. } => 0,
         LineTrace::Ticked(_) => 0,
-        LineTrace::Switched(_) => 0,
-        LineTrace::Recovered(_) => 0,
+        LineTrace::Controlled(_) => 0,
         LineTrace::Refused(_) => 0,
         LineTrace::Done => 0,
     }

@@ -5,8 +5,8 @@ use Rattle.line_runs.proofs.Ended.{held_by}
 use Rattle.line_runs.proofs.Printed.{check_prints, explain_prints, query_prints}
 use Rattle.line_runs.proofs.Results.{ok_as}
 use Rattle.line_runs.specs.Questions.{CanBeChecked, asked_line, meant_text}
-use Rattle.line_runs.specs.declared.asks.Asked.{Asked}
-use Rattle.line_runs.specs.declared.asks.Asked.TheVariants as asked
+use Rattle.mon_script.specs.declared.questions.How.{How}
+use Rattle.mon_script.specs.declared.questions.How.TheVariants as asked
 use Rattle.mon_config.specs.declared.config.Config.{Config}
 use Rattle.mon_table.specs.Tables.{printed_table}
 use Rattle.mon_topo.specs.Zones.{leaves_in}
@@ -19,9 +19,9 @@ use Rattle.mon_store.proofs.GatherLemmas.{owns_itself}
 
 pub returns-in-Query-clause-text : goal.returns-in-Query-clause-text
 returns-in-Query-clause-text g c =
-    let line = λ (what : Asked). line_text c.args.store.now c.args.p.now.seen
+    let line = λ (what : How). line_text c.args.store.now c.args.p.now.seen
     (asked_line what c.args.moment c.args.text.now (came.Asked c.args.moment c.args.answer.now.trace)) in
-    subst (λ (what : Asked). IfOk c.print.result (λ (text : List ℕ). text ≡ line what)) (sym c.in-Query.is)
+    subst (λ (what : How). IfOk c.print.result (λ (text : List ℕ). text ≡ line what)) (sym c.in-Query.is)
     (ok_as (λ (text : List ℕ). text ≡ printed_table c.args.answer.now.table)
     (λ (text : List ℕ). text ≡ line asked.Query) c.print.result
     (λ text is. is ∙ query_prints c.equal_bags_print_alike.ensures.alike c.args.store.now c.args.text.now
@@ -43,11 +43,11 @@ checked_text-requires-clause-can g c =
 pub returns-in-Check-clause-text : goal.returns-in-Check-clause-text
 returns-in-Check-clause-text g c =
     let same : to_z w64 (of_z w64 c.args.moment) ≡ c.args.moment = search rules in
-    let line = λ (what : Asked). line_text c.args.store.now c.args.p.now.seen
+    let line = λ (what : How). line_text c.args.store.now c.args.p.now.seen
     (asked_line what c.args.moment c.args.text.now (came.Asked c.args.moment c.args.answer.now.trace)) in
     let meant = λ (m : ℤ). meant_text (text_type c.args.store.now.schemas c.args.text.now)
     (source_of c.args.p.now.seen c.args.answer.now.trace) m in
-    subst (λ (what : Asked). IfOk c.checked_text.result (λ (text : List ℕ). text ≡ line what)) (sym c.in-Check.is)
+    subst (λ (what : How). IfOk c.checked_text.result (λ (text : List ℕ). text ≡ line what)) (sym c.in-Check.is)
     (ok_as (λ (text : List ℕ). text ≡ meant (to_z w64 (of_z w64 c.args.moment)))
     (λ (text : List ℕ). text ≡ line asked.Check) c.checked_text.result
     (λ text is. subst (λ (m : ℤ). text ≡ meant m) same is
@@ -70,12 +70,12 @@ explained_text-requires-clause-sent g c =
 
 pub returns-in-Explain-clause-text : goal.returns-in-Explain-clause-text
 returns-in-Explain-clause-text g c =
-    let line = λ (what : Asked). line_text c.args.store.now c.args.p.now.seen
+    let line = λ (what : How). line_text c.args.store.now c.args.p.now.seen
     (asked_line what c.args.moment c.args.text.now (came.Asked c.args.moment c.args.answer.now.trace)) in
     let printed = λ (config : Config). printed_table c.args.answer.now.table
     ++ (flat_map op_line c.args.answer.now.levels
     ++ leaf_lines c.args.answer.now.trace 0 (leaves_in config.topology)) in
-    subst (λ (what : Asked). IfOk c.explained_text.result (λ (text : List ℕ). text ≡ line what)) (sym c.in-Explain.is)
+    subst (λ (what : How). IfOk c.explained_text.result (λ (text : List ℕ). text ≡ line what)) (sym c.in-Explain.is)
     (ok_as (λ (text : List ℕ). text ≡ printed c.config.result.now)
     (λ (text : List ℕ). text ≡ line asked.Explain) c.explained_text.result
     (λ text is. subst (λ (config : Config). text ≡ printed config) c.config.ensures.config is

@@ -1,4 +1,4 @@
-use Rattle.std.proofs.Common.{◌≡◌, sym}
+use Rattle.std.proofs.Common.{◌≡◌, ◌∙◌, ap, sym}
 use Rattle.line_runs.proofs.Results.{ok_as}
 use Rattle.line_runs.specs.Controls.{IsNotOpenedFor}
 use Rattle.line_runs.specs.Questions.{refused_for}
@@ -7,8 +7,12 @@ use Rattle.line_runs.proofs.controls.not_opened.Goals as goal
 
 pub returns-in-Some : goal.returns-in-Some
 returns-in-Some c = record {
-  refused = ok_as (λ (ran : LineRan). ran ≡ refused_for c.args.topology.now c.in-Some.told)
+  refused = ok_as (λ (ran : LineRan). ran ≡ refused_for c.args.topology.now c.unopened.result)
       (IsNotOpenedFor c.args.topology.now c.args.fault) c.refused_for.result
-      (λ ran is. record { told = c.in-Some.told; told_is = sym c.in-Some.ensures.told; ran_is = is })
+      (λ ran is. record {
+        told = c.in-Some.told;
+        told_is = sym c.in-Some.ensures.told;
+        ran_is = is ∙ ap (refused_for c.args.topology.now) c.unopened.ensures.told;
+      })
       c.refused_for.ensures.ran;
 }

@@ -1,5 +1,6 @@
 use Rattle.std.proofs.Common.{IfOk, refl, subst}
 use Rattle.mon_config.specs.declared.config.Config.{Config}
+use Rattle.mon_script.specs.declared.controls.ControlForm.TheVariants as control
 use Rattle.mon_script.specs.declared.forms.LineForm.TheVariants as form
 use Rattle.line_runs.specs.Controls.{IsRecoveryRan}
 use Rattle.line_runs.proofs.Ended.{held_by}
@@ -16,7 +17,7 @@ returns g c =
     (IsRecoveryRan held.topology (record { range = range; leaf = leaf }) recovered.result))
     c.config.ensures.config c.recovery_ran.ensures.ran in
     record {
-      wrote = recovery_wrote config (form.Recover range leaf) (record { range = range; leaf = leaf }) refl refl
+      wrote = recovery_wrote config (form.Control (control.Recover range leaf)) (record { range = range; leaf = leaf }) refl refl
           c.args.p.now recovered.new.p
           (held_by config g.N.Names.setting c.args.p.now.seen c.is_set_up.ensures.setting c.is_sound.ensures.held)
           (held_by config g.N.Names.setting recovered.new.p.seen c.is_set_up.ensures.setting

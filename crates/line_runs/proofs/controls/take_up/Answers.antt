@@ -1,5 +1,6 @@
 use Rattle.std.proofs.Common.{◌≡◌, false, IfOk, refl, subst}
 use Rattle.mon_config.specs.declared.config.Config.{Config}
+use Rattle.mon_script.specs.declared.controls.ControlForm.TheVariants as control
 use Rattle.mon_script.specs.declared.forms.LineForm.TheVariants as form
 use Rattle.line_runs.specs.Controls.{switch_ran}
 use Rattle.line_runs.specs.declared.lines.LineRan.{LineRan}
@@ -16,7 +17,7 @@ returns g c =
     ran ≡ switch_ran held.topology (record { leaf = leaf; down = false }) switched.result))
     c.config.ensures.config c.switch_ran.ensures.ran in
     record {
-      wrote = switch_wrote config (form.Up leaf) (record { leaf = leaf; down = false }) refl refl c.args.p.now switched.new.p
+      wrote = switch_wrote config (form.Control (control.Up leaf)) (record { leaf = leaf; down = false }) refl refl c.args.p.now switched.new.p
           (held_by config g.N.Names.setting c.args.p.now.seen c.is_set_up.ensures.setting c.is_sound.ensures.held)
           (held_by config g.N.Names.setting switched.new.p.seen c.is_set_up.ensures.setting c.is_sound-2.ensures.held)
           switched.result switched.ensures.switched switched.ensures.refused switched.ensures.nothing c.switch_ran.result

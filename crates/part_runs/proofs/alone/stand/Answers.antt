@@ -3,6 +3,7 @@ use Rattle.std.specs.Prelude.{IfOk, OnOk}
 use Rattle.line_runs.specs.StandingLines.{standing_then}
 use Rattle.mon_config.specs.declared.config.Config.{Config}
 use Rattle.mon_script.specs.declared.forms.LineForm.TheVariants as form
+use Rattle.mon_script.specs.declared.standing_lines.StandingLine.TheVariants as line
 use Rattle.part_runs.specs.PartsDone.{AloneDid}
 use Rattle.part_runs.proofs.StandLemmas.{stand_answers}
 use Rattle.standing.specs.DueLists.{add_fault}
@@ -18,7 +19,7 @@ returns-clause-ran g c =
     ≡ standing_then state name period text (add_fault c.config-config.result.now.schemas state.queries name text))) same
     c.add_standing.ensures.stands in
     subst (λ (config : Config). IfOk c.add_standing.result (λ ran. AloneDid config
-    (form.Standing c.args.name.now c.args.period c.args.text.now) c.args.content.now ran c.args.p.now c.args.p.now
+    (form.Standing (line.Stand c.args.name.now c.args.period c.args.text.now)) c.args.content.now ran c.args.p.now c.args.p.now
     c.args.standing.now c.add_standing.new.standing)) c.config-config.ensures.config
     (stand_answers c.runs_go_on.ensures.more c.texts_stay.ensures.line g.N.Names.setting c.config-config.result.now
     c.args.p.now c.is_sound.ensures.pass c.is_sound.ensures.borne_out c.requires.every c.args.standing.now

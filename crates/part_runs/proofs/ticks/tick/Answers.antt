@@ -2,6 +2,7 @@ use Rattle.std.proofs.Common.{rules, ◌≡◌, ℤ, Err, to_z, of_z, w64, subst
 use Rattle.std.specs.Prelude.{IfOk}
 use Rattle.mon_config.specs.declared.config.Config.{Config}
 use Rattle.mon_script.specs.declared.forms.LineForm.TheVariants as form
+use Rattle.mon_script.specs.declared.standing_lines.StandingLine.TheVariants as line
 use Rattle.mon_value.specs.Answers.{Withholds}
 use Rattle.mon_value.specs.declared.refusals.Refusal.{Refusal}
 use Rattle.part_runs.specs.PartsDone.{AloneDid}
@@ -23,7 +24,7 @@ returns-in-Err-Fault-clause-ran g c =
     subst (λ (at : ℤ). due_answer state.last at state.queries ≡ Err c.in-Err-Fault.fault) same
     (subst (λ (r : Refusal DueFault). Withholds r (due_answer state.last (to_z w64 (of_z w64 c.args.moment))
     state.queries)) c.in-Err-Fault.field-0-is c.in-Err-Fault.ensures.due) in
-    subst (λ (config : Config). IfOk c.refuse_tick.result (λ ran. AloneDid config (form.Tick c.args.moment)
+    subst (λ (config : Config). IfOk c.refuse_tick.result (λ ran. AloneDid config (form.Standing (line.Tick c.args.moment))
     c.args.content.now ran c.args.p.now c.args.p.now state c.due.new.self)) c.config.ensures.config
     (undue_answers c.runs_go_on.ensures.more c.texts_stay.ensures.line g.N.Names.setting c.config.result.now
     c.args.p.now c.is_sound.ensures.pass c.is_sound.ensures.borne_out c.requires.every c.refuse_tick.result state

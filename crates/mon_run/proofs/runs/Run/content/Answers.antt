@@ -31,52 +31,22 @@ returns-in_err-content-in-Feed-clause-stops g c =
     (subst (λ (n : List ℕ). ReadStops n stopped before after) c.as_str.ensures.bytes
     c.in_err-content-in-Feed.ensures.stops))
 
-pub returns-in-Query-clause-read : goal.returns-in-Query-clause-read
-returns-in-Query-clause-read g c =
-    other_read c.args.what.now _ _ (seen g.F.Folder.state g.O.Sink.state c.args.self.now) c.in-Query.is refl
+pub returns-in-Ask-clause-read : goal.returns-in-Ask-clause-read
+returns-in-Ask-clause-read g c =
+    other_read c.args.what.now _ _ (seen g.F.Folder.state g.O.Sink.state c.args.self.now) c.in-Ask.is refl
     c.new.ensures.empty
 
-pub returns-in-Check-clause-read : goal.returns-in-Check-clause-read
-returns-in-Check-clause-read g c =
-    other_read c.args.what.now _ _ (seen g.F.Folder.state g.O.Sink.state c.args.self.now) c.in-Check.is refl
-    c.new-in-Check.ensures.empty
-
-pub returns-in-Explain-clause-read : goal.returns-in-Explain-clause-read
-returns-in-Explain-clause-read g c =
-    other_read c.args.what.now _ _ (seen g.F.Folder.state g.O.Sink.state c.args.self.now) c.in-Explain.is refl
-    c.new-in-Explain.ensures.empty
-
-pub returns-in-Down-clause-read : goal.returns-in-Down-clause-read
-returns-in-Down-clause-read g c =
-    other_read c.args.what.now _ _ (seen g.F.Folder.state g.O.Sink.state c.args.self.now) c.in-Down.is refl
-    c.new-in-Down.ensures.empty
-
-pub returns-in-Up-clause-read : goal.returns-in-Up-clause-read
-returns-in-Up-clause-read g c =
-    other_read c.args.what.now _ _ (seen g.F.Folder.state g.O.Sink.state c.args.self.now) c.in-Up.is refl
-    c.new-in-Up.ensures.empty
-
-pub returns-in-Recover-clause-read : goal.returns-in-Recover-clause-read
-returns-in-Recover-clause-read g c =
-    other_read c.args.what.now _ _ (seen g.F.Folder.state g.O.Sink.state c.args.self.now) c.in-Recover.is refl
-    c.new-in-Recover.ensures.empty
+pub returns-in-Control-clause-read : goal.returns-in-Control-clause-read
+returns-in-Control-clause-read g c =
+    other_read c.args.what.now _ _ (seen g.F.Folder.state g.O.Sink.state c.args.self.now) c.in-Control.is refl
+    c.new-in-Control.ensures.empty
 
 pub returns-in-Standing-clause-read : goal.returns-in-Standing-clause-read
 returns-in-Standing-clause-read g c =
     other_read c.args.what.now _ _ (seen g.F.Folder.state g.O.Sink.state c.args.self.now) c.in-Standing.is refl
     c.new-in-Standing.ensures.empty
 
-pub returns-in-Tick-clause-read : goal.returns-in-Tick-clause-read
-returns-in-Tick-clause-read g c =
-    other_read c.args.what.now _ _ (seen g.F.Folder.state g.O.Sink.state c.args.self.now) c.in-Tick.is refl
-    c.new-in-Tick.ensures.empty
-
-pub returns-in-Together-clause-read : goal.returns-in-Together-clause-read
-returns-in-Together-clause-read g c =
-    other_read c.args.what.now _ _ (seen g.F.Folder.state g.O.Sink.state c.args.self.now) c.in-Together.is refl
-    c.new-in-Together.ensures.empty
-
-pub returns-in-End-clause-read : goal.returns-in-End-clause-read
-returns-in-End-clause-read g c =
-    other_read c.args.what.now _ _ (seen g.F.Folder.state g.O.Sink.state c.args.self.now) c.in-End.is refl
-    c.new-in-End.ensures.empty
+pub returns-in-Block-clause-read : goal.returns-in-Block-clause-read
+returns-in-Block-clause-read g c =
+    other_read c.args.what.now _ _ (seen g.F.Folder.state g.O.Sink.state c.args.self.now) c.in-Block.is refl
+    c.new-in-Block.ensures.empty

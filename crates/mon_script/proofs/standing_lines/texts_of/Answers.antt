@@ -1,8 +1,8 @@
 use Rattle.std.proofs.Common.{◌≡◌, ◌∙◌, ℕ, List, Some, None, sym, subst}
-use Rattle.mon_script.specs.Forms.{texts_form}
+use Rattle.mon_script.specs.StandingLines.{texts_of}
 use Rattle.mon_value.specs.Answers.{Gives}
 use Rattle.mon_script.proofs.StandingLineLemmas.{name_text}
-use Rattle.mon_script.proofs.standing_lines.texts_form.Goals as goal
+use Rattle.mon_script.proofs.standing_lines.texts_of.Goals as goal
 
 pub unreachable-requires : goal.unreachable-requires
 unreachable-requires c =
@@ -16,6 +16,6 @@ returns c =
     let both : Some c.in-Some.name ≡ Some c.args.name.now = sym c.in-Some.is ∙ read in
     let same : c.in-Some.name ≡ c.args.name.now = cc in
     record {
-      form = subst (λ (name : List ℕ). Gives c.text_form.result (texts_form name c.args.period.now c.args.text.now)) same
-          c.text_form.ensures.form;
+      line = subst (λ (name : List ℕ). Gives c.text_of.result (texts_of name c.args.period.now c.args.text.now)) same
+          c.text_of.ensures.line;
     }

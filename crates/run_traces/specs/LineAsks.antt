@@ -1,0 +1,110 @@
+-- What a line asks for.
+use Rattle.std.specs.Prelude.{ℕ, ℤ, pos, Bool, true, false, List, [], Option, Some, None}
+use Rattle.mon_script.specs.Forms.{question}
+use Rattle.mon_script.specs.declared.controls.ControlForm.{ControlForm}
+use Rattle.mon_script.specs.declared.controls.ControlForm.TheVariants as control
+use Rattle.mon_script.specs.declared.forms.LineForm.{LineForm}
+use Rattle.mon_script.specs.declared.forms.LineForm.TheVariants as form
+use Rattle.mon_script.specs.declared.questions.How.TheVariants as how
+use Rattle.mon_script.specs.declared.standing_lines.StandingLine.{StandingLine}
+use Rattle.mon_script.specs.declared.standing_lines.StandingLine.TheVariants as line
+use Rattle.mon_value.specs.declared.positions.Leaf.{Leaf}
+use Rattle.mon_value.specs.declared.positions.Range.{Range}
+
+-- a leaf that is to go down, or to come up
+pub record Switch : Type 0 where
+  pub leaf : Leaf
+  pub down : Bool
+
+-- a range of which a replica is to be opened on a leaf
+pub record Recovery : Type 0 where
+  pub range : Range
+  pub leaf : Leaf
+
+-- A text that is asked or is to stand, the moment at which a text or the standing queries are asked, the name of a file,
+-- the leaf that something is done to or on, and what is to be done: each as far as the line has it
+pub record Asks : Type 0 where
+  pub text : List ℕ
+  pub moment : ℤ
+  pub file : Option (List ℕ)
+  pub leaf : Option Leaf
+  pub switch : Option Switch
+  pub recovery : Option Recovery
+
+-- a text and a moment
+abbrev pub asking : List ℕ → ℤ → Asks
+asking text moment =
+    record { text = text; moment = moment; file = None; leaf = None; switch = None; recovery = None }
+
+-- a file
+abbrev pub feeding : List ℕ → Asks
+feeding name =
+    record { text = []; moment = pos 0; file = Some name; leaf = None; switch = None; recovery = None }
+
+-- a leaf that is switched, or a range that is recovered onto a leaf
+abbrev pub control_leaf : ControlForm → Leaf
+control_leaf (control.Down leaf) = leaf
+control_leaf (control.Up leaf) = leaf
+control_leaf (control.Recover range leaf) = leaf
+
+abbrev pub control_switch : ControlForm → Option Switch
+control_switch (control.Down leaf) = Some (record { leaf = leaf; down = true })
+control_switch (control.Up leaf) = Some (record { leaf = leaf; down = false })
+control_switch (control.Recover range leaf) = None
+
+abbrev pub control_recovery : ControlForm → Option Recovery
+control_recovery (control.Down leaf) = None
+control_recovery (control.Up leaf) = None
+control_recovery (control.Recover range leaf) = Some (record { range = range; leaf = leaf })
+
+abbrev pub controlling : ControlForm → Asks
+controlling what = record {
+  text = [];
+  moment = pos 0;
+  file = None;
+  leaf = Some (control_leaf what);
+  switch = control_switch what;
+  recovery = control_recovery what;
+}
+
+-- a query that is to stand, or those that are due
+abbrev pub standing_text : StandingLine → List ℕ
+standing_text (line.Stand name period text) = text
+standing_text (line.Tick moment) = []
+
+abbrev pub standing_moment : StandingLine → ℤ
+standing_moment (line.Stand name period text) = pos 0
+standing_moment (line.Tick moment) = moment
+
+abbrev pub asks_of : LineForm → Asks
+asks_of (form.Feed name) = feeding name
+asks_of (form.Ask asked) = asking asked.text asked.moment
+asks_of (form.Control what) = controlling what
+asks_of (form.Standing what) = asking (standing_text what) (standing_moment what)
+asks_of (form.Block mark) = asking [] (pos 0)
+
+-- ---- each part
+
+abbrev pub text_of : LineForm → List ℕ
+text_of what = (asks_of what).text
+
+abbrev pub moment_of : LineForm → ℤ
+moment_of what = (asks_of what).moment
+
+abbrev pub file_of : LineForm → Option (List ℕ)
+file_of what = (asks_of what).file
+
+abbrev pub leaf_of : LineForm → Option Leaf
+leaf_of what = (asks_of what).leaf
+
+abbrev pub switch_of : LineForm → Option Switch
+switch_of what = (asks_of what).switch
+
+abbrev pub recovery_of : LineForm → Option Recovery
+recovery_of what = (asks_of what).recovery
+
+-- ---- queries
+
+-- a line that asks for the table of a text
+abbrev pub query_form : ℤ → List ℕ → LineForm
+query_form moment text = form.Ask (question how.Query moment text)
