@@ -60,6 +60,11 @@ fn run_held<R: Threads + Wait + Sync>(
 
 // Whether a text is that of the script, with a table for the query of the block.
 fn is_whole(printed: &[u8], table: &[u8]) -> bool {
-    let behind = printed.strip_prefix(FEEDS).unwrap_or(b"");
-    behind.strip_prefix(table) == Some(BOTH)
+    let Some(behind) = printed.strip_prefix(FEEDS) else {
+        return false;
+    };
+    match behind.strip_prefix(table) {
+        Some(last) => last == BOTH,
+        None => false,
+    }
 }
