@@ -3,4 +3,4 @@
 
 mod laws;
 
-pub use laws::places_are_exact;
+pub use laws::{files_too_long, places_are_exact, reads_failed};
