@@ -17,17 +17,18 @@ use Rattle.mon_value.specs.declared.positions.Range.{Range}
 use Rattle.mon_value.specs.declared.positions.RangeSlot.{RangeSlot}
 use Rattle.mon_value.specs.declared.positions.SlotLeaf.{SlotLeaf}
 use Rattle.query_core.specs.Machine.{Query, slots_at}
-use Rattle.query_core.specs.Mixtures.{typed_of}
+use Rattle.query_traces.specs.Rounds.{typed_of, QuerySetting}
 use Rattle.plan_split.specs.Meeting.{is_plan_met}
 use Rattle.query_core.specs.Sessions as session
-use Rattle.query_core.specs.Sessions.{IsFoundSo, IsLicensed, IsLicensedEvent, IsTrueAnswer, query_after, view_after}
-use Rattle.query_core.specs.Rounds.{QuerySetting}
+use Rattle.query_traces.specs.TrueAnswers as truth
+use Rattle.query_core.specs.Sessions.{IsLicensed, IsLicensedEvent, query_after, view_after}
+use Rattle.query_traces.specs.TrueAnswers.{IsFoundSo, IsTrueAnswer}
 use Rattle.mon_meaning.specs.ReadableSlots.{slot_rows}
 use Rattle.mon_topo.specs.RangeHistories.{first_serving}
-use Rattle.query_core.specs.declared.asks.Ask.{Ask}
-use Rattle.query_core.specs.declared.asks.Ask.TheVariants as ask
-use Rattle.query_core.specs.declared.asks.Told.{Told}
-use Rattle.query_core.specs.declared.asks.Told.TheVariants as told
+use Rattle.query_traces.specs.declared.asks.Ask.{Ask}
+use Rattle.query_traces.specs.declared.asks.Ask.TheVariants as ask
+use Rattle.query_traces.specs.declared.asks.Told.{Told}
+use Rattle.query_traces.specs.declared.asks.Told.TheVariants as told
 use Rattle.query_core.specs.declared.stages.Stage.{Stage}
 use Rattle.write_core.proofs.KeepsLemmas.{changed_by}
 use Rattle.write_core.proofs.KeptLemmas.{new_kept, part_stays, parts_join, run_kept}
@@ -184,7 +185,7 @@ module _ (store : Setting) (setting : QuerySetting) (moment : ℤ) (world : Worl
 
     resolved_so : (avoided : List Leaf) (found : Option SlotLeaf)
         → first_serving avoided (of_range world.truth range) ≡ found
-        → session.IsResolvedSo view after_range avoided range found
+        → truth.IsResolvedSo view after_range avoided range found
     resolved_so avoided found e =
         let grown = joined_first view (world.ranges range.0) world.truth part.within (kept.ranges range).within in
         record {
@@ -226,7 +227,7 @@ module _ (store : Setting) (setting : QuerySetting) (moment : ℤ) (world : Worl
         }
 
     met_so : (b : Bool) → is_plan_met setting.plan (history_buckets store.buckets_of (of_leaf world.truth leaf)) ≡ b
-        → session.is_met_at store setting moment after_leaf leaf cut ≡ b
+        → truth.is_met_at store setting moment after_leaf leaf cut ≡ b
     met_so b e = ap (λ history. is_plan_met setting.plan (history_buckets store.buckets_of history)) all_looked ∙ e
 
     on_rows : (P : List Entry → Type 0) → P (of_leaf world.truth leaf) → P (take cut (of_leaf after_leaf leaf))

@@ -6,9 +6,9 @@ use Rattle.mon_topo.specs.Views.{IsViewWithin, View, of_leaf}
 use Rattle.mon_value.specs.LeafHistories.{IsDownAt}
 use Rattle.mon_value.specs.declared.positions.Leaf.{Leaf}
 use Rattle.mon_value.specs.declared.rows.Row.{Row}
-use Rattle.query_core.specs.Rounds.{QuerySetting}
-use Rattle.query_core.specs.declared.asks.Ask.{Ask}
-use Rattle.query_core.specs.declared.asks.Ask.TheVariants as ask
+use Rattle.query_traces.specs.Rounds.{QuerySetting}
+use Rattle.query_traces.specs.declared.asks.Ask.{Ask}
+use Rattle.query_traces.specs.declared.asks.Ask.TheVariants as ask
 use Rattle.core_theory.proofs.CoreLemmas.{stays_woven}
 use Rattle.core_store.proofs.HolderLemmas.{holding_entering, holding_reserving}
 use Rattle.core_theory.specs.Core.{CanCome, CanGoOn, Core, CoreEvent, Happens, Hears, Tells, asked_now, came}

@@ -7,17 +7,19 @@ use Rattle.mon_value.specs.LeafHistories.{is_down}
 use Rattle.mon_value.specs.declared.histories.Entry.{Entry}
 use Rattle.mon_value.specs.declared.positions.Leaf.{Leaf}
 use Rattle.query_core.proofs.ToldAnswers.{all_there, can_read, may_be_told}
-use Rattle.query_core.specs.AskedPlaces.{IsThere}
-use Rattle.query_core.specs.Askings.{IsAskedOf}
+use Rattle.query_traces.specs.AskedPlaces.{IsThere}
+use Rattle.query_traces.specs.Askings.{IsAskedOf}
 use Rattle.query_core.specs.Machine.{Query, new_query, slots_at}
-use Rattle.query_core.specs.Mixtures.{MayBeTold, typed_of}
+use Rattle.query_core.specs.Mixtures.{MayBeTold}
+use Rattle.query_traces.specs.Rounds.{typed_of}
 use Rattle.query_core.specs.Program.{ask_of}
 use Rattle.mon_meaning.specs.ReadableSlots.{CanBeRead}
-use Rattle.query_core.specs.Traces.{IsBetween}
-use Rattle.query_core.specs.Sessions.{IsLicensed, IsTrueAnswer, query_after, view_after}
+use Rattle.query_traces.specs.Traces.{IsBetween}
+use Rattle.query_core.specs.Sessions.{IsLicensed, query_after, view_after}
+use Rattle.query_traces.specs.TrueAnswers.{IsTrueAnswer}
 use Rattle.mon_topo.specs.Views.{IsSound, IsViewWithin, View, joined_view, of_leaf}
-use Rattle.query_core.specs.declared.asks.Ask.TheVariants as ask
-use Rattle.query_core.specs.declared.asks.Told.{Told}
+use Rattle.query_traces.specs.declared.asks.Ask.TheVariants as ask
+use Rattle.query_traces.specs.declared.asks.Told.{Told}
 use Rattle.core_theory.proofs.CoreLemmas.{all_looked, at_leaf, found_so, goes, sound_so, true_told}
 use Rattle.core_theory.proofs.ReaderLemmas.{as_new}
 use Rattle.core_theory.specs.Core.{IsLookedAt, IsTold, Reader, asked_now, query_now, view_told, world_told}

@@ -14,18 +14,19 @@ use Rattle.mon_value.specs.declared.positions.RangeSlot.{RangeSlot}
 use Rattle.mon_value.specs.declared.positions.Zone.{Zone}
 use Rattle.mon_value.specs.declared.rows.Row.{Row}
 use Rattle.query_core.specs.Machine.{Query, slots_at}
-use Rattle.query_core.specs.Mixtures.{Settles, typed_of}
+use Rattle.query_core.specs.Mixtures.{Settles}
+use Rattle.query_traces.specs.Rounds.{typed_of, QuerySetting}
 use Rattle.plan_split.specs.Meeting.{is_plan_met}
 use Rattle.query_core.specs.Program.{after, ask_of}
 use Rattle.query_core.specs.Sessions as session
-use Rattle.query_core.specs.Sessions.{IsSeenSo, query_after}
-use Rattle.query_core.specs.Rounds.{QuerySetting}
+use Rattle.query_core.specs.Sessions.{query_after}
+use Rattle.query_traces.specs.TrueAnswers.{IsSeenSo}
 use Rattle.mon_meaning.specs.ReadableSlots.{slot_rows}
 use Rattle.mon_topo.specs.RangeHistories.{first_serving}
-use Rattle.query_core.specs.declared.asks.Ask.{Ask}
-use Rattle.query_core.specs.declared.asks.Ask.TheVariants as ask
-use Rattle.query_core.specs.declared.asks.Told.{Told}
-use Rattle.query_core.specs.declared.asks.Told.TheVariants as told
+use Rattle.query_traces.specs.declared.asks.Ask.{Ask}
+use Rattle.query_traces.specs.declared.asks.Ask.TheVariants as ask
+use Rattle.query_traces.specs.declared.asks.Told.{Told}
+use Rattle.query_traces.specs.declared.asks.Told.TheVariants as told
 use Rattle.query_core.specs.declared.stages.Stage.{Stage}
 use Rattle.write_core.specs.Events.{CanHappen, Event, after_event, after_resolving, after_visit}
 use Rattle.mon_topo.specs.Views.{View, joined_view, of_leaf, of_range}

@@ -17,12 +17,11 @@ use Rattle.mon_value.specs.declared.positions.FoundDown.{FoundDown}
 use Rattle.mon_value.specs.declared.positions.Leaf.{Leaf}
 use Rattle.mon_value.specs.declared.positions.Range.{Range}
 use Rattle.typed_trees.specs.Meaning.{load}
-use Rattle.query_core.specs.Answers.{IsStoppedRightly}
-use Rattle.query_core.specs.Rounds.{area_of, has_leaf, QuerySetting}
-use Rattle.query_core.specs.Courses.{AreFoundThen, HasNoReplica, IsFoundThen}
-use Rattle.query_core.specs.Mixtures.{typed_of}
-use Rattle.query_core.specs.Traces.{IsBetween, lengths_of, source_of}
-use Rattle.query_core.specs.declared.answers.Trace.{Trace}
+use Rattle.query_traces.specs.Answers.{IsStoppedRightly}
+use Rattle.query_traces.specs.Rounds.{area_of, has_leaf, QuerySetting, typed_of}
+use Rattle.query_traces.specs.Founds.{AreFoundThen, HasNoReplica, IsFoundThen}
+use Rattle.query_traces.specs.Traces.{IsBetween, lengths_of, source_of}
+use Rattle.query_traces.specs.declared.answers.Trace.{Trace}
 use Rattle.run_traces.specs.LineCauses.{HasCause}
 use Rattle.mon_script.specs.declared.forms.LineForm.{LineForm}
 use Rattle.run_traces.specs.LineAsks.{moment_of, text_of}
@@ -32,7 +31,7 @@ use Rattle.run_traces.specs.declared.traces.LineFault.{LineFault}
 use Rattle.run_traces.specs.declared.traces.LineFault.TheVariants as why
 use Rattle.run_traces.specs.declared.traces.QuestionFault.{QuestionFault}
 use Rattle.run_traces.specs.declared.traces.QuestionFault.TheVariants as unanswered
-use Rattle.query_core.proofs.LeafLemmas.{same_leaves}
+use Rattle.query_traces.proofs.LeafLemmas.{same_leaves}
 
 -- ---- cuts
 

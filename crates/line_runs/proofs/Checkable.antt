@@ -20,10 +20,10 @@ use Rattle.mon_value.specs.declared.histories.Histories.{Histories}
 use Rattle.mon_value.specs.declared.rows.Row.{Row}
 use Rattle.typed_rows.proofs.KeptRows.{all-take}
 use Rattle.mon_value.proofs.PlainLemmas.{all_flat}
-use Rattle.query_core.specs.Traces.{IsOfRanges, cut_of, looked_at, resolved_rows, source_of}
-use Rattle.query_core.specs.declared.answers.Answer.{Answer}
-use Rattle.query_core.specs.declared.answers.Resolved.{Resolved}
-use Rattle.query_core.specs.declared.answers.Trace.{Trace}
+use Rattle.query_traces.specs.Traces.{IsOfRanges, cut_of, looked_at, resolved_rows, source_of}
+use Rattle.query_traces.specs.declared.answers.Answer.{Answer}
+use Rattle.query_traces.specs.declared.answers.Resolved.{Resolved}
+use Rattle.query_traces.specs.declared.answers.Trace.{Trace}
 
 module _ (config : Config) (points : ℕ) (seen : Histories)
     (held : AreHeld config.schemas config.topology points seen) (trace : Trace) where

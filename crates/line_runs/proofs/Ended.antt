@@ -24,12 +24,12 @@ use Rattle.mon_value.specs.declared.positions.Leaf.{Leaf}
 use Rattle.mon_value.specs.declared.rows.SeriesKey.{SeriesKey}
 use Rattle.typed_trees.specs.Nodes.{TypedTree}
 use Rattle.typed_trees.specs.declared.plans.Plan.{Plan}
-use Rattle.query_core.specs.Courses.{IsFoundBetween}
-use Rattle.query_core.specs.Mixtures.{typed_of}
-use Rattle.query_core.specs.Traces.{AreWider, IsFreshSince, IsReadRightly, IsTraceBetween, Lengths}
-use Rattle.query_core.specs.Traces.{lengths_of, source_of}
-use Rattle.query_core.specs.declared.answers.Answer.{Answer}
-use Rattle.query_core.specs.declared.answers.Trace.{Trace}
+use Rattle.query_traces.specs.Founds.{IsFoundBetween}
+use Rattle.query_traces.specs.Rounds.{typed_of}
+use Rattle.query_traces.specs.Traces.{AreWider, IsFreshSince, IsReadRightly, IsTraceBetween, Lengths}
+use Rattle.query_traces.specs.Traces.{lengths_of, source_of}
+use Rattle.query_traces.specs.declared.answers.Answer.{Answer}
+use Rattle.query_traces.specs.declared.answers.Trace.{Trace}
 use Rattle.run_traces.specs.LineClaims.{HaveGrown}
 use Rattle.run_traces.specs.LineTexts.{line_text}
 use Rattle.run_traces.specs.declared.traces.LineFault.TheVariants as why

@@ -11,7 +11,7 @@ use Rattle.mon_topo.specs.HeldHistories.{AreHeld, BeginsWith, AreWithin}
 use Rattle.mon_topo.specs.declared.zones.ZoneSpec.{ZoneSpec}
 use Rattle.mon_value.specs.Histories.{leaf_history, range_history}
 use Rattle.mon_value.specs.declared.histories.Histories.{Histories}
-use Rattle.query_core.specs.Traces.{AreWider, IsSoonerThan, lengths_of}
+use Rattle.query_traces.specs.Traces.{AreWider, IsSoonerThan, lengths_of}
 use Rattle.run_traces.proofs.RunFacts.{book_length, range_length}
 use Rattle.run_traces.specs.LineClaims.{HaveGrown, marked}
 

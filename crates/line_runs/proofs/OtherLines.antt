@@ -21,7 +21,7 @@ use Rattle.mon_script.specs.declared.forms.LineForm.{LineForm}
 use Rattle.history_book.specs.Histories.{entries}
 use Rattle.history_book.specs.declared.views.History.{History}
 use Rattle.history_book.specs.declared.views.History.TheVariants as of
-use Rattle.query_core.specs.Traces.{IsBetween}
+use Rattle.query_traces.specs.Traces.{IsBetween}
 
 still_kept : (know : Knowledge) → KeepsItsPlace know know
 still_kept know = record {

@@ -17,9 +17,9 @@ use Rattle.mon_value.specs.declared.tables.Table.{Table}
 use Rattle.mon_value.specs.declared.tables.TimedRow.{TimedRow}
 use Rattle.typed_trees.specs.Meaning.{meaning}
 use Rattle.typed_trees.specs.Nodes.{TypedTree, columns_of}
-use Rattle.query_core.specs.Traces.{source_of}
-use Rattle.query_core.specs.declared.answers.Answer.{Answer}
-use Rattle.query_core.specs.declared.answers.Trace.{Trace}
+use Rattle.query_traces.specs.Traces.{source_of}
+use Rattle.query_traces.specs.declared.answers.Answer.{Answer}
+use Rattle.query_traces.specs.declared.answers.Trace.{Trace}
 use Rattle.query_texts.specs.TextTypes.{text_type}
 use Rattle.run_traces.specs.LineTexts.{asked_text, leaf_lines, line_text, op_line}
 use Rattle.run_traces.specs.declared.traces.LineTrace.TheVariants as came

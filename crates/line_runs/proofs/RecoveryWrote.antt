@@ -36,8 +36,8 @@ use Rattle.mon_value.specs.declared.positions.Slot.{Slot}
 use Rattle.mon_value.specs.declared.positions.SlotLeaf.{SlotLeaf}
 use Rattle.mon_value.specs.declared.rows.Row.{Row}
 use Rattle.owners.specs.Puts.{pass_of}
-use Rattle.query_core.specs.Courses.{IsFoundBetween}
-use Rattle.query_core.specs.Traces.{IsBetween, found_leaves, lengths_of}
+use Rattle.query_traces.specs.Founds.{IsFoundBetween}
+use Rattle.query_traces.specs.Traces.{IsBetween, found_leaves, lengths_of}
 use Rattle.range_cell.specs.declared.answers.RecoverFault.{RecoverFault}
 use Rattle.range_cell.specs.declared.answers.RecoverFault.TheVariants as unopened
 use Rattle.run_traces.specs.LineCauses.{HasNoSource, IsDenied}
@@ -62,7 +62,7 @@ use Rattle.line_runs.proofs.FeedWrote.{Holds}
 use Rattle.line_runs.proofs.Growing.{forth, grown, seen_of}
 use Rattle.line_runs.proofs.SwitchWrote.{only_passes}
 use Rattle.line_runs.proofs.Wrote.{OwnsAsMuch, refused_wrote}
-use Rattle.query_core.proofs.LeafLemmas.{same_leaves}
+use Rattle.query_traces.proofs.LeafLemmas.{same_leaves}
 
 -- ---- forms
 

@@ -31,7 +31,7 @@ use Rattle.mon_value.specs.declared.histories.Entry.{Entry}
 use Rattle.mon_value.specs.declared.limits.TheConstants.{MOST_SWITCHES}
 use Rattle.mon_value.specs.declared.positions.Leaf.{Leaf}
 use Rattle.owners.specs.Puts.{pass_of}
-use Rattle.query_core.specs.Traces.{IsBetween, lengths_of}
+use Rattle.query_traces.specs.Traces.{IsBetween, lengths_of}
 use Rattle.run_traces.specs.LineCauses.{HasSwitchedEnough, WasAlready}
 use Rattle.run_traces.specs.LineAsks.{leaf_of, Switch, switch_of}
 use Rattle.run_traces.specs.LineForms.{Suits}
@@ -44,7 +44,7 @@ use Rattle.line_runs.proofs.Causes.{HasItsCause, LiesBetween}
 use Rattle.line_runs.proofs.FeedWrote.{Holds}
 use Rattle.line_runs.proofs.Growing.{forth, grown, seen_of}
 use Rattle.line_runs.proofs.Wrote.{OwnsAsMuch, refused_wrote}
-use Rattle.query_core.proofs.LeafLemmas.{same_leaves}
+use Rattle.query_traces.proofs.LeafLemmas.{same_leaves}
 use Rattle.mon_value.proofs.PlainLemmas.{get_next}
 use Rattle.mon_value.proofs.PlainLemmas.{equal_means}
 

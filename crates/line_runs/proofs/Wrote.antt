@@ -26,10 +26,9 @@ use Rattle.mon_value.specs.declared.positions.Leaf.{Leaf}
 use Rattle.mon_value.specs.declared.rows.Row.{Row}
 use Rattle.typed_trees.specs.Meaning.{meaning}
 use Rattle.typed_trees.specs.Nodes.{TypedTree, columns_of}
-use Rattle.query_core.specs.Courses.{IsFoundBetween}
-use Rattle.query_core.specs.Traces.{IsBetween, Lengths}
-use Rattle.query_core.specs.Traces.{lengths_of, source_of}
-use Rattle.query_core.specs.declared.answers.Trace.{Trace}
+use Rattle.query_traces.specs.Founds.{IsFoundBetween}
+use Rattle.query_traces.specs.Traces.{IsBetween, Lengths, lengths_of, source_of}
+use Rattle.query_traces.specs.declared.answers.Trace.{Trace}
 use Rattle.query_texts.specs.TextTypes.{text_type}
 use Rattle.query_texts.specs.declared.faults.TextFault.{TextFault}
 use Rattle.run_traces.proofs.RunFacts.{book_length}

@@ -19,9 +19,9 @@ use Rattle.mon_value.specs.declared.rows.Row.{Row}
 use Rattle.typed_trees.specs.Plans.{op_levels}
 use Rattle.typed_trees.specs.Meaning.{load, meaning}
 use Rattle.typed_trees.specs.Nodes.{TypedTree, columns_of}
-use Rattle.query_core.specs.Traces.{IsTraceBetween, Lengths, lengths_of, source_of}
-use Rattle.query_core.specs.declared.answers.Answer.{Answer}
-use Rattle.query_core.specs.declared.answers.Trace.{Trace}
+use Rattle.query_traces.specs.Traces.{IsTraceBetween, Lengths, lengths_of, source_of}
+use Rattle.query_traces.specs.declared.answers.Answer.{Answer}
+use Rattle.query_traces.specs.declared.answers.Trace.{Trace}
 use Rattle.query_texts.specs.TextTypes.{text_type}
 use Rattle.query_texts.specs.declared.faults.TextFault.{TextFault}
 use Rattle.run_traces.specs.LineTexts.{line_text, refused_line}

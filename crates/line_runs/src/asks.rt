@@ -18,7 +18,7 @@ use mon_script::{How, LineForm, Question};
 use mon_store::{Pass, Store};
 use mon_table::{equal_bags_print_alike, print};
 use mon_value::{OutOfMemory, Text};
-use query_core::{Answer, traces_stay};
+use query_traces::{Answer, traces_stay};
 use run_traces::LineTrace;
 use std::alloc::Global;
 use std::sync::Wait;

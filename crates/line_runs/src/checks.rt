@@ -9,7 +9,7 @@ ghost use Rattle.mon_value.specs.declared.limits.TheConstants.{ROW_BITS};
 ghost use Rattle.typed_trees.specs.Meaning.{load};
 ghost use Rattle.typed_trees.specs.Nodes.{typed_tree};
 ghost use Rattle.typed_trees.specs.Soundness.{IsTyped};
-ghost use Rattle.query_core.specs.Traces.{source_of};
+ghost use Rattle.query_traces.specs.Traces.{source_of};
 ghost use Rattle.query_texts.specs.TextTypes.{text_type};
 
 use know::Names;
@@ -18,8 +18,8 @@ use mon_meaning::central;
 use mon_store::{Pass, Store};
 use mon_table::{equal_bags_print_alike, print};
 use mon_value::{OutOfMemory, Refusal, RowList, Text};
-use query_core::Trace;
 use query_texts::plan_of;
+use query_traces::Trace;
 use std::alloc::{AllocError, Global};
 use std::sync::Wait;
 use typed_trees::Typed;

@@ -8,7 +8,7 @@ ghost use Rattle.run_traces.specs.LineTexts as spec;
 use mon_table::print;
 use mon_topo::Topology;
 use mon_value::{Leaf, OutOfMemory, Text};
-use query_core::{Answer, Trace};
+use query_traces::{Answer, Trace};
 use std::alloc::Global;
 use typed_trees::{Level, OpLevel, OpLevels, OpWord};
 

@@ -20,9 +20,9 @@ use Rattle.mon_value.specs.declared.positions.Slot.{Slot}
 use Rattle.mon_value.specs.declared.rows.Row.{Row}
 use Rattle.leaf_cell.specs.Visits.{HasGathered}
 use Rattle.owners.specs.Calls.{HasCalled, HasLooked}
-use Rattle.query_core.specs.Traces.{cut_of, resolved_rows, source_of}
-use Rattle.query_core.specs.declared.answers.Resolved.{Resolved}
-use Rattle.query_core.specs.declared.answers.Trace.{Trace}
+use Rattle.query_traces.specs.Traces.{cut_of, resolved_rows, source_of}
+use Rattle.query_traces.specs.declared.answers.Resolved.{Resolved}
+use Rattle.query_traces.specs.declared.answers.Trace.{Trace}
 use Rattle.mon_store.specs.Gathers.{HasSeenTrace}
 use Rattle.mon_store.specs.Passes.{OwnsTheSame}
 use Rattle.range_cell.proofs.LookingLemmas.{none_kept}

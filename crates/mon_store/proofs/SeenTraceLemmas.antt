@@ -21,11 +21,11 @@ use Rattle.mon_value.specs.declared.positions.Leaf.{Leaf}
 use Rattle.mon_value.specs.declared.positions.Range.{Range}
 use Rattle.mon_value.specs.declared.positions.Slot.{Slot}
 use Rattle.typed_trees.specs.Nodes.{TypedTree}
-use Rattle.query_core.specs.Mixtures.{typed_of}
-use Rattle.query_core.specs.Traces.{IsTraceOf, cut_of, looked_at}
-use Rattle.query_core.specs.declared.answers.Answer.{Answer}
-use Rattle.query_core.specs.declared.answers.Resolved.{Resolved}
-use Rattle.query_core.specs.declared.answers.Trace.{Trace}
+use Rattle.query_traces.specs.Rounds.{typed_of}
+use Rattle.query_traces.specs.Traces.{IsTraceOf, cut_of, looked_at}
+use Rattle.query_traces.specs.declared.answers.Answer.{Answer}
+use Rattle.query_traces.specs.declared.answers.Resolved.{Resolved}
+use Rattle.query_traces.specs.declared.answers.Trace.{Trace}
 use Rattle.running_query.specs.Looks.{GoesOn}
 use Rattle.mon_store.specs.Gathers.{HasSeenTrace}
 use Rattle.mon_store.specs.Queries.{IsQueried}

@@ -12,12 +12,11 @@ use Rattle.mon_topo.specs.Replicas.{HasReplicas}
 use Rattle.mon_topo.specs.Settings.{Setting}
 use Rattle.mon_topo.specs.Zones.{ranges_in}
 use Rattle.mon_value.specs.Histories.{range_numbered}
-use Rattle.query_core.specs.Rounds.{areas_of, QuerySetting}
-use Rattle.query_core.specs.Mixtures.{typed_of}
-use Rattle.query_core.specs.declared.answers.Answer.{Answer}
-use Rattle.query_core.specs.declared.answers.RoundFault.{RoundFault}
-use Rattle.query_core.specs.declared.answers.RoundFault.TheVariants as round
-use Rattle.query_core.specs.declared.areas.Area.{Area}
+use Rattle.query_traces.specs.Rounds.{areas_of, QuerySetting, typed_of}
+use Rattle.query_traces.specs.declared.answers.Answer.{Answer}
+use Rattle.query_traces.specs.declared.answers.RoundFault.{RoundFault}
+use Rattle.query_traces.specs.declared.answers.RoundFault.TheVariants as round
+use Rattle.query_traces.specs.declared.areas.Area.{Area}
 use Rattle.query_texts.specs.TextTypes.{IsPlanOver, text_type}
 use Rattle.query_texts.specs.declared.faults.TextFault.TheVariants as text_fault
 use Rattle.running_query.specs.Ends.{EndsRightly}

@@ -6,7 +6,7 @@ ghost use Rattle.know.specs.Sound.{IsSound};
 ghost use Rattle.mon_topo.specs.Zones.{leaves_in};
 ghost use Rattle.mon_value.specs.Histories.{leaf_history};
 ghost use Rattle.mon_value.specs.LeafHistories.{replica_rows};
-ghost use Rattle.query_core.specs.Traces.{source_of};
+ghost use Rattle.query_traces.specs.Traces.{source_of};
 ghost use Rattle.mon_store.specs.Gathers.{HasBeenHanded, HasSeenTrace};
 ghost use Rattle.mon_store.specs.Passes.{OwnsTheSame};
 

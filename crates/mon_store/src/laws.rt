@@ -3,7 +3,7 @@ ghost use Rattle.std.specs.Prelude.{List};
 ghost use Rattle.history_book.specs.Histories.{AreFronts};
 ghost use Rattle.know.specs.Knowledge.{Knowledge};
 ghost use Rattle.mon_topo.specs.declared.zones.ZoneSpec.{ZoneSpec};
-ghost use Rattle.query_core.specs.declared.answers.Trace.{Trace};
+ghost use Rattle.query_traces.specs.declared.answers.Trace.{Trace};
 ghost use Rattle.mon_store.specs.Gathers.{HasSeenTrace};
 
 /// Who has seen what a query looked at has seen it for good, so its rows may be gathered behind other calls.

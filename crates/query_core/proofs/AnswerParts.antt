@@ -10,29 +10,28 @@ use Rattle.mon_topo.specs.Settings.{Setting}
 use Rattle.mon_value.specs.declared.positions.Leaf.{Leaf}
 use Rattle.mon_value.specs.declared.positions.RangeSlot.{RangeSlot}
 use Rattle.mon_value.specs.declared.rows.Row.{Row}
-use Rattle.query_core.specs.declared.areas.Area.{Area}
-use Rattle.query_core.specs.declared.asks.Seen.{Seen}
-use Rattle.query_core.specs.declared.asks.Told.{Told}
-use Rattle.query_core.specs.declared.asks.Told.TheVariants as told
+use Rattle.query_traces.specs.declared.areas.Area.{Area}
+use Rattle.query_traces.specs.declared.asks.Seen.{Seen}
+use Rattle.query_traces.specs.declared.asks.Told.{Told}
+use Rattle.query_traces.specs.declared.asks.Told.TheVariants as told
 use Rattle.query_core.specs.declared.courses.Course.{Course}
-use Rattle.query_core.specs.declared.loadings.Loading.{Loading}
-use Rattle.query_core.specs.declared.looks.Look.{Look}
+use Rattle.query_traces.specs.declared.loadings.Loading.{Loading}
+use Rattle.query_traces.specs.declared.looks.Look.{Look}
 use Rattle.query_core.specs.declared.stages.Stage.{Stage}
 use Rattle.query_core.specs.declared.stages.Stage.TheVariants as at
-use Rattle.query_core.specs.Rounds.{areas_of, has_leaf, leaf_at, read_at, unread_look, Round, round_of, slots_on}
-use Rattle.query_core.specs.Rounds.{QuerySetting}
+use Rattle.query_traces.specs.Rounds.{areas_of, has_leaf, leaf_at, read_at, unread_look, Round, round_of, slots_on}
+use Rattle.query_traces.specs.Rounds.{QuerySetting, typed_of}
 use Rattle.query_core.specs.Courses.{trace_of, with_found}
-use Rattle.query_core.specs.Loadings.{is_whole, with_word}
+use Rattle.query_traces.specs.Loadings.{is_whole, with_word}
 use Rattle.query_core.specs.Machine.{slots_in, slots_visited}
-use Rattle.query_core.specs.Mixtures.{typed_of}
 use Rattle.query_core.specs.Program as spec
 use Rattle.query_core.specs.Program.{ask_of, let_some_in, with_zone}
-use Rattle.query_core.specs.Sessions as session
+use Rattle.query_traces.specs.TrueAnswers as truth
 use Rattle.mon_topo.specs.Views.{IsSound, View}
 use Rattle.mon_meaning.specs.ReadableSlots.{slot_rows}
-use Rattle.query_core.specs.Visits as visit
-use Rattle.query_core.specs.Visits.{Visits, with_look}
-use Rattle.query_core.proofs.RoundLemmas.{has_at}
+use Rattle.query_traces.specs.Visits as visit
+use Rattle.query_traces.specs.Visits.{Visits, with_look}
+use Rattle.query_traces.proofs.RoundLemmas.{has_at}
 use Rattle.query_core.proofs.SegmentFacts.{SeenSo, seen_so}
 use Rattle.query_core.proofs.StageLemmas.{slots_here}
 use Rattle.query_core.proofs.PartClaims.{CourseIn, LeafOver, LoadedSo, RoundWhole, StageParts, StepParts, VisitSo}
@@ -103,7 +102,7 @@ module _ (store : Setting) (setting : QuerySetting) (moment : ℤ) (Tells : Hist
   visit_then = visit_on store setting moment before.seen after.seen grown
 
   word_so : (loading : Loading) (word : ℕ) (seen : Seen) → LoadedSo store setting moment loading.words loading.seen
-      → session.IsSeenSo before.seen seen → SeenSo store.zones (with_word loading word seen).seen
+      → truth.IsSeenSo before.seen seen → SeenSo store.zones (with_word loading word seen).seen
   word_so loading word seen loaded is =
       word_seen store setting moment loading.words loading.seen seen loaded (seen_so store before.seen seen sound.held
       is)
@@ -132,7 +131,7 @@ module _ (store : Setting) (setting : QuerySetting) (moment : ℤ) (Tells : Hist
   }
 
   pub answer_parts : (stage : Stage) (answer : Told) → StageParts store setting moment Tells before.seen stage
-      → session.IsTrueAnswer store setting moment before after avoided (slots_visited stage) (ask_of setting stage)
+      → truth.IsTrueAnswer store setting moment before after avoided (slots_visited stage) (ask_of setting stage)
       answer
       → StepParts store setting moment Tells after.seen (spec.after setting stage answer)
   answer_parts (at.Rooting loading) (told.Word word seen) so is =

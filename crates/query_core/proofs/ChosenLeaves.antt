@@ -15,11 +15,11 @@ use Rattle.mon_value.specs.declared.positions.Leaf.{Leaf}
 use Rattle.mon_value.specs.declared.positions.Range.{Range}
 use Rattle.mon_value.specs.declared.positions.Zone.{Zone}
 use Rattle.typed_rows.proofs.JoinedRows.{all-map}
-use Rattle.query_core.specs.Rounds.{area_of}
+use Rattle.query_traces.specs.Rounds.{area_of}
 use Rattle.query_core.proofs.DividedRows.{AreLeavesOf, AreOtherLeaves, AreOtherZones, SomeLeaves, all_leaves}
 use Rattle.query_core.proofs.ReadLeaves.{Ascend, among_from, ascend_append, ascend_before, ascend_once, ascend_within}
 use Rattle.query_core.proofs.ReadLeaves.{leaves_ascend, leaves_from}
-use Rattle.query_core.proofs.ZoneFacts.{leaves_next, ranges_next, zone_of_leaf_at}
+use Rattle.query_traces.proofs.ZoneFacts.{leaves_next, ranges_next, zone_of_leaf_at}
 
 -- ---- the parts of the zones before one
 

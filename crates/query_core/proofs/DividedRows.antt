@@ -31,9 +31,9 @@ use Rattle.mon_meaning.specs.ReadableSlots.{AreApart, ShareNoTarget}
 use Rattle.mixer.specs.Divisions.{together}
 use Rattle.typed_rows.proofs.JoinedRows.{all-map}
 use Rattle.typed_rows.proofs.KeptRows.{all-filter}
-use Rattle.query_core.specs.declared.answers.Resolved.{Resolved}
+use Rattle.query_traces.specs.declared.answers.Resolved.{Resolved}
 use Rattle.mon_topo.proofs.PlacedRangeLemmas.{is_placed}
-use Rattle.query_core.proofs.LeafLemmas.{same_leaves}
+use Rattle.query_traces.proofs.LeafLemmas.{same_leaves}
 use Rattle.mon_value.proofs.PlainLemmas.{equal_itself, all_append}
 
 -- ---- ranges, each of which stands once

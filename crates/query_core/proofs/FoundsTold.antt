@@ -9,24 +9,24 @@ use Rattle.mon_value.specs.declared.positions.Leaf.{Leaf}
 use Rattle.mon_value.specs.declared.positions.Range.{Range}
 use Rattle.mon_value.specs.declared.positions.RangeSlot.{RangeSlot}
 use Rattle.mon_value.specs.declared.tables.Table.{Table}
-use Rattle.query_core.specs.Rounds.{read_at, unread_look, Round, next_range, round_of, with_slot}
-use Rattle.query_core.specs.Rounds.{QuerySetting}
-use Rattle.query_core.specs.Courses.{course_of, found_down, founds_in, is_entered, left, with_found, with_next_zone}
+use Rattle.query_traces.specs.Rounds.{read_at, unread_look, Round, next_range, round_of, with_slot, QuerySetting}
+use Rattle.query_core.specs.Courses.{course_of, founds_in, is_entered, left, with_found, with_next_zone}
+use Rattle.query_traces.specs.Founds.{found_down}
 use Rattle.query_core.specs.Courses.{with_zone_answer}
-use Rattle.query_core.specs.Loadings.{is_whole, no_word, with_word}
+use Rattle.query_traces.specs.Loadings.{is_whole, no_word, with_word}
 use Rattle.query_core.specs.Mixtures.{Settles, TurnSettles, root_stage, zone_turn}
 use Rattle.query_core.specs.Program as spec
 use Rattle.query_core.specs.Program.{ask_of, let_some_in, next_zone}
-use Rattle.query_core.specs.Sessions as session
+use Rattle.query_traces.specs.TrueAnswers as truth
 use Rattle.mon_topo.specs.Views.{View}
-use Rattle.query_core.specs.Visits as visit
-use Rattle.query_core.specs.Visits.{Visits, next_leaf, with_look}
-use Rattle.query_core.specs.declared.answers.Answer.{Answer}
-use Rattle.query_core.specs.declared.answers.RoundFault.{RoundFault}
-use Rattle.query_core.specs.declared.answers.RoundFault.TheVariants as fault
-use Rattle.query_core.specs.declared.areas.Area.{Area}
-use Rattle.query_core.specs.declared.asks.Told.{Told}
-use Rattle.query_core.specs.declared.asks.Told.TheVariants as told
+use Rattle.query_traces.specs.Visits as visit
+use Rattle.query_traces.specs.Visits.{Visits, next_leaf, with_look}
+use Rattle.query_traces.specs.declared.answers.Answer.{Answer}
+use Rattle.query_traces.specs.declared.answers.RoundFault.{RoundFault}
+use Rattle.query_traces.specs.declared.answers.RoundFault.TheVariants as fault
+use Rattle.query_traces.specs.declared.areas.Area.{Area}
+use Rattle.query_traces.specs.declared.asks.Told.{Told}
+use Rattle.query_traces.specs.declared.asks.Told.TheVariants as told
 use Rattle.query_core.specs.declared.courses.Course.{Course}
 use Rattle.query_core.specs.declared.stages.Stage.{Stage}
 use Rattle.query_core.specs.declared.stages.Stage.TheVariants as at
@@ -114,7 +114,7 @@ module _ (Has : List FoundDown → Type 0) (Named : Range → List FoundDown →
   module _ (store : Setting) (setting : QuerySetting) (moment : ℤ) (before after : View) (avoided : List Leaf)
       (slots : List RangeSlot) where
     pub told_has : (stage : Stage) (answer : Told) → HasThen stage answer
-        → session.IsTrueAnswer store setting moment before after avoided slots (ask_of setting stage) answer
+        → truth.IsTrueAnswer store setting moment before after avoided slots (ask_of setting stage) answer
         → StepHas (spec.after setting stage answer)
     told_has (at.Rooting loading) (told.Word word seen) h true_then =
         let next = with_word loading word seen in

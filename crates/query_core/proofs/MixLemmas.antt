@@ -18,17 +18,17 @@ use Rattle.mon_value.specs.declared.tables.Table.{Table}
 use Rattle.mon_schema.specs.Fits.{fits}
 use Rattle.typed_trees.specs.Nodes.{TypedTree, typed_tree}
 use Rattle.typed_trees.specs.declared.plans.Plan.{Plan}
-use Rattle.query_core.specs.declared.areas.Area.{Area}
+use Rattle.query_traces.specs.declared.areas.Area.{Area}
 use Rattle.query_core.specs.declared.courses.Course.{Course}
 use Rattle.query_core.specs.declared.stages.Stage.{Stage}
 use Rattle.query_core.specs.declared.stages.Stage.TheVariants as at
 use Rattle.query_core.specs.declared.stages.Turn.{Turn}
 use Rattle.query_core.specs.declared.stages.Turn.TheVariants as turn
 use Rattle.query_core.specs.Courses.{with_next_zone, is_entered, with_zone_answer, left}
-use Rattle.query_core.specs.Loadings.{no_word}
-use Rattle.query_core.specs.Mixtures.{HasParts, IsRootMixed, IsZoneMixed, MayMixRoot, TurnSettles, root_stage, typed_of}
+use Rattle.query_traces.specs.Loadings.{no_word}
+use Rattle.query_core.specs.Mixtures.{HasParts, IsRootMixed, IsZoneMixed, MayMixRoot, TurnSettles, root_stage}
+use Rattle.query_traces.specs.Rounds.{typed_of, round_of, QuerySetting}
 use Rattle.query_core.specs.Program.{next_zone, stopped_stage}
-use Rattle.query_core.specs.Rounds.{round_of, QuerySetting}
 use Rattle.mon_value.proofs.PlainLemmas.{all_front, all_back, all_last}
 
 -- ---- the last zone of several

@@ -19,27 +19,28 @@ use Rattle.mon_value.specs.declared.positions.FoundDown.{FoundDown}
 use Rattle.mon_value.specs.declared.positions.Leaf.{Leaf}
 use Rattle.mon_value.specs.declared.positions.Range.{Range}
 use Rattle.mon_value.specs.declared.positions.SlotLeaf.{SlotLeaf}
-use Rattle.query_core.proofs.FindingLemmas.{all_named}
+use Rattle.query_traces.proofs.FindingLemmas.{all_named}
 use Rattle.query_core.proofs.FoundsTold.{EndHas, HasThen, StageHas, settles_has, told_has}
 use Rattle.query_core.proofs.RightAnswers.{AreKept, kept_first, keeps}
-use Rattle.query_core.proofs.RoundLemmas.{has_at}
-use Rattle.query_core.proofs.SeenSpans.{near_at}
+use Rattle.query_traces.proofs.RoundLemmas.{has_at}
+use Rattle.query_traces.proofs.SeenSpans.{near_at}
 use Rattle.query_core.proofs.TraceClaims as claim
-use Rattle.query_core.proofs.ZoneFacts.{leaves_next, zone_of_range_at}
-use Rattle.query_core.specs.Askings.{IsAskedOf}
-use Rattle.query_core.specs.Courses.{found_down, founds_in, founds_of_zone}
+use Rattle.query_traces.proofs.ZoneFacts.{leaves_next, zone_of_range_at}
+use Rattle.query_traces.specs.Askings.{IsAskedOf}
+use Rattle.query_core.specs.Courses.{founds_in}
+use Rattle.query_traces.specs.Founds.{found_down, founds_of_zone}
 use Rattle.query_core.specs.Machine.{Query, new_query, slots_at}
 use Rattle.query_core.specs.Program.{after}
-use Rattle.query_core.specs.Rounds.{area_of, has_leaf, Round, QuerySetting}
+use Rattle.query_traces.specs.Rounds.{area_of, has_leaf, Round, QuerySetting}
 use Rattle.query_core.specs.Sessions as session
 use Rattle.query_core.specs.ToldDowns.{AreOfItsZone, NamesAll, down_told, downs_told}
-use Rattle.query_core.specs.Traces.{found_leaves}
-use Rattle.query_core.specs.declared.answers.Answer.{Answer}
-use Rattle.query_core.specs.declared.answers.RoundFault.{RoundFault}
-use Rattle.query_core.specs.declared.answers.RoundFault.TheVariants as fault
-use Rattle.query_core.specs.declared.areas.Area.{Area}
-use Rattle.query_core.specs.declared.asks.Told.{Told}
-use Rattle.query_core.specs.declared.asks.Told.TheVariants as told
+use Rattle.query_traces.specs.Traces.{found_leaves}
+use Rattle.query_traces.specs.declared.answers.Answer.{Answer}
+use Rattle.query_traces.specs.declared.answers.RoundFault.{RoundFault}
+use Rattle.query_traces.specs.declared.answers.RoundFault.TheVariants as fault
+use Rattle.query_traces.specs.declared.areas.Area.{Area}
+use Rattle.query_traces.specs.declared.asks.Told.{Told}
+use Rattle.query_traces.specs.declared.asks.Told.TheVariants as told
 use Rattle.query_core.specs.declared.courses.Course.{Course}
 use Rattle.query_core.specs.declared.stages.Stage.{Stage}
 use Rattle.query_core.specs.declared.stages.Stage.TheVariants as at

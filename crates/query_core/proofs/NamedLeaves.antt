@@ -6,20 +6,20 @@ use Rattle.mon_value.specs.declared.positions.FoundDown.{FoundDown}
 use Rattle.mon_value.specs.declared.positions.Range.{Range}
 use Rattle.std.specs.Prelude.{Contains}
 use Rattle.mon_topo.proofs.RangeHistoryLemmas.{all_append, all_from}
-use Rattle.query_core.specs.Courses.{found_down}
-use Rattle.query_core.specs.declared.answers.RoundFault.TheVariants as fault
+use Rattle.query_traces.specs.Founds.{found_down}
+use Rattle.query_traces.specs.declared.answers.RoundFault.TheVariants as fault
 use Rattle.query_core.proofs.FoundsTold.{EndHas, HasThen, StageHas, settles_has, told_has}
 use Rattle.query_core.specs.Machine.{Query, new_query, slots_at}
 use Rattle.query_core.specs.Program.{after}
 use Rattle.query_core.specs.Sessions as session
 use Rattle.mon_topo.specs.Views.{View}
 use Rattle.typed_rows.proofs.KeptRows.{all-filter}
-use Rattle.query_core.specs.Rounds.{has_leaf, QuerySetting}
+use Rattle.query_traces.specs.Rounds.{has_leaf, QuerySetting}
 use Rattle.query_core.specs.ToldDowns.{EndNames, down_told, downs_told}
-use Rattle.query_core.specs.declared.answers.Answer.{Answer}
-use Rattle.query_core.specs.declared.answers.RoundFault.{RoundFault}
-use Rattle.query_core.specs.declared.asks.Told.{Told}
-use Rattle.query_core.specs.declared.asks.Told.TheVariants as told
+use Rattle.query_traces.specs.declared.answers.Answer.{Answer}
+use Rattle.query_traces.specs.declared.answers.RoundFault.{RoundFault}
+use Rattle.query_traces.specs.declared.asks.Told.{Told}
+use Rattle.query_traces.specs.declared.asks.Told.TheVariants as told
 use Rattle.query_core.specs.declared.stages.Stage.{Stage}
 use Rattle.query_core.specs.declared.stages.Stage.TheVariants as at
 use Rattle.mon_value.proofs.PlainLemmas.{all_front, all_back}

@@ -7,13 +7,13 @@ use Rattle.std.proofs.lemmas.List.Concat.{flat_map-append}
 use Rattle.std.proofs.Math.Decide.{dec_lt}
 use mathlib.Core.Logic.{dite}
 use Rattle.mon_value.specs.declared.positions.Leaf.{Leaf}
-use Rattle.query_core.specs.Rounds.{range_at}
+use Rattle.query_traces.specs.Rounds.{range_at}
 use Rattle.plan_split.specs.Meeting.{flag_at}
 use Rattle.query_core.specs.Orders.{ZoneCourse, areas_of_zones, chosen_areas, query_events, resolve_events}
 use Rattle.query_core.specs.Orders.{round_events, zone_events}
-use Rattle.query_core.specs.declared.areas.Area.{Area}
-use Rattle.query_core.specs.declared.asks.Ask.{Ask}
-use Rattle.query_core.specs.declared.asks.Ask.TheVariants as ask
+use Rattle.query_traces.specs.declared.areas.Area.{Area}
+use Rattle.query_traces.specs.declared.asks.Ask.{Ask}
+use Rattle.query_traces.specs.declared.asks.Ask.TheVariants as ask
 
 -- one event of those that are left was done
 pub one_on : (done : List Ask) (one : Ask) (left all : List Ask) → done ++ one ∷ left ≡ all

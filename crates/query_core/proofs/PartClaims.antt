@@ -14,26 +14,25 @@ use Rattle.mon_topo.specs.Settings.{Setting}
 use Rattle.mon_value.specs.declared.positions.Leaf.{Leaf}
 use Rattle.mon_value.specs.declared.rows.Row.{Row}
 use Rattle.typed_trees.specs.Plans.{op_levels}
-use Rattle.query_core.specs.declared.answers.Answer.{Answer}
-use Rattle.query_core.specs.declared.answers.Resolved.{Resolved}
-use Rattle.query_core.specs.declared.answers.RoundFault.{RoundFault}
-use Rattle.query_core.specs.declared.answers.RoundFault.TheVariants as fault
-use Rattle.query_core.specs.declared.answers.Trace.{Trace}
-use Rattle.query_core.specs.declared.areas.Area.{Area}
-use Rattle.query_core.specs.declared.asks.Seen.{Seen}
+use Rattle.query_traces.specs.declared.answers.Answer.{Answer}
+use Rattle.query_traces.specs.declared.answers.Resolved.{Resolved}
+use Rattle.query_traces.specs.declared.answers.RoundFault.{RoundFault}
+use Rattle.query_traces.specs.declared.answers.RoundFault.TheVariants as fault
+use Rattle.query_traces.specs.declared.answers.Trace.{Trace}
+use Rattle.query_traces.specs.declared.areas.Area.{Area}
+use Rattle.query_traces.specs.declared.asks.Seen.{Seen}
 use Rattle.query_core.specs.declared.courses.Course.{Course}
-use Rattle.query_core.specs.declared.looks.Look.{Look}
+use Rattle.query_traces.specs.declared.looks.Look.{Look}
 use Rattle.query_core.specs.declared.stages.Stage.{Stage}
 use Rattle.query_core.specs.declared.stages.Stage.TheVariants as at
 use Rattle.query_core.specs.declared.stages.Step.{Step}
 use Rattle.query_core.specs.declared.stages.Step.TheVariants as step
 use Rattle.query_core.specs.declared.stages.Turn.{Turn}
 use Rattle.query_core.specs.declared.stages.Turn.TheVariants as turn
-use Rattle.query_core.specs.Rounds.{area_of, leaf_at, range_at, Round, slots_on, QuerySetting}
+use Rattle.query_traces.specs.Rounds.{area_of, leaf_at, range_at, Round, slots_on, QuerySetting, typed_of}
 use Rattle.query_core.specs.Courses.{with_zone_behind, trace_of}
-use Rattle.query_core.specs.Mixtures.{typed_of}
 use Rattle.mon_meaning.specs.ReadableSlots.{slot_rows}
-use Rattle.query_core.specs.Visits.{Visits}
+use Rattle.query_traces.specs.Visits.{Visits}
 use Rattle.query_core.proofs.ReadLeaves.{IsUnread}
 use Rattle.query_core.proofs.SegmentFacts.{Behind, IsWhole, PartsSo, RangesFrom, Segment, SeenSo}
 

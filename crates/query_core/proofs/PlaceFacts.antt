@@ -6,17 +6,17 @@ use Rattle.mon_topo.specs.Zones.{no_zone}
 use Rattle.mon_topo.specs.declared.zones.ZoneSpec.{ZoneSpec}
 use Rattle.mon_value.specs.declared.positions.Leaf.{Leaf}
 use Rattle.mon_value.specs.declared.positions.Range.{Range}
-use Rattle.query_core.specs.AskedPlaces.{IsThere}
+use Rattle.query_traces.specs.AskedPlaces.{IsThere}
 use Rattle.query_core.specs.Program.{ask_of}
-use Rattle.query_core.specs.Rounds.{Round, QuerySetting}
+use Rattle.query_traces.specs.Rounds.{Round, QuerySetting}
 use Rattle.mon_topo.specs.Views.{View}
-use Rattle.query_core.specs.declared.areas.Area.{Area}
+use Rattle.query_traces.specs.declared.areas.Area.{Area}
 use Rattle.query_core.specs.declared.courses.Course.{Course}
 use Rattle.query_core.specs.declared.stages.Stage.{Stage}
 use Rattle.query_core.specs.declared.stages.Stage.TheVariants as at
 use Rattle.query_core.proofs.TraceClaims as claim
 use Rattle.mon_topo.proofs.SizeLemmas.{parts_so_far}
-use Rattle.query_core.proofs.ZoneFacts.{leaves_next}
+use Rattle.query_traces.proofs.ZoneFacts.{leaves_next}
 
 module _ (store : Setting) (setting : QuerySetting) (at_entry : Histories) (now : View) (avoided : List Leaf) where
   zone_there : (below k : ℕ) (course : Course) (round : Round)

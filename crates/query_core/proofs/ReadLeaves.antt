@@ -6,8 +6,8 @@ use Rattle.std.proofs.lemmas.Bool.{false≢true, or_from, or_left, or_right}
 use Rattle.std.proofs.lemmas.Bool.Decides.{nat_tests}
 use Rattle.mon_value.specs.declared.positions.Leaf.{Leaf}
 use Rattle.mon_value.specs.Histories.{leaf_numbered, same_leaf}
-use Rattle.query_core.specs.declared.looks.Look.{Look}
-use Rattle.query_core.specs.Rounds.{read_at, unread_look}
+use Rattle.query_traces.specs.declared.looks.Look.{Look}
+use Rattle.query_traces.specs.Rounds.{read_at, unread_look}
 use Rattle.query_core.proofs.DividedRows.{AreOtherLeaves}
 
 -- ---- leaves that were read

@@ -13,37 +13,37 @@ use Rattle.mon_value.specs.declared.positions.FoundDown.{FoundDown}
 use Rattle.mon_value.specs.declared.positions.Leaf.{Leaf}
 use Rattle.mon_value.specs.declared.positions.Range.{Range}
 use Rattle.typed_rows.proofs.JoinedRows.{all-map}
-use Rattle.query_core.specs.Answers.{IsAnsweredRightly, IsStoppedRightly}
-use Rattle.query_core.specs.Askings.{IsAskedOf}
-use Rattle.query_core.specs.declared.answers.Answer.{Answer}
-use Rattle.query_core.specs.declared.answers.RoundFault.{RoundFault}
-use Rattle.query_core.specs.declared.answers.RoundFault.TheVariants as fault
-use Rattle.query_core.specs.declared.answers.Trace.{Trace}
+use Rattle.query_traces.specs.Answers.{IsAnsweredRightly, IsStoppedRightly}
+use Rattle.query_traces.specs.Askings.{IsAskedOf}
+use Rattle.query_traces.specs.declared.answers.Answer.{Answer}
+use Rattle.query_traces.specs.declared.answers.RoundFault.{RoundFault}
+use Rattle.query_traces.specs.declared.answers.RoundFault.TheVariants as fault
+use Rattle.query_traces.specs.declared.answers.Trace.{Trace}
 use Rattle.query_core.specs.declared.courses.Course.{Course}
-use Rattle.query_core.specs.declared.looks.Look.{Look}
+use Rattle.query_traces.specs.declared.looks.Look.{Look}
 use Rattle.query_core.specs.declared.stages.Stage.{Stage}
 use Rattle.query_core.specs.declared.stages.Stage.TheVariants as at
 use Rattle.query_core.specs.declared.stages.Step.{Step}
 use Rattle.query_core.specs.declared.stages.Step.TheVariants as step
 use Rattle.query_core.specs.declared.stages.Turn.{Turn}
 use Rattle.query_core.specs.declared.stages.Turn.TheVariants as turn
-use Rattle.query_core.specs.Courses.{HasNoReplica}
-use Rattle.query_core.specs.Rounds.{unread_look, slots_on, QuerySetting}
+use Rattle.query_traces.specs.Founds.{HasNoReplica}
+use Rattle.query_traces.specs.Rounds.{unread_look, slots_on, QuerySetting, typed_of}
 use Rattle.query_core.specs.Machine.{Query, avoided_after, new_query, slots_at}
-use Rattle.query_core.specs.Mixtures.{typed_of, zone_turn}
+use Rattle.query_core.specs.Mixtures.{zone_turn}
 use Rattle.query_core.specs.Program as spec
 use Rattle.query_core.specs.SentTold.{sent_told}
 use Rattle.query_core.specs.Sessions as session
 use Rattle.mon_topo.specs.Views.{IsSound, View}
-use Rattle.query_core.specs.Traces.{IsFirstServing, is_wanted}
+use Rattle.query_traces.specs.Traces.{IsFirstServing, is_wanted}
 use Rattle.mon_meaning.specs.ReadableSlots.{slot_rows}
 use Rattle.query_core.proofs.SentSums.{StageSent, sent_session}
 use Rattle.query_core.proofs.SessionEnds.{seen_since, sound_then, stage_last}
 use Rattle.query_core.proofs.PartClaims.{EndParts, StageParts}
 use Rattle.query_core.proofs.ReadLeaves.{cuts_of, flags_of}
-use Rattle.query_core.proofs.ResolvedZones.{zoned_first}
+use Rattle.query_traces.proofs.ResolvedZones.{zoned_first}
 use Rattle.query_core.proofs.SessionParts.{Keeps, StepTells, TurnTells}
-use Rattle.query_core.proofs.Spans.{ResolvedSo, Tells, look_at, up_to}
+use Rattle.query_traces.proofs.Spans.{ResolvedSo, Tells, look_at, up_to}
 use Rattle.query_core.proofs.TraceAnswers.{read_rightly, trace_fresh, trace_of_histories, unmet_rows}
 use Rattle.query_core.proofs.TraceClaims as claim
 use Rattle.query_core.proofs.TraceClaims.{Anybody, Nobody}

@@ -11,24 +11,24 @@ use Rattle.mon_value.specs.declared.positions.Range.{Range}
 use Rattle.mon_value.specs.declared.positions.Slot.{Slot}
 use Rattle.query_core.proofs.OrderLemmas.{chosen_whole, leaf_visited, none_left, one_on, resolves_all, resolves_next}
 use Rattle.query_core.proofs.OrderLemmas.{resolves_none, round_begins, words_next, words_none, zones_last}
-use Rattle.query_core.specs.Rounds.{leaf_at, range_at, Round, is_to_visit, resolution, round_of, with_slot}
-use Rattle.query_core.specs.Rounds.{QuerySetting}
+use Rattle.query_traces.specs.Rounds.{leaf_at, range_at, Round, is_to_visit, resolution, round_of, with_slot}
+use Rattle.query_traces.specs.Rounds.{QuerySetting}
 use Rattle.query_core.specs.Courses.{with_found}
-use Rattle.query_core.specs.Loadings.{is_whole, next_bucket, with_word}
+use Rattle.query_traces.specs.Loadings.{is_whole, next_bucket, with_word}
 use Rattle.plan_split.specs.Meeting.{let_in}
 use Rattle.query_core.specs.Orders.{ComeInOrder, ComeWholeInOrder, IsRoundInOrder, IsZoneInOrder, ZoneCourse}
 use Rattle.query_core.specs.Orders.{areas_of_zones, chosen_areas, entered_areas, query_events, resolve_events}
 use Rattle.query_core.specs.Program as spec
-use Rattle.query_core.specs.Visits as visit
-use Rattle.query_core.specs.Visits.{Visits, first_left}
-use Rattle.query_core.specs.declared.answers.Answer.{Answer}
-use Rattle.query_core.specs.declared.answers.RoundFault.{RoundFault}
-use Rattle.query_core.specs.declared.areas.Area.{Area}
-use Rattle.query_core.specs.declared.asks.Ask.{Ask}
-use Rattle.query_core.specs.declared.asks.Ask.TheVariants as ask
-use Rattle.query_core.specs.declared.asks.Seen.{Seen}
+use Rattle.query_traces.specs.Visits as visit
+use Rattle.query_traces.specs.Visits.{Visits, first_left}
+use Rattle.query_traces.specs.declared.answers.Answer.{Answer}
+use Rattle.query_traces.specs.declared.answers.RoundFault.{RoundFault}
+use Rattle.query_traces.specs.declared.areas.Area.{Area}
+use Rattle.query_traces.specs.declared.asks.Ask.{Ask}
+use Rattle.query_traces.specs.declared.asks.Ask.TheVariants as ask
+use Rattle.query_traces.specs.declared.asks.Seen.{Seen}
 use Rattle.query_core.specs.declared.courses.Course.{Course}
-use Rattle.query_core.specs.declared.loadings.Loading.{Loading}
+use Rattle.query_traces.specs.declared.loadings.Loading.{Loading}
 use Rattle.query_core.specs.declared.stages.Stage.{Stage}
 use Rattle.query_core.specs.declared.stages.Stage.TheVariants as at
 use Rattle.query_core.specs.declared.stages.Step.{Step}

@@ -20,15 +20,14 @@ use Rattle.mon_value.specs.declared.positions.Range.{Range}
 use Rattle.mon_value.specs.declared.rows.Row.{Row}
 use Rattle.typed_rows.proofs.JoinedRows.{all-map}
 use Rattle.typed_trees.specs.Levels.{sent_amount}
-use Rattle.query_core.specs.declared.answers.Resolved.{Resolved}
-use Rattle.query_core.specs.declared.areas.Area.{Area}
-use Rattle.query_core.specs.declared.asks.Seen.{Seen}
+use Rattle.query_traces.specs.declared.answers.Resolved.{Resolved}
+use Rattle.query_traces.specs.declared.areas.Area.{Area}
+use Rattle.query_traces.specs.declared.asks.Seen.{Seen}
 use Rattle.query_core.specs.declared.courses.Course.{Course}
-use Rattle.query_core.specs.declared.looks.Look.{Look}
-use Rattle.query_core.specs.Rounds.{area_of, unread_look, slots_on, QuerySetting}
+use Rattle.query_traces.specs.declared.looks.Look.{Look}
+use Rattle.query_traces.specs.Rounds.{area_of, unread_look, slots_on, QuerySetting, typed_of}
 use Rattle.query_core.specs.Courses.{cuts_seen, firsts_seen}
-use Rattle.query_core.specs.Mixtures.{typed_of}
-use Rattle.query_core.specs.Sessions.{IsSeenSo}
+use Rattle.query_traces.specs.TrueAnswers.{IsSeenSo}
 use Rattle.mon_meaning.specs.ReadableSlots.{slot_rows}
 use Rattle.mon_topo.proofs.SizeLemmas.{parts_so_far}
 use Rattle.query_core.proofs.DividedRows.{all_both}

@@ -13,16 +13,15 @@ use Rattle.mon_value.specs.declared.positions.Leaf.{Leaf}
 use Rattle.mon_value.specs.declared.rows.Row.{Row}
 use Rattle.mon_fold.specs.declared.answers.LeafAnswer.{LeafAnswer}
 use Rattle.typed_trees.specs.Levels.{sent_amount}
-use Rattle.query_core.specs.Askings.{IsAskedOf}
-use Rattle.query_core.specs.declared.answers.Resolved.{Resolved}
-use Rattle.query_core.specs.declared.answers.Trace.{Trace}
-use Rattle.query_core.specs.declared.areas.Area.{Area}
+use Rattle.query_traces.specs.Askings.{IsAskedOf}
+use Rattle.query_traces.specs.declared.answers.Resolved.{Resolved}
+use Rattle.query_traces.specs.declared.answers.Trace.{Trace}
+use Rattle.query_traces.specs.declared.areas.Area.{Area}
 use Rattle.query_core.specs.declared.courses.Course.{Course}
-use Rattle.query_core.specs.declared.looks.Look.{Look}
-use Rattle.query_core.specs.Rounds.{area_of, unread_look, QuerySetting}
+use Rattle.query_traces.specs.declared.looks.Look.{Look}
+use Rattle.query_traces.specs.Rounds.{area_of, unread_look, QuerySetting, typed_of}
 use Rattle.query_core.specs.Courses.{with_zone_behind, trace_of}
-use Rattle.query_core.specs.Mixtures.{typed_of}
-use Rattle.query_core.specs.Traces.{rows_on, sent_by, sent_if, was_read}
+use Rattle.query_traces.specs.Traces.{rows_on, sent_by, sent_if, was_read}
 use Rattle.query_core.proofs.DividedRows.{all_both}
 use Rattle.query_core.proofs.MixedParts.{stand_before}
 use Rattle.query_core.proofs.PartClaims.{CourseIn, CourseThrough}
@@ -34,7 +33,7 @@ use Rattle.query_core.proofs.StoppedTraces.{before_so, ranges_of, stands_so}
 use Rattle.query_core.proofs.ThroughZones.{none_first}
 use Rattle.query_core.proofs.WholeTraces.{AllStand, first_stands, others_stand, ranges_all, stand}
 use Rattle.query_core.proofs.ZoneRows.{AllZoned, Stands, get_back, rows_on_each}
-use Rattle.query_core.proofs.ZoneFacts.{leaves_next}
+use Rattle.query_traces.proofs.ZoneFacts.{leaves_next}
 use Rattle.mon_value.proofs.PlainLemmas.{all_append, get_or-front}
 
 abbrev sents_of : List Look → List ℕ

@@ -17,28 +17,30 @@ use Rattle.query_core.proofs.PartClaims.{StageParts, VisitSo}
 use Rattle.query_core.proofs.ReadLeaves.{IsUnread, SendsNothing}
 use Rattle.query_core.proofs.SessionParts.{Keeps, step_parts}
 use Rattle.query_core.proofs.VisitParts.{looks_at}
-use Rattle.query_core.specs.Rounds.{areas_of, read_at, unread_look, Round, next_range, round_of, with_slot}
-use Rattle.query_core.specs.Rounds.{QuerySetting}
-use Rattle.query_core.specs.Courses.{course_of, cuts_seen, found_down, is_entered, left, with_found}
+use Rattle.query_traces.specs.Rounds.{areas_of, read_at, unread_look, Round, next_range, round_of, with_slot}
+use Rattle.query_traces.specs.Rounds.{QuerySetting}
+use Rattle.query_core.specs.Courses.{course_of, cuts_seen, is_entered, left, with_found}
+use Rattle.query_traces.specs.Founds.{found_down}
 use Rattle.query_core.specs.Courses.{with_next_zone, with_zone_answer}
-use Rattle.query_core.specs.Loadings.{is_whole, no_word, with_word}
+use Rattle.query_traces.specs.Loadings.{is_whole, no_word, with_word}
 use Rattle.query_core.specs.Machine.{Query, slots_at}
 use Rattle.query_core.specs.Mixtures.{Settles, TurnSettles, root_stage, zone_turn}
 use Rattle.query_core.specs.Program as spec
 use Rattle.query_core.specs.Program.{ask_of, let_some_in, next_zone}
 use Rattle.query_core.specs.SentTold.{answer_sent, sent_told}
 use Rattle.query_core.specs.Sessions as session
+use Rattle.query_traces.specs.TrueAnswers as truth
 use Rattle.mon_topo.specs.Views.{IsSound, View}
-use Rattle.query_core.specs.Visits as visit
-use Rattle.query_core.specs.Visits.{Visits, next_leaf, with_look}
-use Rattle.query_core.specs.declared.answers.Answer.{Answer}
-use Rattle.query_core.specs.declared.answers.RoundFault.{RoundFault}
-use Rattle.query_core.specs.declared.areas.Area.{Area}
-use Rattle.query_core.specs.declared.asks.Seen.{Seen}
-use Rattle.query_core.specs.declared.asks.Told.{Told}
-use Rattle.query_core.specs.declared.asks.Told.TheVariants as told
+use Rattle.query_traces.specs.Visits as visit
+use Rattle.query_traces.specs.Visits.{Visits, next_leaf, with_look}
+use Rattle.query_traces.specs.declared.answers.Answer.{Answer}
+use Rattle.query_traces.specs.declared.answers.RoundFault.{RoundFault}
+use Rattle.query_traces.specs.declared.areas.Area.{Area}
+use Rattle.query_traces.specs.declared.asks.Seen.{Seen}
+use Rattle.query_traces.specs.declared.asks.Told.{Told}
+use Rattle.query_traces.specs.declared.asks.Told.TheVariants as told
 use Rattle.query_core.specs.declared.courses.Course.{Course}
-use Rattle.query_core.specs.declared.looks.Look.{Look}
+use Rattle.query_traces.specs.declared.looks.Look.{Look}
 use Rattle.query_core.specs.declared.stages.Stage.{Stage}
 use Rattle.query_core.specs.declared.stages.Stage.TheVariants as at
 use Rattle.query_core.specs.declared.stages.Step.{Step}
@@ -229,7 +231,7 @@ module _ (store : Setting) (setting : QuerySetting) (moment : ℤ) where
     where
       told_sent : (n : ℕ) (stage : Stage) (answer : Told) → StageParts store setting moment Tells before.seen stage
           → StageSent n stage
-          → session.IsTrueAnswer store setting moment before after avoided slots (ask_of setting stage) answer
+          → truth.IsTrueAnswer store setting moment before after avoided slots (ask_of setting stage) answer
           → StepSent (n + answer_sent answer) (spec.after setting stage answer)
       told_sent n (at.Rooting loading) (told.Word word seen) so h is =
           stays_sent n (spec.told_word setting (at.Rooting loading) word seen)

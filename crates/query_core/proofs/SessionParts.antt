@@ -15,11 +15,11 @@ use Rattle.query_core.specs.declared.stages.Step.{Step}
 use Rattle.query_core.specs.declared.stages.Step.TheVariants as step
 use Rattle.query_core.specs.declared.stages.Turn.{Turn}
 use Rattle.query_core.specs.declared.stages.Turn.TheVariants as turn
-use Rattle.query_core.specs.Rounds.{areas_of, QuerySetting}
+use Rattle.query_traces.specs.Rounds.{areas_of, QuerySetting, typed_of}
 use Rattle.query_core.specs.Courses.{with_zone_answer}
 use Rattle.query_core.specs.Machine.{Query}
 use Rattle.mon_value.specs.declared.rows.Row.{Row}
-use Rattle.query_core.specs.Mixtures.{RootMixes, Settles, TurnSettles, ZoneMixes, root_stage, typed_of, zone_turn}
+use Rattle.query_core.specs.Mixtures.{RootMixes, Settles, TurnSettles, ZoneMixes, root_stage, zone_turn}
 use Rattle.query_core.specs.Program as spec
 use Rattle.query_core.specs.Sessions as session
 use Rattle.mon_topo.specs.Views.{IsSound, View}

@@ -1,24 +1,22 @@
--- Zones that are begun one after another, and visits.
-use Rattle.std.proofs.Common.{◌≡◌, ℕ, zero, suc, ◌+◌, ◌≤◌, Bool, true, List, [], ◌∷◌, cond, drop, length, refl, sym}
-use Rattle.std.proofs.Common.{ap, ◌∙◌, arith, None, slice_get, subst, Result, Ok, Err, IfOk}
-use Rattle.std.proofs.lemmas.List.{drop_all}
+-- Zones that are begun one after another, and where answers lead.
+use Rattle.std.proofs.Common.{◌≡◌, ℕ, Bool, true, List, [], ◌∷◌, cond, sym}
+use Rattle.std.proofs.Common.{ap, subst, Result, Ok, Err, IfOk}
 use Rattle.mon_value.specs.declared.positions.Leaf.{Leaf}
-use Rattle.query_core.specs.declared.areas.Area.{Area}
+use Rattle.query_traces.specs.declared.areas.Area.{Area}
 use Rattle.query_core.specs.declared.courses.Course.{Course}
-use Rattle.query_core.specs.declared.asks.Seen.{Seen}
-use Rattle.query_core.specs.declared.loadings.Loading.{Loading}
+use Rattle.query_traces.specs.declared.asks.Seen.{Seen}
+use Rattle.query_traces.specs.declared.loadings.Loading.{Loading}
 use Rattle.query_core.specs.declared.stages.Stage.{Stage}
 use Rattle.query_core.specs.declared.stages.Step.{Step}
 use Rattle.query_core.specs.declared.stages.Stage.TheVariants as at
 use Rattle.query_core.specs.declared.stages.Turn.TheVariants as turn
 use Rattle.query_core.specs.Courses.{with_next_zone, is_entered, left}
-use Rattle.query_core.specs.Loadings.{no_word, with_word}
+use Rattle.query_traces.specs.Loadings.{no_word, with_word}
 use Rattle.query_core.specs.Mixtures.{LeadsTo, MayBeTold, MayMix, Settles}
-use Rattle.query_core.specs.declared.asks.Told.{Told}
+use Rattle.query_traces.specs.declared.asks.Told.{Told}
 use Rattle.query_core.specs.Program.{after, loaded_again, next_zone}
-use Rattle.query_core.specs.Rounds.{has_leaf, Round, round_of, slots_on, QuerySetting}
+use Rattle.query_traces.specs.Rounds.{has_leaf, Round, round_of, slots_on, QuerySetting}
 use Rattle.query_core.specs.Machine.{slots_in}
-use Rattle.query_core.specs.Visits.{but_first, first_left}
 
 next_by : (course : Course) (area : Area) (areas : List Area) (enter : Bool) → is_entered course ≡ enter
     → next_zone (area ∷ areas) course
@@ -27,30 +25,6 @@ next_by : (course : Course) (area : Area) (areas : List Area) (enter : Bool) →
 next_by course area areas enter e =
     ap (λ b. cond b (turn.Goes (at.Entering (with_next_zone course) (round_of area) no_word))
     (next_zone areas (left (with_next_zone course) area course.seen))) e
-
--- ---- the next leaf of several
-
-pub leaf_next : (leaves : List Leaf) (i : ℕ) → first_left (drop i leaves) ≡ slice_get leaves i
-leaf_next [] zero = refl
-leaf_next [] (suc i) = refl
-leaf_next (leaf ∷ leaves) zero = refl
-leaf_next (leaf ∷ leaves) (suc i) = leaf_next leaves i
-
-pub leaves_left : (leaves : List Leaf) (i : ℕ) → but_first (drop i leaves) ≡ drop (i + 1) leaves
-leaves_left [] zero = refl
-leaves_left [] (suc i) = sym (drop_all (suc i + 1) [] (omega arith))
-leaves_left (leaf ∷ leaves) zero = refl
-leaves_left (leaf ∷ leaves) (suc i) =
-    let same : suc (i + 1) ≡ suc i + 1 = omega arith in
-    leaves_left leaves i ∙ ap (λ n. drop n (leaf ∷ leaves)) same
-
-pub none_left : (leaves : List Leaf) (i : ℕ) → length leaves ≤ i → but_first (drop i leaves) ≡ drop i leaves
-none_left leaves i done =
-    let none : drop i leaves ≡ [] = drop_all i leaves done in
-    ap but_first none ∙ sym none
-
-pub no_leaf_left : (leaves : List Leaf) (i : ℕ) → length leaves ≤ i → first_left (drop i leaves) ≡ None
-no_leaf_left leaves i done = ap first_left (drop_all i leaves done)
 
 -- ---- a word that is loaded again
 
@@ -80,5 +54,3 @@ settles_so setting stage answer step (Err why) is settles = record {}
 pub slots_here : (round : Round) (leaf : Leaf) → has_leaf round.area leaf ≡ true
     → slots_in round leaf ≡ slots_on leaf round.resolved
 slots_here round leaf has = ap (λ b. cond b (slots_on leaf round.resolved) []) has
-
-pub ruleset going_on = (leaf_next, leaves_left, none_left, no_leaf_left)

@@ -22,16 +22,15 @@ use Rattle.mon_value.specs.declared.rows.Row.{Row}
 use Rattle.typed_rows.proofs.JoinedRows.{all-map}
 use Rattle.typed_trees.specs.Meaning.{load}
 use Rattle.mon_topo.specs.Settings.{Setting}
-use Rattle.query_core.specs.Askings.{IsAskedOf}
-use Rattle.query_core.specs.declared.answers.Resolved.{Resolved}
-use Rattle.query_core.specs.declared.answers.Trace.{Trace}
-use Rattle.query_core.specs.declared.areas.Area.{Area}
+use Rattle.query_traces.specs.Askings.{IsAskedOf}
+use Rattle.query_traces.specs.declared.answers.Resolved.{Resolved}
+use Rattle.query_traces.specs.declared.answers.Trace.{Trace}
+use Rattle.query_traces.specs.declared.areas.Area.{Area}
 use Rattle.query_core.specs.declared.courses.Course.{Course}
-use Rattle.query_core.specs.declared.looks.Look.{Look}
-use Rattle.query_core.specs.Rounds.{area_of, leaf_at, unread_look, slots_on, QuerySetting}
+use Rattle.query_traces.specs.declared.looks.Look.{Look}
+use Rattle.query_traces.specs.Rounds.{area_of, leaf_at, unread_look, slots_on, QuerySetting, typed_of}
 use Rattle.query_core.specs.Courses.{with_zone_behind, trace_of}
-use Rattle.query_core.specs.Mixtures.{typed_of}
-use Rattle.query_core.specs.Traces.{source_of}
+use Rattle.query_traces.specs.Traces.{source_of}
 use Rattle.mon_meaning.specs.ReadableSlots.{slot_rows}
 use Rattle.query_core.proofs.ChosenLeaves.{ChosenAscend, among_append, among_behind, among_zones, front_among}
 use Rattle.query_core.proofs.ChosenLeaves.{chosen_append, chosen_leaves, chosen_once, zone_ascends, zones_ascend}
@@ -42,7 +41,7 @@ use Rattle.query_core.proofs.ReadLeaves.{Ascend, LeafRead, among_from, cuts_of, 
 use Rattle.query_core.proofs.ReadLeaves.{leaves_read, read_among, reads_from}
 use Rattle.query_core.proofs.SegmentFacts.{IsWhole, PartsSo, RangesFrom}
 use Rattle.query_core.proofs.TraceRows.{IsLeftOut, is_divided, over_load, own_rows}
-use Rattle.query_core.proofs.ZoneFacts.{leaves_next}
+use Rattle.query_traces.proofs.ZoneFacts.{leaves_next}
 use Rattle.query_core.proofs.ThroughZones.{IsThrough, closed_so, none_first, through_so, trace_ranges}
 use Rattle.query_core.proofs.UnreadLeaves.{TellsOf, left_out_by}
 use Rattle.query_core.proofs.ZoneRows.{AllZoned, IsZoned, Stands, cut_there, get_back, leaf_rows, leaves_below}

@@ -6,11 +6,11 @@ use Rattle.mon_topo.specs.Settings.{Setting}
 use Rattle.mon_topo.specs.Zones.{first_leaf}
 use Rattle.mon_value.specs.declared.positions.Leaf.{Leaf}
 use Rattle.mon_value.specs.declared.positions.RangeSlot.{RangeSlot}
-use Rattle.query_core.specs.AskedPlaces.{IsThere}
-use Rattle.query_core.specs.Askings.{IsAskedOf}
-use Rattle.query_core.specs.Rounds.{has_leaf, Round, QuerySetting}
-use Rattle.query_core.specs.declared.asks.Ask.TheVariants as ask
-use Rattle.query_core.specs.declared.asks.Told.{Told}
+use Rattle.query_traces.specs.AskedPlaces.{IsThere}
+use Rattle.query_traces.specs.Askings.{IsAskedOf}
+use Rattle.query_traces.specs.Rounds.{has_leaf, Round, QuerySetting, typed_of}
+use Rattle.query_traces.specs.declared.asks.Ask.TheVariants as ask
+use Rattle.query_traces.specs.declared.asks.Told.{Told}
 use Rattle.query_core.specs.declared.courses.Course.{Course}
 use Rattle.query_core.specs.declared.stages.Stage.{Stage}
 use Rattle.query_core.specs.declared.stages.Stage.TheVariants as at
@@ -20,20 +20,21 @@ use Rattle.query_core.specs.declared.stages.Turn.{Turn}
 use Rattle.query_core.specs.declared.stages.Turn.TheVariants as turn
 use Rattle.query_core.specs.Courses.{trace_of}
 use Rattle.query_core.specs.Machine.{Query, avoided_after, new_query, slots_at, slots_in, slots_visited}
-use Rattle.query_core.specs.Mixtures.{HasParts, MayBeTold, MayMix, MayMixRoot, typed_of}
+use Rattle.query_core.specs.Mixtures.{HasParts, MayBeTold, MayMix, MayMixRoot}
 use Rattle.query_core.specs.Program as spec
 use Rattle.query_core.specs.Program.{ask_of}
 use Rattle.mon_meaning.specs.ReadableSlots.{CanBeRead}
 use Rattle.query_core.specs.Sessions as session
+use Rattle.query_traces.specs.TrueAnswers as truth
 use Rattle.mon_topo.specs.Views.{IsSound, IsViewWithin, View}
-use Rattle.query_core.specs.Traces.{IsBetween}
-use Rattle.query_core.specs.Visits.{Visits}
+use Rattle.query_traces.specs.Traces.{IsBetween}
+use Rattle.query_traces.specs.Visits.{Visits}
 use Rattle.query_core.proofs.MixedParts.{zone_mixes}
 use Rattle.query_core.proofs.AnswerParts.{answer_parts}
 use Rattle.query_core.proofs.PartClaims.{StageParts, StepParts, TurnParts}
 use Rattle.query_core.proofs.PlaceFacts.{is_there}
 use Rattle.query_core.proofs.RightAnswers.{claim_now, listed, parts_now, trace_zoned}
-use Rattle.query_core.proofs.RoundLemmas.{has_at}
+use Rattle.query_traces.proofs.RoundLemmas.{has_at}
 use Rattle.query_core.proofs.SessionEnds.{seen_since, sound_then}
 use Rattle.query_core.proofs.StageLemmas.{slots_here}
 use Rattle.query_core.proofs.TraceAnswers.{unmet_rows}
@@ -101,7 +102,7 @@ module _ (store : Setting) (setting : QuerySetting) (moment : ℤ) (asked : IsAs
         parts so.parts_so)
 
     pub may_be_told : (answer : Told)
-        → session.IsTrueAnswer store setting moment now after last.avoided (slots_at last) (ask_of setting last.stage)
+        → truth.IsTrueAnswer store setting moment now after last.avoided (slots_at last) (ask_of setting last.stage)
         answer
         → MayBeTold setting last.stage answer
     may_be_told answer true_then = record {

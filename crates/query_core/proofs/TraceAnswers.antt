@@ -31,23 +31,21 @@ use Rattle.typed_trees.specs.Levels.{sent_amount}
 use Rattle.typed_trees.specs.Plans.{fetches}
 use Rattle.plan_split.proofs.FitLemmas.{fields_of_fitting}
 use Rattle.plan_split.specs.Meeting.{AllHoldWhereMet, is_plan_met}
-use Rattle.query_core.proofs.HintFacts.{none_wanted}
-use Rattle.query_core.proofs.Spans.{ResolvedSo, StandsAt, look_at, range_of, up_to}
+use Rattle.query_traces.proofs.HintFacts.{none_wanted}
+use Rattle.query_traces.proofs.Spans.{ResolvedSo, StandsAt, look_at, range_of, up_to}
 use Rattle.query_core.proofs.TraceClaims as claim
-use Rattle.query_core.proofs.ZoneFacts.{all_leaves, all_ranges}
+use Rattle.query_traces.proofs.ZoneFacts.{all_leaves, all_ranges}
 use Rattle.mon_value.proofs.PlainLemmas.{in_flat_map}
-use Rattle.query_core.specs.Askings.{IsAskedOf}
-use Rattle.query_core.specs.Courses.{IsFoundThen}
-use Rattle.query_core.specs.Rounds.{unread_look, slots_on, QuerySetting}
-use Rattle.query_core.specs.Mixtures.{typed_of}
+use Rattle.query_traces.specs.Askings.{IsAskedOf}
+use Rattle.query_traces.specs.Founds.{IsFoundThen}
+use Rattle.query_traces.specs.Rounds.{unread_look, slots_on, QuerySetting, typed_of}
 use Rattle.mon_topo.specs.Views.{View}
-use Rattle.query_core.specs.Traces.{IsFirstServing, IsFresh, IsReadRightly, IsTraceOf, cut_of, is_wanted, looked_at}
-use Rattle.query_core.specs.Traces.{resolved_rows}
-use Rattle.query_core.specs.Traces.{rows_on, sent_by, sent_if, source_of, was_read}
+use Rattle.query_traces.specs.Traces.{IsFirstServing, IsFresh, IsReadRightly, IsTraceOf, cut_of, is_wanted, looked_at}
+use Rattle.query_traces.specs.Traces.{resolved_rows, rows_on, sent_by, sent_if, source_of, was_read}
 use Rattle.mon_meaning.specs.ReadableSlots.{slot_rows}
-use Rattle.query_core.specs.declared.answers.Resolved.{Resolved}
-use Rattle.query_core.specs.declared.answers.Trace.{Trace}
-use Rattle.query_core.specs.declared.looks.Look.{Look}
+use Rattle.query_traces.specs.declared.answers.Resolved.{Resolved}
+use Rattle.query_traces.specs.declared.answers.Trace.{Trace}
+use Rattle.query_traces.specs.declared.looks.Look.{Look}
 
 -- ---- what is wanted has a formula that holds
 

@@ -16,26 +16,25 @@ use Rattle.mon_value.specs.declared.positions.FoundDown.{FoundDown}
 use Rattle.mon_value.specs.declared.positions.Leaf.{Leaf}
 use Rattle.mon_value.specs.declared.positions.Range.{Range}
 use Rattle.mon_value.specs.declared.rows.Row.{Row}
-use Rattle.query_core.proofs.FindingLemmas.{KeepsFounds, founds_on, no_replica_on}
-use Rattle.query_core.proofs.HintFacts.{AreKnown}
-use Rattle.query_core.proofs.Spans.{ResolvedSo, SpanSo, StandsIn, range_of, resolved_on, span_on, stands_on}
-use Rattle.query_core.specs.Rounds.{area_of, range_at, Round, QuerySetting}
-use Rattle.query_core.specs.Courses.{HasNoReplica}
-use Rattle.query_core.specs.Mixtures.{typed_of}
+use Rattle.query_traces.proofs.FindingLemmas.{KeepsFounds, founds_on, no_replica_on}
+use Rattle.query_traces.proofs.HintFacts.{AreKnown}
+use Rattle.query_traces.proofs.Spans.{ResolvedSo, SpanSo, StandsIn, range_of, resolved_on, span_on, stands_on}
+use Rattle.query_traces.specs.Rounds.{area_of, range_at, Round, QuerySetting, typed_of}
+use Rattle.query_traces.specs.Founds.{HasNoReplica}
 use Rattle.plan_split.specs.Meeting.{flag_at, is_plan_met}
-use Rattle.query_core.specs.Sessions.{IsSeenSo}
+use Rattle.query_traces.specs.TrueAnswers.{IsSeenSo}
 use Rattle.mon_topo.specs.Views.{IsSound, IsViewWithin, View}
-use Rattle.query_core.specs.Traces.{is_wanted}
-use Rattle.query_core.specs.Visits.{Visits}
-use Rattle.query_core.specs.declared.answers.Answer.{Answer}
-use Rattle.query_core.specs.declared.answers.Resolved.{Resolved}
-use Rattle.query_core.specs.declared.answers.RoundFault.{RoundFault}
-use Rattle.query_core.specs.declared.answers.RoundFault.TheVariants as fault
-use Rattle.query_core.specs.declared.answers.Trace.{Trace}
-use Rattle.query_core.specs.declared.asks.Seen.{Seen}
+use Rattle.query_traces.specs.Traces.{is_wanted}
+use Rattle.query_traces.specs.Visits.{Visits}
+use Rattle.query_traces.specs.declared.answers.Answer.{Answer}
+use Rattle.query_traces.specs.declared.answers.Resolved.{Resolved}
+use Rattle.query_traces.specs.declared.answers.RoundFault.{RoundFault}
+use Rattle.query_traces.specs.declared.answers.RoundFault.TheVariants as fault
+use Rattle.query_traces.specs.declared.answers.Trace.{Trace}
+use Rattle.query_traces.specs.declared.asks.Seen.{Seen}
 use Rattle.query_core.specs.declared.courses.Course.{Course}
-use Rattle.query_core.specs.declared.loadings.Loading.{Loading}
-use Rattle.query_core.specs.declared.looks.Look.{Look}
+use Rattle.query_traces.specs.declared.loadings.Loading.{Loading}
+use Rattle.query_traces.specs.declared.looks.Look.{Look}
 use Rattle.query_core.specs.declared.stages.Stage.{Stage}
 use Rattle.query_core.specs.declared.stages.Stage.TheVariants as at
 use Rattle.query_core.specs.declared.stages.Step.{Step}

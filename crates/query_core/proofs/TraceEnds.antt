@@ -6,14 +6,13 @@ use Rattle.mon_value.specs.declared.histories.Histories.{Histories}
 use Rattle.mon_topo.specs.HeldHistories.{AreHeld}
 use Rattle.typed_trees.specs.Meaning.{load}
 use Rattle.mon_topo.specs.Settings.{Setting}
-use Rattle.query_core.specs.Askings.{IsAskedOf}
-use Rattle.query_core.specs.declared.answers.Answer.{Answer}
-use Rattle.query_core.specs.declared.answers.Trace.{Trace}
+use Rattle.query_traces.specs.Askings.{IsAskedOf}
+use Rattle.query_traces.specs.declared.answers.Answer.{Answer}
+use Rattle.query_traces.specs.declared.answers.Trace.{Trace}
 use Rattle.query_core.specs.declared.courses.Course.{Course}
 use Rattle.query_core.specs.Courses.{with_zone_behind, trace_of}
-use Rattle.query_core.specs.Mixtures.{typed_of}
-use Rattle.query_core.specs.Rounds.{QuerySetting}
-use Rattle.query_core.specs.Traces.{source_of}
+use Rattle.query_traces.specs.Rounds.{typed_of, QuerySetting}
+use Rattle.query_traces.specs.Traces.{source_of}
 use Rattle.query_core.proofs.PartClaims.{AnsweredSo, LeafOver, OverSo, RootOver, ZoneOver}
 use Rattle.query_core.proofs.SentRows.{AllSent, stopped_sends, whole_sends}
 use Rattle.query_core.proofs.StoppedTraces.{leaf_over, zone_over}

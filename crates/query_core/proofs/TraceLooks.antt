@@ -20,20 +20,20 @@ use Rattle.mon_topo.specs.Zones.{first_leaf, first_range, ranges_in}
 use Rattle.mon_value.specs.LeafHistories.{leaf_rows}
 use Rattle.mon_value.specs.declared.histories.Entry.{Entry}
 use Rattle.mon_value.specs.declared.positions.Leaf.{Leaf}
-use Rattle.query_core.proofs.Spans.{IsLookedAt, ResolvedSo, StandsAt, StandsIn, Tells, look_at, span_on, stands_on}
-use Rattle.query_core.proofs.Spans.{up_to}
-use Rattle.query_core.proofs.FindingLemmas.{KeepsFounds}
+use Rattle.query_traces.proofs.Spans.{IsLookedAt, ResolvedSo, StandsAt, StandsIn, Tells, look_at, span_on, stands_on}
+use Rattle.query_traces.proofs.Spans.{up_to}
+use Rattle.query_traces.proofs.FindingLemmas.{KeepsFounds}
 use Rattle.query_core.proofs.TraceClaims as claim
 use Rattle.query_core.proofs.TraceVisits.{fronts_begin}
 use Rattle.query_core.proofs.TraceWords.{rest_seen}
 use Rattle.query_core.specs.Courses.{all_looks, trace_of}
-use Rattle.query_core.specs.Rounds.{unread_look, slots_on, QuerySetting}
+use Rattle.query_traces.specs.Rounds.{unread_look, slots_on, QuerySetting}
 use Rattle.mon_topo.specs.Views.{IsViewWithin, View}
-use Rattle.query_core.specs.Traces.{IsBetween}
-use Rattle.query_core.specs.Visits.{Visits, with_look}
-use Rattle.query_core.specs.declared.answers.Resolved.{Resolved}
+use Rattle.query_traces.specs.Traces.{IsBetween}
+use Rattle.query_traces.specs.Visits.{Visits, with_look}
+use Rattle.query_traces.specs.declared.answers.Resolved.{Resolved}
 use Rattle.query_core.specs.declared.courses.Course.{Course}
-use Rattle.query_core.specs.declared.looks.Look.{Look}
+use Rattle.query_traces.specs.declared.looks.Look.{Look}
 
 -- ---- a look at a leaf
 

@@ -36,13 +36,12 @@ use Rattle.typed_trees.specs.Meaning.{load, meets, meaning}
 use Rattle.typed_trees.specs.Nodes.{TypedTree}
 use Rattle.typed_trees.specs.Plans.{fetches}
 use Rattle.typed_trees.specs.Soundness.{IsTyped}
-use Rattle.query_core.specs.Askings.{IsAskedOf}
-use Rattle.query_core.specs.declared.answers.Resolved.{Resolved}
-use Rattle.query_core.specs.declared.answers.Trace.{Trace}
-use Rattle.query_core.specs.Mixtures.{typed_of}
-use Rattle.query_core.specs.Rounds.{slot_of, slots_on, QuerySetting}
-use Rattle.query_core.specs.Traces as trace
-use Rattle.query_core.specs.Traces.{is_wanted, looked_at, rows_on, source_of}
+use Rattle.query_traces.specs.Askings.{IsAskedOf}
+use Rattle.query_traces.specs.declared.answers.Resolved.{Resolved}
+use Rattle.query_traces.specs.declared.answers.Trace.{Trace}
+use Rattle.query_traces.specs.Rounds.{typed_of, slot_of, slots_on, QuerySetting}
+use Rattle.query_traces.specs.Traces as trace
+use Rattle.query_traces.specs.Traces.{is_wanted, looked_at, rows_on, source_of}
 use Rattle.mon_meaning.specs.ReadableSlots.{slot_rows}
 use Rattle.query_core.proofs.DividedRows.{AreLeavesOf, AreOtherLeaves, AreOthers, AreResolvedIn, IsOther, SomeLeaves}
 use Rattle.query_core.proofs.DividedRows.{all_leaves, all_leaves_apart, divided_points, divided_rows}
@@ -50,8 +49,8 @@ use Rattle.query_core.proofs.DividedRows.{fit_in_all, rows_at, zones_apart}
 use Rattle.mon_meaning.proofs.MeaningOrderLemmas.{load_in_order, meaning_in_order}
 use Rattle.query_core.proofs.SegmentFacts.{RangesFrom}
 use Rattle.mon_meaning.proofs.SeriesOrderLemmas.{series_in_order}
-use Rattle.query_core.proofs.WantedRows.{filter_alike, filter_empty, load_of_wanted, meaning_of_wanted, wanted}
-use Rattle.query_core.proofs.LeafLemmas.{same_leaves}
+use Rattle.query_traces.proofs.WantedRows.{filter_alike, filter_empty, load_of_wanted, meaning_of_wanted, wanted}
+use Rattle.query_traces.proofs.LeafLemmas.{same_leaves}
 use Rattle.mon_value.proofs.PlainLemmas.{all_flat}
 
 -- ---- ranges in their order stand once

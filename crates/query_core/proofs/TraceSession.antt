@@ -29,37 +29,38 @@ use Rattle.mon_value.specs.declared.positions.Leaf.{Leaf}
 use Rattle.mon_value.specs.declared.positions.RangeSlot.{RangeSlot}
 use Rattle.mon_value.specs.declared.positions.Zone.{Zone}
 use Rattle.mon_value.specs.declared.tables.Table.{Table}
-use Rattle.query_core.proofs.SeenSpans.{tells_unmet}
-use Rattle.query_core.proofs.Spans.{Tells, span_append, span_skips, up_to}
+use Rattle.query_traces.proofs.SeenSpans.{tells_unmet}
+use Rattle.query_traces.proofs.Spans.{Tells, span_append, span_skips, up_to}
 use Rattle.query_core.proofs.TraceClaims as claim
 use Rattle.query_core.proofs.TraceClaims.{Anybody, Anyhow, Nobody}
 use Rattle.query_core.proofs.TraceLooks.{look_so, looked_is, trace_so}
 use Rattle.query_core.proofs.TraceSteps.{below_more, left_so, next_so, resolving_so, visiting_so}
 use Rattle.query_core.proofs.TraceVisits.{down_so, none_so, slot_so, visits_begun}
 use Rattle.query_core.proofs.TraceWords.{loading_from, root_shut, word_loaded, zone_shut}
-use Rattle.query_core.proofs.ZoneFacts.{leaves_next, zone_of_leaf_at}
-use Rattle.query_core.specs.Rounds.{area_of, areas_of, read_at, unread_look, Round, slots_on, QuerySetting}
+use Rattle.query_traces.proofs.ZoneFacts.{leaves_next, zone_of_leaf_at}
+use Rattle.query_traces.specs.Rounds.{area_of, areas_of, read_at, unread_look, Round, slots_on, QuerySetting}
 use Rattle.query_core.specs.Courses.{course_of, with_zone_answer, left, trace_of}
-use Rattle.query_core.specs.Loadings.{is_whole, with_word}
+use Rattle.query_traces.specs.Loadings.{is_whole, with_word}
 use Rattle.query_core.specs.Machine.{Query, avoided_after, new_query, slots_at}
 use Rattle.query_core.specs.Mixtures.{Settles, TurnSettles, root_stage, zone_turn}
 use Rattle.plan_split.specs.Meeting.{flag_at, let_in}
 use Rattle.query_core.specs.Program as spec
 use Rattle.query_core.specs.Program.{ask_of, begin_visits, let_some_in, next_zone, resolving, visiting, with_zone}
 use Rattle.query_core.specs.Sessions as session
-use Rattle.query_core.specs.Sessions.{IsFoundSo, IsZoneWord}
+use Rattle.query_traces.specs.TrueAnswers as truth
+use Rattle.query_traces.specs.TrueAnswers.{IsFoundSo, IsZoneWord}
 use Rattle.mon_topo.specs.Views.{IsSound, IsViewWithin, View}
-use Rattle.query_core.specs.Traces.{IsBetween}
-use Rattle.query_core.specs.Visits as visit
-use Rattle.query_core.specs.Visits.{Visits, with_look}
-use Rattle.query_core.specs.declared.answers.RoundFault.TheVariants as fault
-use Rattle.query_core.specs.declared.areas.Area.{Area}
-use Rattle.query_core.specs.declared.asks.Seen.{Seen}
-use Rattle.query_core.specs.declared.asks.Told.{Told}
-use Rattle.query_core.specs.declared.asks.Told.TheVariants as told
+use Rattle.query_traces.specs.Traces.{IsBetween}
+use Rattle.query_traces.specs.Visits as visit
+use Rattle.query_traces.specs.Visits.{Visits, with_look}
+use Rattle.query_traces.specs.declared.answers.RoundFault.TheVariants as fault
+use Rattle.query_traces.specs.declared.areas.Area.{Area}
+use Rattle.query_traces.specs.declared.asks.Seen.{Seen}
+use Rattle.query_traces.specs.declared.asks.Told.{Told}
+use Rattle.query_traces.specs.declared.asks.Told.TheVariants as told
 use Rattle.query_core.specs.declared.courses.Course.{Course}
-use Rattle.query_core.specs.declared.loadings.Loading.{Loading}
-use Rattle.query_core.specs.declared.looks.Look.{Look}
+use Rattle.query_traces.specs.declared.loadings.Loading.{Loading}
+use Rattle.query_traces.specs.declared.looks.Look.{Look}
 use Rattle.query_core.specs.declared.stages.Stage.{Stage}
 use Rattle.query_core.specs.declared.stages.Stage.TheVariants as at
 use Rattle.query_core.specs.declared.stages.Step.{Step}
@@ -322,7 +323,7 @@ module _ (store : Setting) (setting : QuerySetting) (moment : ℤ) (at_entry : H
         (tells.known leaf (zone_of_leaf_at zs k child there lt ∙ ap Some (sym zone)) known)
 
     pub word_so : (slots : List RangeSlot) (stage : Stage) (word : ℕ) (seen : Seen) → StageSo before avoided stage
-        → session.IsTrueAnswer store setting moment before after avoided slots (ask_of setting stage)
+        → truth.IsTrueAnswer store setting moment before after avoided slots (ask_of setting stage)
         (told.Word word seen)
         → StepSo after avoided (spec.told_word setting stage word seen)
     word_so slots (at.Rooting loading) word seen is true_then =
@@ -415,7 +416,7 @@ module _ (store : Setting) (setting : QuerySetting) (moment : ℤ) (at_entry : H
           (sym (take-append-drop cut (leaf_history after.seen leaf)))) there)
 
       unread_so : (cut : ℕ) → IsFoundSo before after leaf cut false
-          → session.is_met_at store setting moment after leaf cut ≡ false
+          → truth.is_met_at store setting moment after leaf cut ≡ false
           → StepSo after avoided (visiting course round (with_look visits leaf (unread_look cut)))
       unread_so cut found out =
           visiting_so store setting at_entry replicated unmet after avoided course round
@@ -427,7 +428,7 @@ module _ (store : Setting) (setting : QuerySetting) (moment : ℤ) (at_entry : H
           out))
 
       read_so : (cut : ℕ) (answer : LeafAnswer) → IsFoundSo before after leaf cut false
-          → session.is_met_at store setting moment after leaf cut ≡ true
+          → truth.is_met_at store setting moment after leaf cut ≡ true
           → StepSo after avoided
           (visiting course round (visit.with_leaf_answer (with_look visits leaf (read_at cut answer.sent))
           answer))
@@ -461,7 +462,7 @@ module _ (store : Setting) (setting : QuerySetting) (moment : ℤ) (at_entry : H
     -- ---- each answer
 
     pub answer_so : (slots : List RangeSlot) (stage : Stage) (answer : Told) → StageSo before avoided stage
-        → session.IsTrueAnswer store setting moment before after avoided slots (ask_of setting stage) answer
+        → truth.IsTrueAnswer store setting moment before after avoided slots (ask_of setting stage) answer
         → StepSo after (avoided_after avoided stage answer) (spec.after setting stage answer)
     answer_so slots stage (told.Word word seen) is true_then = word_so slots stage word seen is true_then
     answer_so slots (at.Resolving course round range) (told.Slot slot leaf) is true_then =

@@ -17,20 +17,20 @@ use Rattle.mon_topo.specs.declared.zones.ZoneSpec.{ZoneSpec}
 use Rattle.mon_value.specs.LeafHistories.{leaf_rows}
 use Rattle.mon_value.specs.declared.histories.Entry.{Entry}
 use Rattle.mon_value.specs.declared.positions.Leaf.{Leaf}
-use Rattle.query_core.proofs.Spans.{span_append, span_skips}
+use Rattle.query_traces.proofs.Spans.{span_append, span_skips}
 use Rattle.query_core.proofs.TraceClaims as claim
 use Rattle.query_core.proofs.TraceClaims.{Below, Nobody}
 use Rattle.query_core.proofs.TraceWords.{zone_seen}
-use Rattle.query_core.proofs.ZoneFacts.{areas_from, leaves_next}
-use Rattle.query_core.specs.Rounds.{area_of, areas_of, range_at, Round, round_of, QuerySetting}
+use Rattle.query_traces.proofs.ZoneFacts.{areas_from, leaves_next}
+use Rattle.query_traces.specs.Rounds.{area_of, areas_of, range_at, Round, round_of, QuerySetting}
 use Rattle.query_core.specs.Courses.{with_next_zone, is_entered, left}
-use Rattle.query_core.specs.Loadings.{no_word}
+use Rattle.query_traces.specs.Loadings.{no_word}
 use Rattle.plan_split.specs.Meeting.{flag_at}
 use Rattle.query_core.specs.Program.{next_zone, resolving, resolving_at, visiting, visiting_at, with_zone}
 use Rattle.mon_topo.specs.Views.{View}
-use Rattle.query_core.specs.Visits.{Visits, but_first, first_left, gone_on}
-use Rattle.query_core.specs.declared.areas.Area.{Area}
-use Rattle.query_core.specs.declared.asks.Seen.{Seen}
+use Rattle.query_traces.specs.Visits.{Visits, but_first, first_left, gone_on}
+use Rattle.query_traces.specs.declared.areas.Area.{Area}
+use Rattle.query_traces.specs.declared.asks.Seen.{Seen}
 use Rattle.query_core.specs.declared.courses.Course.{Course}
 use Rattle.query_core.specs.declared.stages.Stage.TheVariants as at
 use Rattle.query_core.specs.declared.stages.Turn.TheVariants as turn

@@ -1,5 +1,5 @@
 -- What a query knows as ranges resolve and leaves are visited.
-use Rattle.std.proofs.Common.{◌≡◌, ◌∙◌, ℕ, zero, suc, ◌+◌, ◌-◌, ◌<◌, ◌≤◌, Bool, true, false, not, cond, List, [], ◌∷◌}
+use Rattle.std.proofs.Common.{◌≡◌, ◌∙◌, ℕ, zero, suc, ◌+◌, ◌-◌, ◌<◌, ◌≤◌, Bool, true, false, not, List, [], ◌∷◌}
 use Rattle.std.proofs.Common.{◌++◌, length, map, filter, take, drop, get_or, slice_get, Some, None, Contains, ◌⊎◌, inl}
 use Rattle.std.proofs.Common.{inr, refl, sym, ap, subst, length-append, arith}
 use Rattle.std.specs.List.{AllByRecursion as All, range_with_len}
@@ -28,33 +28,34 @@ use Rattle.mon_value.specs.declared.positions.Range.{Range}
 use Rattle.mon_value.specs.declared.positions.RangeSlot.{RangeSlot}
 use Rattle.mon_value.specs.declared.positions.Slot.{Slot}
 use Rattle.mon_value.specs.declared.positions.SlotLeaf.{SlotLeaf}
-use Rattle.query_core.proofs.FindingLemmas.{no_replica, one_found}
-use Rattle.query_core.proofs.RoundLemmas.{has_at}
-use Rattle.query_core.proofs.SeenSpans.{near_at, resolves_so, seen_cut, tells_unmet}
-use Rattle.query_core.proofs.Spans.{ResolvedSo, StandsAt, StandsIn, Tells, look_at, more_avoided, outside, range_of}
-use Rattle.query_core.proofs.Spans.{up_to}
+use Rattle.query_traces.proofs.FindingLemmas.{no_replica, one_found}
+use Rattle.query_traces.proofs.RoundLemmas.{has_at}
+use Rattle.query_traces.proofs.SeenSpans.{near_at, resolves_so, seen_cut, tells_unmet}
+use Rattle.query_traces.proofs.Spans.{ResolvedSo, StandsAt, StandsIn, Tells, look_at, more_avoided, outside, range_of}
+use Rattle.query_traces.proofs.Spans.{up_to}
 use Rattle.query_core.proofs.TraceClaims as claim
 use Rattle.query_core.proofs.TraceClaims.{Anybody}
 use Rattle.query_core.proofs.TraceSteps.{resolving_so}
 use Rattle.query_core.proofs.TraceWords.{zone_seen, zone_shut}
-use Rattle.query_core.proofs.ZoneFacts.{leaves_next, ranges_next, zone_of_range_at}
+use Rattle.query_traces.proofs.ZoneFacts.{leaves_next, ranges_next, zone_of_range_at}
 use Rattle.mon_value.proofs.PlainLemmas.{contains_kept, in_map}
-use Rattle.query_core.specs.Rounds.{area_of, has_leaf, leaf_at, unread_look, Round, is_none, is_to_visit}
-use Rattle.query_core.specs.Rounds.{leaves_to_visit, resolution, round_of, slots_by_leaf, slots_on, with_slot}
-use Rattle.query_core.specs.Rounds.{QuerySetting}
-use Rattle.query_core.specs.Courses.{cuts_seen, firsts_seen, founds_in, with_found, HasNoReplica}
+use Rattle.query_traces.specs.Rounds.{area_of, has_leaf, leaf_at, unread_look, Round, is_none, is_to_visit}
+use Rattle.query_traces.specs.Rounds.{leaves_to_visit, resolution, round_of, slots_by_leaf, slots_on, with_slot}
+use Rattle.query_traces.specs.Rounds.{QuerySetting}
+use Rattle.query_core.specs.Courses.{cuts_seen, firsts_seen, founds_in, with_found}
+use Rattle.query_traces.specs.Founds.{HasNoReplica}
 use Rattle.plan_split.specs.Meeting.{flag_at, let_in}
 use Rattle.query_core.specs.Program.{resolving}
-use Rattle.query_core.specs.Sessions.{IsFoundSo, IsResolvedSo}
+use Rattle.query_traces.specs.TrueAnswers.{IsFoundSo, IsResolvedSo}
 use Rattle.mon_topo.specs.Views.{IsSound, IsViewWithin, View}
-use Rattle.query_core.specs.Traces.{IsFirstServing}
+use Rattle.query_traces.specs.Traces.{IsFirstServing}
 use Rattle.mon_meaning.specs.ReadableSlots.{slot_rows}
-use Rattle.query_core.specs.Visits.{Visits, visits_of}
-use Rattle.query_core.specs.declared.answers.Resolved.{Resolved}
-use Rattle.query_core.specs.declared.areas.Area.{Area}
+use Rattle.query_traces.specs.Visits.{Visits, visits_of}
+use Rattle.query_traces.specs.declared.answers.Resolved.{Resolved}
+use Rattle.query_traces.specs.declared.areas.Area.{Area}
 use Rattle.query_core.specs.declared.courses.Course.{Course}
-use Rattle.query_core.specs.declared.loadings.Loading.{Loading}
-use Rattle.query_core.specs.declared.looks.Look.{Look}
+use Rattle.query_traces.specs.declared.loadings.Loading.{Loading}
+use Rattle.query_traces.specs.declared.looks.Look.{Look}
 
 -- ---- lists
 
@@ -223,7 +224,7 @@ module _ (store : Setting) (setting : QuerySetting) (at_entry : Histories)
               stand = span.stand;
               tells = span.tells;
             };
-            founds = one_found at_entry before after since avoided course leaf cut was.founds found;
+            founds = one_found at_entry before after since avoided course.founds leaf cut was.founds found;
             below_is = all_append (λ (one : Leaf). one.0 < first_leaf zs (k + 1)) avoided (leaf ∷ []) was.below_is
                 (ours.1, record {});
             then = was.then;

@@ -24,22 +24,22 @@ use Rattle.mon_value.specs.LeafHistories.{leaf_rows}
 use Rattle.mon_value.specs.declared.histories.Entry.{Entry}
 use Rattle.mon_value.specs.declared.positions.Leaf.{Leaf}
 use Rattle.mon_value.specs.declared.positions.Zone.{Zone}
-use Rattle.query_core.proofs.HintFacts.{AreKnown, shut_out}
-use Rattle.query_core.proofs.SeenSpans.{seen_span}
-use Rattle.query_core.proofs.Spans.{span_append}
+use Rattle.query_traces.proofs.HintFacts.{AreKnown, shut_out}
+use Rattle.query_traces.proofs.SeenSpans.{seen_span}
+use Rattle.query_traces.proofs.Spans.{span_append}
 use Rattle.query_core.proofs.TraceClaims.{Below, KnownOf, LoadedSo, LoadingSo, SeenThen, Span, met, root_known}
 use Rattle.query_core.proofs.TraceClaims.{then_on, wanted, zone_known}
 use Rattle.mon_topo.proofs.SizeLemmas.{parts_so_far}
-use Rattle.query_core.proofs.ZoneFacts.{all_leaves, all_ranges, leaves_next, ranges_next, zone_of_leaf_at}
-use Rattle.query_core.specs.Rounds.{area_of, unread_look, QuerySetting}
+use Rattle.query_traces.proofs.ZoneFacts.{all_leaves, all_ranges, leaves_next, ranges_next, zone_of_leaf_at}
+use Rattle.query_traces.specs.Rounds.{area_of, unread_look, QuerySetting}
 use Rattle.query_core.specs.Courses.{cuts_seen, firsts_seen}
-use Rattle.query_core.specs.Loadings.{seen_first}
-use Rattle.query_core.specs.Sessions.{IsSeenSo}
+use Rattle.query_traces.specs.Loadings.{seen_first}
+use Rattle.query_traces.specs.TrueAnswers.{IsSeenSo}
 use Rattle.mon_topo.specs.Views.{IsSound, IsViewWithin, View}
 use Rattle.plan_split.specs.Meeting.{flag_at, let_in, lets_child_in}
-use Rattle.query_core.specs.declared.answers.Resolved.{Resolved}
-use Rattle.query_core.specs.declared.asks.Seen.{Seen}
-use Rattle.query_core.specs.declared.looks.Look.{Look}
+use Rattle.query_traces.specs.declared.answers.Resolved.{Resolved}
+use Rattle.query_traces.specs.declared.asks.Seen.{Seen}
+use Rattle.query_traces.specs.declared.looks.Look.{Look}
 
 -- ---- one word more
 

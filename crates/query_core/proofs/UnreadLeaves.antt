@@ -12,14 +12,13 @@ use Rattle.mon_value.specs.declared.positions.Leaf.{Leaf}
 use Rattle.mon_value.specs.declared.rows.Row.{Row}
 use Rattle.typed_rows.proofs.JoinedRows.{all-front, all-map}
 use Rattle.mon_topo.specs.Settings.{Setting}
-use Rattle.query_core.specs.declared.answers.Resolved.{Resolved}
-use Rattle.query_core.specs.declared.answers.Trace.{Trace}
+use Rattle.query_traces.specs.declared.answers.Resolved.{Resolved}
+use Rattle.query_traces.specs.declared.answers.Trace.{Trace}
 use Rattle.query_core.specs.declared.courses.Course.{Course}
-use Rattle.query_core.specs.declared.looks.Look.{Look}
+use Rattle.query_traces.specs.declared.looks.Look.{Look}
 use Rattle.query_core.specs.Courses.{trace_of}
-use Rattle.query_core.specs.Rounds.{unread_look, slots_on, QuerySetting}
-use Rattle.query_core.specs.Mixtures.{typed_of}
-use Rattle.query_core.specs.Traces.{cut_of, is_wanted}
+use Rattle.query_traces.specs.Rounds.{unread_look, slots_on, QuerySetting, typed_of}
+use Rattle.query_traces.specs.Traces.{cut_of, is_wanted}
 use Rattle.mon_meaning.specs.ReadableSlots.{slot_rows}
 use Rattle.query_core.proofs.DividedRows.{SomeLeaves, all_both, all_leaves, rows_at}
 use Rattle.query_core.proofs.ReadLeaves.{cuts_of, flags_of}

@@ -14,28 +14,28 @@ use Rattle.mon_topo.specs.Settings.{Setting}
 use Rattle.mon_value.specs.declared.positions.Leaf.{Leaf}
 use Rattle.mon_value.specs.declared.positions.RangeSlot.{RangeSlot}
 use Rattle.mon_value.specs.declared.rows.Row.{Row}
-use Rattle.query_core.specs.declared.areas.Area.{Area}
+use Rattle.query_traces.specs.declared.areas.Area.{Area}
 use Rattle.query_core.specs.declared.courses.Course.{Course}
-use Rattle.query_core.specs.declared.loadings.Loading.{Loading}
-use Rattle.query_core.specs.declared.looks.Look.{Look}
+use Rattle.query_traces.specs.declared.loadings.Loading.{Loading}
+use Rattle.query_traces.specs.declared.looks.Look.{Look}
 use Rattle.query_core.specs.declared.stages.Stage.TheVariants as at
-use Rattle.query_core.specs.Rounds.{has_leaf, leaf_at, read_at, unread_look, Round, is_to_visit, slots_on, QuerySetting}
+use Rattle.query_traces.specs.Rounds.{has_leaf, leaf_at, read_at, unread_look, Round, is_to_visit, slots_on, QuerySetting}
 use Rattle.query_core.specs.Courses.{cuts_seen}
 use Rattle.query_core.specs.Machine.{slots_in}
-use Rattle.query_core.specs.Mixtures.{typed_of}
+use Rattle.query_traces.specs.Rounds.{typed_of}
 use Rattle.plan_split.specs.Meeting.{let_in}
 use Rattle.query_core.specs.Program as spec
 use Rattle.query_core.specs.Program.{begin_visits, visiting}
 use Rattle.mon_meaning.specs.ReadableSlots.{slot_rows}
-use Rattle.query_core.specs.Visits as visit
-use Rattle.query_core.specs.Visits.{Visits, with_look}
+use Rattle.query_traces.specs.Visits as visit
+use Rattle.query_traces.specs.Visits.{Visits, with_look}
 use Rattle.query_core.proofs.ReadLeaves.{IsUnread, LeafRead, SendsNothing, all_set, behind_set, fewer_unread}
 use Rattle.query_core.proofs.ReadLeaves.{leaf_read, no_reads, reads_from, set_read, set_unread}
-use Rattle.query_core.proofs.RoundLemmas.{has_at}
+use Rattle.query_traces.proofs.RoundLemmas.{has_at}
 use Rattle.query_core.proofs.SegmentFacts.{PartsSo, SeenSo, IsSent, IsWithin, behind_on, parts_on, passed_so, read_rows}
 use Rattle.query_core.proofs.StageLemmas.{slots_here}
 use Rattle.query_core.proofs.PartClaims.{CourseIn, LoadedSo, RoundWhole, StepParts, VisitSo, VisitsSo}
-use Rattle.query_core.proofs.NextPlaces.{IsNextPlace, MaybePlace, next_place}
+use Rattle.query_traces.proofs.NextPlaces.{IsNextPlace, MaybePlace, next_place}
 use Rattle.mon_value.proofs.PlainLemmas.{all_append}
 
 module _ (store : Setting) (setting : QuerySetting) (moment : ℤ) where

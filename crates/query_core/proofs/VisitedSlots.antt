@@ -20,17 +20,16 @@ use Rattle.mon_value.specs.declared.positions.RangeSlot.{RangeSlot}
 use Rattle.mon_value.specs.declared.rows.Row.{Row}
 use Rattle.typed_rows.proofs.JoinedRows.{all-map}
 use Rattle.typed_rows.proofs.KeptRows.{all-filter, all-take}
-use Rattle.query_core.specs.Askings.{IsAskedOf}
-use Rattle.query_core.specs.declared.answers.Resolved.{Resolved}
-use Rattle.query_core.specs.declared.looks.Look.{Look}
-use Rattle.query_core.specs.Mixtures.{typed_of}
-use Rattle.query_core.specs.Rounds.{slot_of, slots_on, QuerySetting}
-use Rattle.query_core.specs.Traces.{IsBetween}
+use Rattle.query_traces.specs.Askings.{IsAskedOf}
+use Rattle.query_traces.specs.declared.answers.Resolved.{Resolved}
+use Rattle.query_traces.specs.declared.looks.Look.{Look}
+use Rattle.query_traces.specs.Rounds.{typed_of, slot_of, slots_on, QuerySetting}
+use Rattle.query_traces.specs.Traces.{IsBetween}
 use Rattle.query_core.proofs.DividedRows.{AreOthers, IsOther}
-use Rattle.query_core.proofs.Spans.{IsLookedAt, StandsAt, StandsIn, look_at, stands_on, up_to}
+use Rattle.query_traces.proofs.Spans.{IsLookedAt, StandsAt, StandsIn, look_at, stands_on, up_to}
 use Rattle.query_core.proofs.TraceRows.{replica_at_home, typed_for}
 use Rattle.query_core.proofs.TraceVisits.{fronts_begin}
-use Rattle.query_core.proofs.LeafLemmas.{same_leaves}
+use Rattle.query_traces.proofs.LeafLemmas.{same_leaves}
 use Rattle.mon_value.proofs.PlainLemmas.{equal_itself, all_flat}
 
 -- ---- ranges that differ share no target

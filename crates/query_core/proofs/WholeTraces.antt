@@ -20,16 +20,15 @@ use Rattle.mon_value.specs.declared.rows.Row.{Row}
 use Rattle.mon_value.specs.declared.tables.Table.{Table}
 use Rattle.typed_trees.specs.Meaning.{load}
 use Rattle.mon_topo.specs.Settings.{Setting}
-use Rattle.query_core.specs.Askings.{IsAskedOf}
-use Rattle.query_core.specs.declared.answers.Resolved.{Resolved}
-use Rattle.query_core.specs.declared.answers.Trace.{Trace}
-use Rattle.query_core.specs.declared.areas.Area.{Area}
+use Rattle.query_traces.specs.Askings.{IsAskedOf}
+use Rattle.query_traces.specs.declared.answers.Resolved.{Resolved}
+use Rattle.query_traces.specs.declared.answers.Trace.{Trace}
+use Rattle.query_traces.specs.declared.areas.Area.{Area}
 use Rattle.query_core.specs.declared.courses.Course.{Course}
-use Rattle.query_core.specs.declared.looks.Look.{Look}
-use Rattle.query_core.specs.Rounds.{area_of, unread_look, QuerySetting}
+use Rattle.query_traces.specs.declared.looks.Look.{Look}
+use Rattle.query_traces.specs.Rounds.{area_of, unread_look, QuerySetting, typed_of}
 use Rattle.query_core.specs.Courses.{trace_of}
-use Rattle.query_core.specs.Mixtures.{typed_of}
-use Rattle.query_core.specs.Traces.{source_of}
+use Rattle.query_traces.specs.Traces.{source_of}
 use Rattle.query_core.proofs.ChosenLeaves.{ChosenAscend, chosen_append, chosen_leaves, chosen_once}
 use Rattle.query_core.proofs.DividedRows.{SomeLeaves, all_leaves, divided_rows, rows_at, zone_rows}
 use Rattle.query_core.proofs.PartClaims.{CourseThrough}
@@ -38,7 +37,7 @@ use Rattle.query_core.proofs.ReadLeaves.{reads_from}
 use Rattle.query_core.proofs.SegmentFacts.{AreFrom, MixesSo, Mixed, Passed, PartsSo, RangesFrom, Segment, SegmentSo}
 use Rattle.query_core.proofs.SegmentFacts.{answers_in, area_in, looks_in, resolved_in}
 use Rattle.query_core.proofs.TraceRows.{IsLeftOut, is_divided, meant, over_load, own_rows}
-use Rattle.query_core.proofs.ZoneFacts.{leaves_next, ranges_next}
+use Rattle.query_traces.proofs.ZoneFacts.{leaves_next, ranges_next}
 use Rattle.query_core.proofs.ThroughZones.{IsThrough, none_first, through_so, trace_ranges, whole_in}
 use Rattle.query_core.proofs.UnreadLeaves.{TellsOf, left_out_by}
 use Rattle.query_core.proofs.ZoneRows.{AllZoned, Stands, leaves_below, reads_up, rows_there}

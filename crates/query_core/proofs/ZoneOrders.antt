@@ -19,8 +19,8 @@ use Rattle.query_core.proofs.RoundOrders.{below_count, between_in_order, counted
 use Rattle.query_core.proofs.RoundOrders.{no_slot_told, over_told, slot_told, stage_in_order, step_by, word_again}
 use Rattle.query_core.proofs.RoundOrders.{zone_of, zone_words}
 use Rattle.query_core.specs.Courses.{course_of, is_entered, left, with_next_zone, with_zone_answer}
-use Rattle.query_core.specs.Loadings.{is_whole, next_bucket, no_word, with_word}
-use Rattle.query_core.specs.Rounds.{read_at, unread_look, Round, round_of, QuerySetting}
+use Rattle.query_traces.specs.Loadings.{is_whole, next_bucket, no_word, with_word}
+use Rattle.query_traces.specs.Rounds.{read_at, unread_look, Round, round_of, QuerySetting}
 use Rattle.query_core.specs.Machine.{Query, new_query, slots_at}
 use Rattle.query_core.specs.Mixtures.{Settles, TurnSettles, root_stage, zone_turn}
 use Rattle.plan_split.specs.Meeting.{let_in}
@@ -29,18 +29,19 @@ use Rattle.query_core.specs.Orders.{chosen_areas, events_told, query_events, wor
 use Rattle.query_core.specs.Program as spec
 use Rattle.query_core.specs.Program.{ask_of, let_some_in, next_zone}
 use Rattle.query_core.specs.Sessions as session
+use Rattle.query_traces.specs.TrueAnswers as truth
 use Rattle.mon_topo.specs.Views.{View}
-use Rattle.query_core.specs.Visits as visit
-use Rattle.query_core.specs.Visits.{with_look}
-use Rattle.query_core.specs.declared.answers.Answer.{Answer}
-use Rattle.query_core.specs.declared.areas.Area.{Area}
-use Rattle.query_core.specs.declared.asks.Ask.{Ask}
-use Rattle.query_core.specs.declared.asks.Ask.TheVariants as ask
-use Rattle.query_core.specs.declared.asks.Seen.{Seen}
-use Rattle.query_core.specs.declared.asks.Told.{Told}
-use Rattle.query_core.specs.declared.asks.Told.TheVariants as told
+use Rattle.query_traces.specs.Visits as visit
+use Rattle.query_traces.specs.Visits.{with_look}
+use Rattle.query_traces.specs.declared.answers.Answer.{Answer}
+use Rattle.query_traces.specs.declared.areas.Area.{Area}
+use Rattle.query_traces.specs.declared.asks.Ask.{Ask}
+use Rattle.query_traces.specs.declared.asks.Ask.TheVariants as ask
+use Rattle.query_traces.specs.declared.asks.Seen.{Seen}
+use Rattle.query_traces.specs.declared.asks.Told.{Told}
+use Rattle.query_traces.specs.declared.asks.Told.TheVariants as told
 use Rattle.query_core.specs.declared.courses.Course.{Course}
-use Rattle.query_core.specs.declared.loadings.Loading.{Loading}
+use Rattle.query_traces.specs.declared.loadings.Loading.{Loading}
 use Rattle.query_core.specs.declared.stages.Stage.{Stage}
 use Rattle.query_core.specs.declared.stages.Stage.TheVariants as at
 use Rattle.query_core.specs.declared.stages.Step.{Step}
@@ -231,7 +232,7 @@ module _ (setting : QuerySetting) (some : 0 < length setting.plan.buckets) where
 
   module _ (store : Setting) (moment : ℤ) (before after : View) (avoided : List Leaf) (slots : List RangeSlot) where
     told_so : (done : List Ask) (words : List ℕ) (stage : Stage) (answer : Told) → StageSo setting done words stage
-        → session.IsTrueAnswer store setting moment before after avoided slots (ask_of setting stage) answer
+        → truth.IsTrueAnswer store setting moment before after avoided slots (ask_of setting stage) answer
         → StepSo setting (done ++ ask_of setting stage ∷ []) (words ++ answer_words answer)
         (spec.after setting stage answer)
     told_so done words (at.Rooting loading) (told.Word word seen) h is = root_word done words loading word seen h

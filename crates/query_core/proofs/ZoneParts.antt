@@ -9,21 +9,21 @@ use Rattle.mon_topo.specs.Settings.{Setting}
 use Rattle.mon_value.specs.declared.positions.Leaf.{Leaf}
 use Rattle.mon_value.specs.declared.positions.Range.{Range}
 use Rattle.mon_value.specs.declared.positions.Slot.{Slot}
-use Rattle.query_core.specs.declared.answers.Resolved.{Resolved}
-use Rattle.query_core.specs.declared.areas.Area.{Area}
-use Rattle.query_core.specs.declared.asks.Seen.{Seen}
+use Rattle.query_traces.specs.declared.answers.Resolved.{Resolved}
+use Rattle.query_traces.specs.declared.areas.Area.{Area}
+use Rattle.query_traces.specs.declared.asks.Seen.{Seen}
 use Rattle.query_core.specs.declared.courses.Course.{Course}
-use Rattle.query_core.specs.declared.loadings.Loading.{Loading}
+use Rattle.query_traces.specs.declared.loadings.Loading.{Loading}
 use Rattle.query_core.specs.declared.stages.Stage.TheVariants as at
 use Rattle.query_core.specs.declared.stages.Turn.TheVariants as turn
-use Rattle.query_core.specs.Rounds.{area_of, areas_of, range_at, unread_look, Round, resolution, round_of, with_slot}
-use Rattle.query_core.specs.Rounds.{QuerySetting}
+use Rattle.query_traces.specs.Rounds.{area_of, areas_of, range_at, unread_look, Round, resolution, round_of, with_slot}
+use Rattle.query_traces.specs.Rounds.{QuerySetting}
 use Rattle.query_core.specs.Courses.{with_next_zone, course_of, cuts_seen, firsts_seen, is_entered, left}
-use Rattle.query_core.specs.Loadings.{no_word, seen_first}
+use Rattle.query_traces.specs.Loadings.{no_word, seen_first}
 use Rattle.query_core.specs.Program as spec
 use Rattle.query_core.specs.Program.{next_zone, resolving}
 use Rattle.query_core.proofs.SegmentFacts.{RangesFrom, Segment, SeenSo, Passed, behind_push, passed_so, ranges_append}
-use Rattle.query_core.proofs.ZoneFacts.{areas_from}
+use Rattle.query_traces.proofs.ZoneFacts.{areas_from}
 use Rattle.query_core.proofs.PartClaims.{CourseAt, CourseIn, LoadedSo, RoundSo, StepParts, TurnParts}
 
 pair_is : {X : Type 0} (x y : X) (xs ys : List X) → x ∷ xs ≡ y ∷ ys → (x ≡ y) × (xs ≡ ys)

@@ -13,11 +13,11 @@ use Rattle.mon_topo.specs.Zones.{first_leaf, first_range, leaf_zones}
 use Rattle.mon_topo.specs.declared.zones.ZoneSpec.{ZoneSpec}
 use Rattle.mon_value.specs.declared.positions.Leaf.{Leaf}
 use Rattle.typed_rows.proofs.JoinedRows.{all-front}
-use Rattle.query_core.specs.declared.answers.Resolved.{Resolved}
-use Rattle.query_core.specs.declared.answers.Trace.{Trace}
-use Rattle.query_core.specs.declared.looks.Look.{Look}
-use Rattle.query_core.specs.Rounds.{area_of, slot_of, slots_on, QuerySetting}
-use Rattle.query_core.specs.Traces.{rows_on, cut_of}
+use Rattle.query_traces.specs.declared.answers.Resolved.{Resolved}
+use Rattle.query_traces.specs.declared.answers.Trace.{Trace}
+use Rattle.query_traces.specs.declared.looks.Look.{Look}
+use Rattle.query_traces.specs.Rounds.{area_of, slot_of, slots_on, QuerySetting}
+use Rattle.query_traces.specs.Traces.{rows_on, cut_of}
 use Rattle.mon_meaning.specs.ReadableSlots.{slot_rows}
 use Rattle.query_core.proofs.ChosenLeaves.{leaf_before, leaf_behind}
 use Rattle.query_core.proofs.DividedRows.{rows_at}
@@ -25,9 +25,9 @@ use Rattle.query_core.proofs.ReadLeaves.{Ascend, IsTold, LeafRead, ascend_within
 use Rattle.query_core.proofs.ReadLeaves.{reads_ascend, reads_from, told_cuts}
 use Rattle.query_core.proofs.SegmentFacts.{RangesFrom, read_rows}
 use Rattle.query_core.proofs.TraceRows.{on_leaf, own_rows}
-use Rattle.query_core.proofs.WantedRows.{filter_empty}
-use Rattle.query_core.proofs.ZoneFacts as zone_facts
-use Rattle.query_core.proofs.ZoneFacts.{leaves_next, ranges_next}
+use Rattle.query_traces.proofs.WantedRows.{filter_empty}
+use Rattle.query_traces.proofs.ZoneFacts as zone_facts
+use Rattle.query_traces.proofs.ZoneFacts.{leaves_next, ranges_next}
 use Rattle.mon_value.proofs.PlainLemmas.{all_unmapped, get_or-front}
 
 -- ---- lists

@@ -2,14 +2,14 @@
 use Rattle.std.specs.Prelude.{◌≡◌, List, [], ◌∷◌, ◌++◌, Option, Some, None, Result, if◌then◌else◌}
 use Rattle.mon_value.specs.declared.positions.Leaf.{Leaf}
 use Rattle.mon_value.specs.declared.positions.RangeSlot.{RangeSlot}
-use Rattle.query_core.specs.declared.answers.Answer.{Answer}
-use Rattle.query_core.specs.declared.answers.RoundFault.{RoundFault}
-use Rattle.query_core.specs.declared.asks.Told.{Told}
-use Rattle.query_core.specs.declared.asks.Told.TheVariants as told
+use Rattle.query_traces.specs.declared.answers.Answer.{Answer}
+use Rattle.query_traces.specs.declared.answers.RoundFault.{RoundFault}
+use Rattle.query_traces.specs.declared.asks.Told.{Told}
+use Rattle.query_traces.specs.declared.asks.Told.TheVariants as told
 use Rattle.query_core.specs.declared.stages.Stage.{Stage}
 use Rattle.query_core.specs.declared.stages.Stage.TheVariants as at
-use Rattle.query_core.specs.Rounds.{has_leaf, Round, slots_on, QuerySetting}
-use Rattle.query_core.specs.Loadings.{no_word}
+use Rattle.query_traces.specs.Rounds.{has_leaf, Round, slots_on, QuerySetting}
+use Rattle.query_traces.specs.Loadings.{no_word}
 use Rattle.query_core.specs.Program.{round_in}
 
 -- with the leaves that were found down

@@ -10,9 +10,8 @@ use Rattle.mon_meaning.specs.declared.meter.OverLimit.{OverLimit}
 use Rattle.mon_value.specs.declared.rows.Row.{Row}
 use Rattle.mon_value.specs.declared.tables.Table.{Table}
 use Rattle.typed_trees.specs.Plans.{op_levels}
-use Rattle.typed_trees.specs.Nodes.{TypedTree, typed_tree}
-use Rattle.query_core.specs.declared.answers.Answer.{Answer}
-use Rattle.query_core.specs.declared.asks.Told.{Told}
+use Rattle.query_traces.specs.declared.answers.Answer.{Answer}
+use Rattle.query_traces.specs.declared.asks.Told.{Told}
 use Rattle.query_core.specs.declared.courses.Course.{Course}
 use Rattle.query_core.specs.declared.stages.Stage.{Stage}
 use Rattle.query_core.specs.declared.stages.Stage.TheVariants as at
@@ -22,10 +21,7 @@ use Rattle.query_core.specs.declared.stages.Turn.{Turn}
 use Rattle.query_core.specs.declared.stages.Turn.TheVariants as turn
 use Rattle.query_core.specs.Courses.{with_zone_answer, trace_of}
 use Rattle.query_core.specs.Program.{after, next_zone, stopped_stage}
-use Rattle.query_core.specs.Rounds.{QuerySetting}
-
-abbrev pub typed_of : QuerySetting → TypedTree
-typed_of setting = typed_tree setting.plan.typed
+use Rattle.query_traces.specs.Rounds.{QuerySetting, typed_of}
 
 -- ---- answers that can be mixed
 

@@ -4,16 +4,16 @@ use Rattle.std.specs.Prelude.{◌≡◌, ◌+◌, ℕ, ℤ, Bool, List, [], ◌�
 use Rattle.std.specs.List.{AllByRecursion, flat_map, range_with_len}
 use Rattle.mon_topo.specs.Settings.{Setting}
 use Rattle.mon_value.specs.declared.positions.Leaf.{Leaf}
-use Rattle.query_core.specs.Rounds.{leaf_at, range_at, QuerySetting}
+use Rattle.query_traces.specs.Rounds.{leaf_at, range_at, QuerySetting}
 use Rattle.query_core.specs.Machine.{Query}
 use Rattle.plan_split.specs.Meeting.{flag_at, let_in}
 use Rattle.query_core.specs.Program.{ask_of}
 use Rattle.query_core.specs.Sessions.{Event, told_then}
-use Rattle.query_core.specs.declared.areas.Area.{Area}
-use Rattle.query_core.specs.declared.asks.Ask.{Ask}
-use Rattle.query_core.specs.declared.asks.Ask.TheVariants as ask
-use Rattle.query_core.specs.declared.asks.Told.{Told}
-use Rattle.query_core.specs.declared.asks.Told.TheVariants as told
+use Rattle.query_traces.specs.declared.areas.Area.{Area}
+use Rattle.query_traces.specs.declared.asks.Ask.{Ask}
+use Rattle.query_traces.specs.declared.asks.Ask.TheVariants as ask
+use Rattle.query_traces.specs.declared.asks.Told.{Told}
+use Rattle.query_traces.specs.declared.asks.Told.TheVariants as told
 
 -- ---- events in order
 

@@ -5,16 +5,16 @@ use Rattle.mon_fold.specs.declared.answers.LeafAnswer.{LeafAnswer}
 use Rattle.mon_value.specs.declared.positions.Leaf.{Leaf}
 use Rattle.mon_value.specs.declared.positions.Range.{Range}
 use Rattle.mon_value.specs.declared.positions.Slot.{Slot}
-use Rattle.query_core.specs.declared.answers.RoundFault.{RoundFault}
-use Rattle.query_core.specs.declared.answers.RoundFault.TheVariants as fault
-use Rattle.query_core.specs.declared.areas.Area.{Area}
-use Rattle.query_core.specs.declared.asks.Ask.{Ask}
-use Rattle.query_core.specs.declared.asks.Ask.TheVariants as ask
-use Rattle.query_core.specs.declared.asks.Seen.{Seen}
-use Rattle.query_core.specs.declared.asks.Told.{Told}
-use Rattle.query_core.specs.declared.asks.Told.TheVariants as told
+use Rattle.query_traces.specs.declared.answers.RoundFault.{RoundFault}
+use Rattle.query_traces.specs.declared.answers.RoundFault.TheVariants as fault
+use Rattle.query_traces.specs.declared.areas.Area.{Area}
+use Rattle.query_traces.specs.declared.asks.Ask.{Ask}
+use Rattle.query_traces.specs.declared.asks.Ask.TheVariants as ask
+use Rattle.query_traces.specs.declared.asks.Seen.{Seen}
+use Rattle.query_traces.specs.declared.asks.Told.{Told}
+use Rattle.query_traces.specs.declared.asks.Told.TheVariants as told
 use Rattle.query_core.specs.declared.courses.Course.{Course}
-use Rattle.query_core.specs.declared.loadings.Loading.{Loading}
+use Rattle.query_traces.specs.declared.loadings.Loading.{Loading}
 use Rattle.query_core.specs.declared.stages.Stage.{Stage}
 use Rattle.query_core.specs.declared.stages.Stage.TheVariants as at
 use Rattle.query_core.specs.declared.stages.Step.{Step}
@@ -24,11 +24,11 @@ use Rattle.query_core.specs.declared.stages.Turn.TheVariants as turn
 use Rattle.query_core.specs.Courses.{with_next_zone, with_zone_behind, course_of, cuts_seen, founds_in, is_entered}
 use Rattle.query_core.specs.Courses.{left, trace_of}
 use Rattle.query_core.specs.Courses.{with_found}
-use Rattle.query_core.specs.Loadings.{is_whole, next_bucket, no_word, with_word}
-use Rattle.query_core.specs.Rounds.{read_at, unread_look, Round, leaves_to_visit, next_range, round_of, with_slot}
-use Rattle.query_core.specs.Rounds.{QuerySetting}
+use Rattle.query_traces.specs.Loadings.{is_whole, next_bucket, no_word, with_word}
+use Rattle.query_traces.specs.Rounds.{read_at, unread_look, Round, leaves_to_visit, next_range, round_of, with_slot}
+use Rattle.query_traces.specs.Rounds.{QuerySetting}
 use Rattle.plan_split.specs.Meeting.{let_in}
-use Rattle.query_core.specs.Visits.{Visits, gone_on, with_leaf_answer, with_look, next_leaf, visits_of}
+use Rattle.query_traces.specs.Visits.{Visits, gone_on, with_leaf_answer, with_look, next_leaf, visits_of}
 
 -- ---- the next event
 

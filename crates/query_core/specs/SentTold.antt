@@ -3,9 +3,9 @@ use Rattle.std.specs.Prelude.{ℕ, ℤ, List}
 use Rattle.std.specs.List.{sum_by}
 use Rattle.mon_topo.specs.Settings.{Setting}
 use Rattle.query_core.specs.Sessions.{Event}
-use Rattle.query_core.specs.Rounds.{QuerySetting}
-use Rattle.query_core.specs.declared.asks.Told.{Told}
-use Rattle.query_core.specs.declared.asks.Told.TheVariants as told
+use Rattle.query_traces.specs.Rounds.{QuerySetting}
+use Rattle.query_traces.specs.declared.asks.Told.{Told}
+use Rattle.query_traces.specs.declared.asks.Told.TheVariants as told
 
 -- a leaf that was read sent so much
 abbrev pub answer_sent : Told → ℕ

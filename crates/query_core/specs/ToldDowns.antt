@@ -7,15 +7,15 @@ use Rattle.mon_topo.specs.declared.zones.ZoneSpec.{ZoneSpec}
 use Rattle.mon_value.specs.Histories.{zone_numbered}
 use Rattle.mon_value.specs.declared.positions.FoundDown.{FoundDown}
 use Rattle.mon_value.specs.declared.positions.Range.{Range}
-use Rattle.query_core.specs.Courses.{found_down, founds_of_zone}
+use Rattle.query_traces.specs.Founds.{found_down, founds_of_zone}
 use Rattle.query_core.specs.Machine.{Query}
 use Rattle.query_core.specs.Sessions.{Event, told_then}
-use Rattle.query_core.specs.Rounds.{area_of, QuerySetting}
-use Rattle.query_core.specs.declared.answers.Answer.{Answer}
-use Rattle.query_core.specs.declared.answers.RoundFault.{RoundFault}
-use Rattle.query_core.specs.declared.answers.RoundFault.TheVariants as fault
-use Rattle.query_core.specs.declared.asks.Told.{Told}
-use Rattle.query_core.specs.declared.asks.Told.TheVariants as told
+use Rattle.query_traces.specs.Rounds.{area_of, QuerySetting}
+use Rattle.query_traces.specs.declared.answers.Answer.{Answer}
+use Rattle.query_traces.specs.declared.answers.RoundFault.{RoundFault}
+use Rattle.query_traces.specs.declared.answers.RoundFault.TheVariants as fault
+use Rattle.query_traces.specs.declared.asks.Told.{Told}
+use Rattle.query_traces.specs.declared.asks.Told.TheVariants as told
 use Rattle.query_core.specs.declared.stages.Stage.{Stage}
 use Rattle.query_core.specs.declared.stages.Stage.TheVariants as at
 

@@ -1,19 +1,16 @@
 // What a query came to in the zones that it is through with.
 ghost use Rattle.std.specs.Prelude.{◌≡◌, ◌+◌, ◌<◌, ◌^◌, ◌++◌, filter, IfOk, OnOk};
-ghost use Rattle.query_core.specs.Rounds.{has_leaf};
+ghost use Rattle.query_traces.specs.Rounds.{has_leaf};
 ghost use Rattle.query_core.specs.Courses as spec;
 
-use crate::answers::{Flags, Resolved, Resolveds, Trace};
-use crate::areas::Area;
-use crate::asks::Seen;
-use crate::flags::flag_at;
-use crate::loadings::Loading;
-use crate::looks::{Look, Looks, add_unread, cuts_of, read_of, sent_of};
 use crate::segments::{from_place, segment};
-use crate::settings::QuerySetting;
 use mixer::{ZoneAnswer, ZoneAnswers};
 use mon_value::{FoundDown, Founds, Leaf, OutOfMemory};
 use plan_split::let_in;
+use query_traces::{
+    Area, Flags, Loading, Look, Looks, QuerySetting, Resolved, Resolveds, Seen, Trace, add_unread,
+    cuts_of, flag_at, read_of, sent_of,
+};
 use std::alloc::Global;
 use std::mem;
 

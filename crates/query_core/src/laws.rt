@@ -4,36 +4,32 @@ ghost use Rattle.std.specs.List.{sum};
 ghost use Rattle.std.specs.List.Sorted.{IsStrictlyIncreasing};
 ghost use Rattle.mon_value.specs.Histories.{leaf_history};
 ghost use Rattle.mon_topo.specs.Settings.{Setting};
-ghost use Rattle.mon_value.specs.declared.histories.Histories.{Histories};
 ghost use Rattle.mon_value.specs.declared.positions.FoundDown.{FoundDown as Found};
 ghost use Rattle.mon_value.specs.declared.positions.Leaf.{Leaf as LeafOf};
 ghost use Rattle.mon_value.specs.declared.positions.Range.{Range as RangeOf};
-ghost use Rattle.mon_value.specs.declared.rows.SeriesKey.{SeriesKey as KeyOf};
-ghost use Rattle.typed_trees.specs.Nodes.{TypedTree as Typed};
-ghost use Rattle.typed_trees.specs.declared.plans.Plan.{Plan as PlanOf};
-ghost use Rattle.query_core.specs.Answers.{IsAnsweredRightly, IsStoppedRightly};
-ghost use Rattle.query_core.specs.AskedPlaces.{IsThere};
-ghost use Rattle.query_core.specs.Askings.{IsAskedOf};
-ghost use Rattle.query_core.specs.Courses.{HasNoReplica, IsFoundBetween};
+ghost use Rattle.query_traces.specs.Answers.{IsAnsweredRightly, IsStoppedRightly};
+ghost use Rattle.query_traces.specs.AskedPlaces.{IsThere};
+ghost use Rattle.query_traces.specs.Askings.{IsAskedOf};
+ghost use Rattle.query_traces.specs.Founds.{HasNoReplica};
 ghost use Rattle.query_core.specs.Machine.{Query, new_query, slots_at};
-ghost use Rattle.query_core.specs.Mixtures.{MayBeTold, typed_of};
+ghost use Rattle.query_core.specs.Mixtures.{MayBeTold};
+ghost use Rattle.query_traces.specs.Rounds.{typed_of, QuerySetting};
 ghost use Rattle.query_core.specs.Orders.{ComeInOrder, ComeWholeInOrder, events_told, words_loaded};
 ghost use Rattle.query_core.specs.Program.{ask_of};
 ghost use Rattle.mon_meaning.specs.ReadableSlots.{CanBeRead};
 ghost use Rattle.query_core.specs.SentTold.{sent_told};
-ghost use Rattle.query_core.specs.Sessions.{Event, IsLicensed, IsTrueAnswer, query_after};
+ghost use Rattle.query_core.specs.Sessions.{Event, IsLicensed, query_after};
+ghost use Rattle.query_traces.specs.TrueAnswers.{IsTrueAnswer};
 ghost use Rattle.mon_topo.specs.Views.{IsSound, IsViewWithin, View};
 ghost use Rattle.query_core.specs.Sessions.{view_after};
-ghost use Rattle.query_core.specs.Rounds.{QuerySetting};
 ghost use Rattle.query_core.specs.ToldDowns.{EndNames, NamesAll, downs_told};
-ghost use Rattle.query_core.specs.Traces.{AreWider, IsBetween, IsFreshSince, IsReadRightly, IsTraceBetween, Lengths};
-ghost use Rattle.query_core.specs.Traces.{source_of};
-ghost use Rattle.query_core.specs.declared.answers.RoundFault.{RoundFault as FaultOf};
-ghost use Rattle.query_core.specs.declared.answers.Answer.{Answer as AnswerOf};
-ghost use Rattle.query_core.specs.declared.answers.RoundFault.TheVariants.{NoReplica, StepLimit};
-ghost use Rattle.query_core.specs.declared.answers.Trace.{Trace as TraceOf};
-ghost use Rattle.query_core.specs.declared.asks.Ask.TheVariants.{Visit};
-ghost use Rattle.query_core.specs.declared.asks.Told.{Told as ToldOf};
+ghost use Rattle.query_traces.specs.Traces.{IsBetween};
+ghost use Rattle.query_traces.specs.declared.answers.RoundFault.{RoundFault as FaultOf};
+ghost use Rattle.query_traces.specs.declared.answers.Answer.{Answer as AnswerOf};
+ghost use Rattle.query_traces.specs.declared.answers.RoundFault.TheVariants.{NoReplica, StepLimit};
+ghost use Rattle.query_traces.specs.declared.answers.Trace.{Trace as TraceOf};
+ghost use Rattle.query_traces.specs.declared.asks.Ask.TheVariants.{Visit};
+ghost use Rattle.query_traces.specs.declared.asks.Told.{Told as ToldOf};
 ghost use Rattle.query_core.specs.declared.stages.Stage.TheVariants.{Ended};
 
 /// Every licensed session of a query that is asked of a store ends rightly. A table is what the query means,
@@ -112,27 +108,6 @@ pub fn sessions_keep_the_order()
         → (query_after store setting moment (new_query setting) events).stage ≡ Ended (Ok answer)
         → ComeWholeInOrder setting (words_loaded store setting moment events)
         (events_told store setting moment (new_query setting) events) }
-{}
-
-/// What is said of a trace between two moments stays as histories grow, and between an earlier moment and a later
-/// one; so do its rows, and what was found down.
-pub fn traces_stay()
-    ensures of { (typed : Typed) (moment : ℤ) (from to earlier later : Lengths) (seen more : Histories)
-        (trace : TraceOf) → AreWider from to earlier later seen more → IsTraceBetween typed moment from to seen trace
-        → IsTraceBetween typed moment earlier later more trace }
-    ensures rows { (typed : Typed) (moment : ℤ) (from to earlier later : Lengths) (seen more : Histories)
-        (trace : TraceOf) → AreWider from to earlier later seen more → IsTraceBetween typed moment from to seen trace
-        → source_of more trace ≡ source_of seen trace }
-    ensures fresh { (typed : Typed) (moment : ℤ) (from to earlier later : Lengths) (seen more : Histories)
-        (trace : TraceOf) → AreWider from to earlier later seen more → IsTraceBetween typed moment from to seen trace
-        → IsFreshSince from seen trace → IsFreshSince earlier more trace }
-    ensures read { (typed : Typed) (moment : ℤ) (from to earlier later : Lengths) (seen more : Histories)
-        (trace : TraceOf) (plan : PlanOf) (buckets_of : KeyOf → List ℕ) (leaf : LeafOf)
-        → AreWider from to earlier later seen more → IsTraceBetween typed moment from to seen trace
-        → IsReadRightly typed plan buckets_of seen trace leaf → IsReadRightly typed plan buckets_of more trace leaf }
-    ensures found { (from to earlier later : Lengths) (seen more : Histories) (found : Found)
-        → AreWider from to earlier later seen more → IsFoundBetween from to seen found
-        → IsFoundBetween earlier later more found }
 {}
 
 /// What a licensed session of a query that is asked of a store asks next may be told truly, by what is seen and known

@@ -1,20 +1,17 @@
 // The machine of a query.
 ghost use Rattle.std.specs.Prelude.{◌≡◌, ◌≢◌, ◌≤◌, ◌^◌, false, IfOk, IsTrue, OnErr, OnOk};
 ghost use Rattle.mon_value.specs.declared.limits.TheConstants.{ROW_BITS};
-ghost use Rattle.query_core.specs.Rounds.{areas_of};
+ghost use Rattle.query_traces.specs.Rounds.{areas_of};
 ghost use Rattle.query_core.specs.Machine as spec;
 ghost use Rattle.query_core.specs.Mixtures.{LeadsTo, MayBeTold};
 ghost use Rattle.query_core.specs.Program.{ask_of};
-ghost use Rattle.query_core.specs.declared.asks.Ask.TheVariants.{Finished};
+ghost use Rattle.query_traces.specs.declared.asks.Ask.TheVariants.{Finished};
 
-use crate::answers::{Answer, RoundFault};
-use crate::asks::{Ask, Told};
-use crate::loadings::Loading;
 use crate::mixing::told_so;
-use crate::settings::QuerySetting;
 use crate::stages::Stage;
 use mon_topo::Topology;
 use mon_value::{Leaf, Leaves, OutOfMemory, RangeSlots};
+use query_traces::{Answer, Ask, Loading, QuerySetting, RoundFault, Told};
 use std::alloc::Global;
 use std::marker::Model;
 use std::mem;

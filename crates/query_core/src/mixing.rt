@@ -4,14 +4,12 @@ ghost use Rattle.mixer.specs.ZoneAnswers.{HasZoneParts};
 ghost use Rattle.typed_trees.specs.Nodes.{typed_tree};
 ghost use Rattle.query_core.specs.Mixtures as spec;
 
-use crate::answers::Answer;
-use crate::asks::Told;
 use crate::courses::Course;
-use crate::settings::QuerySetting;
 use crate::stages::{Stage, Step, Turn, next_zone, stopped};
 use mixer::{ZoneAnswers, mix_root, mix_zone};
 use mon_fold::LeafAnswers;
 use mon_value::{OutOfMemory, Refusal, Table};
+use query_traces::{Answer, QuerySetting, Told};
 use std::alloc::AllocError;
 use std::mem;
 use typed_trees::op_levels;

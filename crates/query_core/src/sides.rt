@@ -2,12 +2,12 @@
 ghost use Rattle.std.specs.Prelude.{◌≢◌, IfOk};
 ghost use Rattle.query_core.specs.Program.{ask_of};
 ghost use Rattle.query_core.specs.Sides.{word_asked};
-ghost use Rattle.query_core.specs.declared.asks.Ask.TheVariants as the_ask;
+ghost use Rattle.query_traces.specs.declared.asks.Ask.TheVariants as the_ask;
 
-use crate::asks::Ask;
 use crate::machine::QueryMachine;
 use mon_hints::Place;
 use mon_value::{Leaf, OutOfMemory, Range};
+use query_traces::Ask;
 
 /// Who answers what a query asks of words, ranges and leaves: the actors of a schedule, or a store whose leaves and
 /// ranges are locked. A side looks for a caller, and what it finds may be more than an answer, as that someone else is
@@ -16,7 +16,7 @@ use mon_value::{Leaf, OutOfMemory, Range};
 pub trait QuerySide {
     ghost use Rattle.std.specs.Prelude.{ℤ};
     ghost use Rattle.query_core.specs.Machine.{Query};
-    ghost use Rattle.query_core.specs.declared.asks.Ask.{Ask as AskOf};
+    ghost use Rattle.query_traces.specs.declared.asks.Ask.{Ask as AskOf};
 
     type Caller;
 

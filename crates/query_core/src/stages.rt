@@ -1,24 +1,18 @@
 // How far a query is, and what each answer makes of that.
 ghost use Rattle.std.specs.Prelude.{◌≡◌, drop, IfOk, OnOk};
 ghost use Rattle.std.specs.Option.{option_copied};
-ghost use Rattle.query_core.specs.Rounds.{IsSmall, round_of, with_slot};
+ghost use Rattle.query_traces.specs.Rounds.{IsSmall, round_of, with_slot};
 ghost use Rattle.query_core.specs.Courses.{left, with_found};
-ghost use Rattle.query_core.specs.Loadings.{no_word, with_word};
+ghost use Rattle.query_traces.specs.Loadings.{no_word, with_word};
 ghost use Rattle.query_core.specs.Program as spec;
 
-use crate::answers::{Answer, RoundFault};
-use crate::areas::Area;
-use crate::asks::{Seen, Told};
 use crate::courses::{Course, cuts_seen};
-use crate::flags::some_flag;
-use crate::loadings::Loading;
-use crate::looks::Look;
-use crate::rounds::Round;
-use crate::settings::QuerySetting;
-use crate::visits::Visits;
 use mon_fold::{LeafAnswer, LeafAnswers};
 use mon_value::{Leaf, OutOfMemory, Range, Slot};
 use plan_split::let_in;
+use query_traces::{
+    Answer, Area, Loading, Look, QuerySetting, Round, RoundFault, Seen, Told, Visits, some_flag,
+};
 use std::alloc::Global;
 
 /// How far a query is.

@@ -28,9 +28,9 @@ use Rattle.mon_value.specs.declared.positions.SlotLeaf.{SlotLeaf}
 use Rattle.mon_value.specs.declared.rows.Row.{Row}
 use Rattle.typed_trees.specs.Meaning.{load}
 use Rattle.typed_trees.specs.Nodes.{TypedTree}
-use Rattle.query_core.specs.Courses.{IsFoundBetween}
-use Rattle.query_core.specs.Traces.{AreWider, IsBetween, IsTraceBetween, Lengths, found_leaves, source_of}
-use Rattle.query_core.specs.declared.answers.Trace.{Trace}
+use Rattle.query_traces.specs.Founds.{IsFoundBetween}
+use Rattle.query_traces.specs.Traces.{AreWider, IsBetween, IsTraceBetween, Lengths, found_leaves, source_of}
+use Rattle.query_traces.specs.declared.answers.Trace.{Trace}
 use Rattle.range_cell.specs.declared.answers.WriteFault.{WriteFault}
 use Rattle.range_cell.specs.declared.answers.WriteFault.TheVariants as unwritten
 use Rattle.run_theory.specs.InPlace as theory

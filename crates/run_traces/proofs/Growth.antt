@@ -25,9 +25,9 @@ use Rattle.mon_value.specs.declared.rows.SeriesKey.{SeriesKey}
 use Rattle.typed_trees.specs.Meaning.{load}
 use Rattle.typed_trees.specs.Nodes.{TypedTree}
 use Rattle.typed_trees.specs.declared.plans.Plan.{Plan}
-use Rattle.query_core.specs.Courses.{IsFoundBetween}
-use Rattle.query_core.specs.Traces.{AreWider, IsFreshSince, IsReadRightly, IsTraceBetween, Lengths, source_of}
-use Rattle.query_core.specs.declared.answers.Trace.{Trace}
+use Rattle.query_traces.specs.Founds.{IsFoundBetween}
+use Rattle.query_traces.specs.Traces.{AreWider, IsFreshSince, IsReadRightly, IsTraceBetween, Lengths, source_of}
+use Rattle.query_traces.specs.declared.answers.Trace.{Trace}
 use Rattle.query_texts.specs.TextTypes.{plan_type}
 use Rattle.run_theory.specs.Parts.{AreBelow, GoesOn, GrowAlong, IsWithin, Part}
 use Rattle.run_theory.proofs.Writings.{one_more}

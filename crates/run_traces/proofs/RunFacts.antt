@@ -17,9 +17,9 @@ use Rattle.mon_value.specs.declared.positions.Leaf.{Leaf}
 use Rattle.mon_value.specs.declared.positions.Range.{Range}
 use Rattle.mon_value.specs.declared.rows.Row.{Row}
 use Rattle.typed_trees.specs.Nodes.{TypedTree}
-use Rattle.query_core.specs.Courses.{IsFoundBetween}
-use Rattle.query_core.specs.Traces.{AreWider, IsBetween, IsTraceBetween, Lengths, source_of}
-use Rattle.query_core.specs.declared.answers.Trace.{Trace}
+use Rattle.query_traces.specs.Founds.{IsFoundBetween}
+use Rattle.query_traces.specs.Traces.{AreWider, IsBetween, IsTraceBetween, Lengths, source_of}
+use Rattle.query_traces.specs.declared.answers.Trace.{Trace}
 use Rattle.run_theory.specs.InPlace.{FoundThere, RanInPlace}
 use Rattle.run_theory.specs.InPlace as theory
 use Rattle.run_theory.specs.Parts.{RanBefore, Each, Part, all_lines, lines_of}

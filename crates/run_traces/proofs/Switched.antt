@@ -36,7 +36,7 @@ use Rattle.run_traces.specs.LineAsks.{Recovery, recovery_of, switch_of}
 use Rattle.run_traces.specs.LineSwitches.{is_fed, IsRecoveredBetween, IsSwitchedBetween, StandsBetween, goes}
 use Rattle.run_traces.specs.LineSwitches.{opens, recovers, switch_entry, switches}
 use Rattle.run_traces.proofs.ListFacts.{no_item}
-use Rattle.query_core.proofs.LeafLemmas.{same_leaves}
+use Rattle.query_traces.proofs.LeafLemmas.{same_leaves}
 
 -- ---- tests
 

@@ -8,9 +8,9 @@ use Rattle.mon_topo.specs.HeldHistories.{first_histories, AreHeld}
 use Rattle.mon_value.specs.declared.histories.Histories.{Histories}
 use Rattle.mon_value.specs.declared.positions.FoundDown.{FoundDown}
 use Rattle.typed_trees.specs.Nodes.{TypedTree}
-use Rattle.query_core.specs.Courses.{IsFoundBetween}
-use Rattle.query_core.specs.Traces.{AreWider, IsTraceBetween, Lengths, source_of}
-use Rattle.query_core.specs.declared.answers.Trace.{Trace}
+use Rattle.query_traces.specs.Founds.{IsFoundBetween}
+use Rattle.query_traces.specs.Traces.{AreWider, IsTraceBetween, Lengths, source_of}
+use Rattle.query_traces.specs.declared.answers.Trace.{Trace}
 use Rattle.run_theory.specs.Parts.{RanBehind, Each, Part, all_lines}
 use Rattle.run_theory.proofs.Marks.{all_behind}
 use Rattle.run_theory.proofs.Owned.{of_some}

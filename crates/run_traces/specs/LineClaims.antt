@@ -21,9 +21,9 @@ use Rattle.mon_value.specs.declared.rows.Row.{Row}
 use Rattle.mon_script.specs.declared.forms.LineForm.{LineForm}
 use Rattle.typed_trees.specs.Nodes.{TypedTree}
 use Rattle.typed_trees.specs.Meaning.{load}
-use Rattle.query_core.specs.Courses.{IsFoundBetween}
-use Rattle.query_core.specs.Traces.{IsBetween, IsFreshSince, IsTraceBetween, Lengths, source_of}
-use Rattle.query_core.specs.declared.answers.Trace.{Trace}
+use Rattle.query_traces.specs.Founds.{IsFoundBetween}
+use Rattle.query_traces.specs.Traces.{IsBetween, IsFreshSince, IsTraceBetween, Lengths, source_of}
+use Rattle.query_traces.specs.declared.answers.Trace.{Trace}
 use Rattle.query_texts.specs.TextTypes.{text_type}
 use Rattle.mon_points.specs.Records.{reads_of}
 use Rattle.mon_points.specs.declared.records.RowRead.{RowRead}

@@ -27,7 +27,7 @@ use Rattle.mon_script.specs.declared.forms.LineForm.{LineForm}
 use Rattle.mon_topo.specs.HeldHistories.{first_histories}
 use Rattle.mon_topo.specs.declared.zones.ZoneSpec.{ZoneSpec}
 use Rattle.mon_value.specs.Same.{same_series}
-use Rattle.query_core.specs.Traces.{Lengths}
+use Rattle.query_traces.specs.Traces.{Lengths}
 use Rattle.run_theory.specs.InPlace as theory
 use Rattle.mon_config.specs.declared.config.Config.{Config}
 use Rattle.run_traces.specs.LineAsks.{control_recovery, control_switch, leaf_of, Recovery, recovery_of, Switch, switch_of}

@@ -4,10 +4,10 @@ use Rattle.std.specs.List.{AllByRecursion, flat_map}
 use Rattle.mon_config.specs.declared.config.Config.{Config}
 use Rattle.mon_value.specs.declared.histories.Histories.{Histories}
 use Rattle.typed_trees.specs.Nodes.{TypedTree}
-use Rattle.query_core.specs.Courses.{IsFoundBetween}
-use Rattle.query_core.specs.Traces.{IsBetween, IsTraceBetween, cut_of, source_of, IsReadRightly}
+use Rattle.query_traces.specs.Founds.{IsFoundBetween}
+use Rattle.query_traces.specs.Traces.{IsBetween, IsTraceBetween, cut_of, source_of, IsReadRightly}
 use Rattle.typed_trees.specs.Meaning.{load}
-use Rattle.query_core.specs.declared.answers.Trace.{Trace}
+use Rattle.query_traces.specs.declared.answers.Trace.{Trace}
 use Rattle.query_texts.specs.TextTypes.{text_type, IsPlanOver, plan_type}
 use Rattle.mon_script.specs.declared.forms.LineForm.{LineForm}
 use Rattle.mon_value.specs.declared.positions.Leaf.{Leaf}

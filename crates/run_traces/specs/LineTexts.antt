@@ -20,8 +20,8 @@ use Rattle.typed_trees.specs.declared.explanations.OpWord.{OpWord}
 use Rattle.typed_trees.specs.declared.explanations.OpWord.TheVariants as word
 use Rattle.typed_trees.specs.declared.levels.Level.{Level}
 use Rattle.typed_trees.specs.declared.levels.Level.TheVariants as level
-use Rattle.query_core.specs.Traces.{source_of}
-use Rattle.query_core.specs.declared.answers.Trace.{Trace}
+use Rattle.query_traces.specs.Traces.{source_of}
+use Rattle.query_traces.specs.declared.answers.Trace.{Trace}
 use Rattle.query_texts.specs.TextTypes.{text_type}
 use Rattle.query_texts.specs.declared.faults.TextFault.{TextFault}
 use Rattle.range_cell.specs.declared.answers.WriteFault.{WriteFault}

@@ -12,7 +12,7 @@ ghost use Rattle.run_traces.specs.LineClaims.{AllRan, Finds, HasWritten, HaveGro
 ghost use Rattle.run_traces.specs.LineTexts.{line_text};
 ghost use Rattle.run_traces.specs.RanLines.{RanLine, acts, parts_of};
 
-use query_core::traces_stay;
+use query_traces::traces_stay;
 
 /// The parts of a script hold each line that does more than to begin a block or to end it, once and in order.
 pub fn parts_keep_the_lines()

@@ -3,7 +3,7 @@ use crate::fed_rows::FedRows;
 use mon_points::RowFault;
 use mon_value::{Founds, ListOf, Range, Slot};
 use mql_parse::ParseFault;
-use query_core::Trace;
+use query_traces::Trace;
 use range_cell::WriteFault;
 use standing::{Due, DueFault, StandingFault};
 use typed_trees::TypeFault;

@@ -41,24 +41,24 @@ use Rattle.owners.specs.Calls.{HasLooked}
 use Rattle.plan_split.proofs.PlanBuckets.{next_below}
 use Rattle.plan_split.specs.Meeting.{is_plan_met}
 use Rattle.query_core.proofs.AskLemmas.{root_below, slots_same, zone_below}
-use Rattle.query_core.proofs.SeenLemmas.{seen_told}
+use Rattle.query_traces.proofs.SeenLemmas.{seen_told}
 use Rattle.query_core.proofs.ToldAnswers.{can_read}
-use Rattle.query_core.specs.AskedPlaces.{IsThere}
+use Rattle.query_traces.specs.AskedPlaces.{IsThere}
 use Rattle.query_core.specs.Machine.{Query, new_query, slots_at, slots_of}
-use Rattle.query_core.specs.Mixtures.{typed_of}
+use Rattle.query_traces.specs.Rounds.{typed_of, QuerySetting}
 use Rattle.query_core.specs.Program.{ask_of}
-use Rattle.query_core.specs.SeenSights.{seen_of}
+use Rattle.query_traces.specs.SeenSights.{seen_of}
 use Rattle.query_core.specs.SentTold.{answer_sent}
-use Rattle.query_core.specs.Sessions as session
-use Rattle.query_core.specs.Sessions.{IsFoundSo, IsSeenSo, IsTrueAnswer, query_after, view_after}
-use Rattle.query_core.specs.Rounds.{QuerySetting}
+use Rattle.query_traces.specs.TrueAnswers as truth
+use Rattle.query_core.specs.Sessions.{query_after, view_after}
+use Rattle.query_traces.specs.TrueAnswers.{IsFoundSo, IsSeenSo, IsTrueAnswer}
 use Rattle.query_core.specs.Sides.{word_asked}
-use Rattle.query_core.specs.Traces.{IsBetween}
-use Rattle.query_core.specs.declared.asks.Ask.{Ask}
-use Rattle.query_core.specs.declared.asks.Ask.TheVariants as ask
-use Rattle.query_core.specs.declared.asks.Seen.{Seen}
-use Rattle.query_core.specs.declared.asks.Told.{Told}
-use Rattle.query_core.specs.declared.asks.Told.TheVariants as told
+use Rattle.query_traces.specs.Traces.{IsBetween}
+use Rattle.query_traces.specs.declared.asks.Ask.{Ask}
+use Rattle.query_traces.specs.declared.asks.Ask.TheVariants as ask
+use Rattle.query_traces.specs.declared.asks.Seen.{Seen}
+use Rattle.query_traces.specs.declared.asks.Told.{Told}
+use Rattle.query_traces.specs.declared.asks.Told.TheVariants as told
 use Rattle.query_core.specs.declared.stages.Stage.TheVariants as at
 use Rattle.raise_table.specs.Seats.{note}
 use Rattle.raise_table.specs.declared.views.Note.{Note}
@@ -203,7 +203,7 @@ module _ (store : Setting) (raise : RaiseIdentity) (setting : QuerySetting) (mom
 
     module _ (range : Range) where
       resolved_so : (found : Option SlotLeaf) → first_serving query.avoided (range_history later.seen range) ≡ found
-          → session.IsResolvedSo (view_of store now) (view_of store later) query.avoided range found
+          → truth.IsResolvedSo (view_of store now) (view_of store later) query.avoided range found
       resolved_so found first =
           let history = range_history later.seen range in
           record {
@@ -264,7 +264,7 @@ module _ (store : Setting) (raise : RaiseIdentity) (setting : QuerySetting) (mom
 
         met_so : (one : Visit) (found : Finds one) (cut : ℕ) (met : Bool) → cut ≡ length found.history
             → is_plan_met setting.plan (history_buckets store.buckets_of found.history) ≡ met
-            → session.is_met_at store setting moment (view_of store later) leaf cut ≡ met
+            → truth.is_met_at store setting moment (view_of store later) leaf cut ≡ met
         met_so one found cut met counted e =
             ap (λ (h : List Entry). is_plan_met setting.plan (history_buckets store.buckets_of h))
             (at_whole history cut (counted ∙ ap length (whole_is one found)) ∙ sym (whole_is one found)) ∙ e

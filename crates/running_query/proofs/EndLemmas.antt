@@ -20,23 +20,23 @@ use Rattle.mon_value.specs.declared.positions.Leaf.{Leaf}
 use Rattle.mon_value.specs.declared.positions.Range.{Range}
 use Rattle.mon_value.specs.declared.positions.SlotLeaf.{SlotLeaf}
 use Rattle.query_core.proofs.NamedDowns.{named_so, names_all, serve_on_named}
-use Rattle.query_core.specs.Askings.{IsAskedOf}
-use Rattle.query_core.specs.Answers.{IsAnsweredRightly, IsStoppedRightly}
-use Rattle.query_core.specs.Courses.{HasNoReplica}
+use Rattle.query_traces.specs.Askings.{IsAskedOf}
+use Rattle.query_traces.specs.Answers.{IsAnsweredRightly, IsStoppedRightly}
+use Rattle.query_traces.specs.Founds.{HasNoReplica}
 use Rattle.query_core.specs.Machine.{EndsSo, Query, new_query}
 use Rattle.query_core.specs.Orders.{ComeInOrder, ComeWholeInOrder, events_told, words_loaded}
 use Rattle.query_core.specs.Program.{ask_of}
 use Rattle.query_core.specs.SentTold.{sent_told}
 use Rattle.query_core.specs.Sessions as session
-use Rattle.query_core.specs.Rounds.{QuerySetting}
+use Rattle.query_traces.specs.Rounds.{QuerySetting}
 use Rattle.query_core.specs.ToldDowns.{EndNames, NamesAll, downs_told}
-use Rattle.query_core.specs.Traces.{found_leaves}
-use Rattle.query_core.specs.declared.answers.Answer.{Answer}
-use Rattle.query_core.specs.declared.answers.RoundFault.{RoundFault}
-use Rattle.query_core.specs.declared.answers.RoundFault.TheVariants as fault
-use Rattle.query_core.specs.declared.answers.Trace.{Trace}
-use Rattle.query_core.specs.declared.asks.Ask.{Ask}
-use Rattle.query_core.specs.declared.asks.Ask.TheVariants as ask
+use Rattle.query_traces.specs.Traces.{found_leaves}
+use Rattle.query_traces.specs.declared.answers.Answer.{Answer}
+use Rattle.query_traces.specs.declared.answers.RoundFault.{RoundFault}
+use Rattle.query_traces.specs.declared.answers.RoundFault.TheVariants as fault
+use Rattle.query_traces.specs.declared.answers.Trace.{Trace}
+use Rattle.query_traces.specs.declared.asks.Ask.{Ask}
+use Rattle.query_traces.specs.declared.asks.Ask.TheVariants as ask
 use Rattle.query_core.specs.declared.stages.Stage.{Stage}
 use Rattle.query_core.specs.declared.stages.Stage.TheVariants as at
 use Rattle.raise_table.specs.Tables.{RaiseIdentity}

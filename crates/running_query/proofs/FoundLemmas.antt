@@ -22,15 +22,16 @@ use Rattle.mon_value.specs.declared.positions.FoundDown.{FoundDown}
 use Rattle.mon_value.specs.declared.positions.Leaf.{Leaf}
 use Rattle.mon_value.specs.declared.positions.Range.{Range}
 use Rattle.mon_value.specs.declared.positions.RangeSlot.{RangeSlot}
-use Rattle.query_core.specs.Courses.{found_down}
+use Rattle.query_traces.specs.Founds.{found_down}
 use Rattle.query_core.specs.Machine.{Query, avoided_after, slots_at}
 use Rattle.query_core.specs.Program.{ask_of}
 use Rattle.query_core.specs.Sessions as session
-use Rattle.query_core.specs.Rounds.{QuerySetting}
+use Rattle.query_traces.specs.TrueAnswers as truth
+use Rattle.query_traces.specs.Rounds.{QuerySetting}
 use Rattle.query_core.specs.ToldDowns.{down_told, downs_told}
-use Rattle.query_core.specs.Traces.{found_leaves}
-use Rattle.query_core.specs.declared.asks.Told.{Told}
-use Rattle.query_core.specs.declared.asks.Told.TheVariants as told
+use Rattle.query_traces.specs.Traces.{found_leaves}
+use Rattle.query_traces.specs.declared.asks.Told.{Told}
+use Rattle.query_traces.specs.declared.asks.Told.TheVariants as told
 use Rattle.query_core.specs.declared.stages.Stage.{Stage}
 use Rattle.query_core.specs.declared.stages.Stage.TheVariants as at
 use Rattle.running_query.specs.Ends.{down_noted, downs_noted}
@@ -74,7 +75,7 @@ module _ (store : Setting) (setting : QuerySetting) (moment : ℤ) where
       (slots : List RangeSlot) where
     abbrev TrueAt : Stage → Told → Type 0
     TrueAt stage answer =
-        session.IsTrueAnswer store setting moment before after avoided slots (ask_of setting stage) answer
+        truth.IsTrueAnswer store setting moment before after avoided slots (ask_of setting stage) answer
 
     abbrev NotedAt : Stage → Told → Type 0
     NotedAt stage answer =
@@ -174,7 +175,7 @@ module _ (store : Setting) (setting : QuerySetting) (moment : ℤ) where
 
     module _ (before after : View) (within : AreWithin after.seen exit) (avoided : List Leaf) (slots : List RangeSlot)
       where
-        found_then : (leaf : Leaf) (cut : ℕ) (down : Bool) → session.IsFoundSo before after leaf cut down
+        found_then : (leaf : Leaf) (cut : ℕ) (down : Bool) → truth.IsFoundSo before after leaf cut down
             → is_down (take (length (leaf_history after.seen leaf)) (leaf_history exit leaf)) ≡ down
         found_then leaf cut down is =
             ap (λ (n : ℕ). is_down (take n (leaf_history exit leaf))) (sym is.whole)
@@ -183,7 +184,7 @@ module _ (store : Setting) (setting : QuerySetting) (moment : ℤ) where
             ∙ is.is
 
         one_noted : (stage : Stage) (answer : Told)
-            → session.IsTrueAnswer store setting moment before after avoided slots (ask_of setting stage) answer
+            → truth.IsTrueAnswer store setting moment before after avoided slots (ask_of setting stage) answer
             → downs_noted exit (lengths_of store (ask_of setting stage) after) ≡ down_told stage answer
         one_noted (at.Visiting course round visits leaf) (told.Down cut) is =
             noted_down leaf (length (leaf_history after.seen leaf)) (found_then leaf cut true is)

@@ -22,9 +22,9 @@ use Rattle.mon_value.specs.declared.histories.Histories.{Histories}
 use Rattle.mon_value.specs.declared.positions.Leaf.{Leaf}
 use Rattle.mon_value.specs.declared.positions.Range.{Range}
 use Rattle.owners.specs.Calls.{HasCalled}
-use Rattle.query_core.specs.SeenSights.{seen_of}
-use Rattle.query_core.specs.declared.asks.Seen.{Seen}
-use Rattle.query_core.specs.declared.asks.Told.TheVariants as told
+use Rattle.query_traces.specs.SeenSights.{seen_of}
+use Rattle.query_traces.specs.declared.asks.Seen.{Seen}
+use Rattle.query_traces.specs.declared.asks.Told.TheVariants as told
 use Rattle.raise_table.specs.Seats.{HasKnown, KnowsAsMuch, note}
 use Rattle.range_cell.specs.Calls.{HasMetRange}
 use Rattle.running_query.specs.Looks.{GoesOn}

@@ -20,21 +20,22 @@ use Rattle.mon_value.specs.declared.positions.Range.{Range}
 use Rattle.mon_value.specs.declared.positions.RangeSlot.{RangeSlot}
 use Rattle.mon_value.specs.declared.positions.SlotLeaf.{SlotLeaf}
 use Rattle.query_core.specs.Courses.{course_of, is_entered, left, with_found, with_next_zone, with_zone_answer}
-use Rattle.query_core.specs.Loadings.{is_whole, no_word, with_word}
-use Rattle.query_core.specs.Rounds.{read_at, unread_look, Round, next_range, round_of, with_slot, QuerySetting}
+use Rattle.query_traces.specs.Loadings.{is_whole, no_word, with_word}
+use Rattle.query_traces.specs.Rounds.{read_at, unread_look, Round, next_range, round_of, with_slot, QuerySetting}
 use Rattle.query_core.specs.Machine.{Query, avoided_after, slots_at}
 use Rattle.query_core.specs.Mixtures as mixing
 use Rattle.query_core.specs.Program as program
 use Rattle.query_core.specs.Program.{ask_of, after}
 use Rattle.query_core.specs.Sessions as session
-use Rattle.query_core.specs.Visits.{Visits, next_leaf, with_leaf_answer, with_look}
-use Rattle.query_core.specs.declared.answers.RoundFault.TheVariants as fault
-use Rattle.query_core.specs.declared.areas.Area.{Area}
-use Rattle.query_core.specs.declared.asks.Told.{Told}
-use Rattle.query_core.specs.declared.asks.Told.TheVariants as told
-use Rattle.query_core.specs.declared.asks.Ask.TheVariants as ask
+use Rattle.query_traces.specs.TrueAnswers as truth
+use Rattle.query_traces.specs.Visits.{Visits, next_leaf, with_leaf_answer, with_look}
+use Rattle.query_traces.specs.declared.answers.RoundFault.TheVariants as fault
+use Rattle.query_traces.specs.declared.areas.Area.{Area}
+use Rattle.query_traces.specs.declared.asks.Told.{Told}
+use Rattle.query_traces.specs.declared.asks.Told.TheVariants as told
+use Rattle.query_traces.specs.declared.asks.Ask.TheVariants as ask
 use Rattle.query_core.specs.declared.courses.Course.{Course}
-use Rattle.query_core.specs.declared.loadings.Loading.{Loading}
+use Rattle.query_traces.specs.declared.loadings.Loading.{Loading}
 use Rattle.query_core.specs.declared.stages.Stage.{Stage}
 use Rattle.query_core.specs.declared.stages.Stage.TheVariants as at
 use Rattle.running_query.specs.Notes.{lengths_of, lengths_told, range_number}
@@ -102,13 +103,13 @@ module _ (setting : QuerySetting) (range : Range) (named : List FoundDown) where
   module _ (store : Setting) (moment : ℤ) (before now : View) (avoided : List Leaf) (slots : List RangeSlot) where
     abbrev TrueAt : Stage → Told → Type 0
     TrueAt stage answer =
-        session.IsTrueAnswer store setting moment before now avoided slots (ask_of setting stage) answer
+        truth.IsTrueAnswer store setting moment before now avoided slots (ask_of setting stage) answer
 
     -- the range was asked of, and none of its replicas was found
     record CameWithout (stage : Stage) (answer : Told) : Type 0 where
       asks : ask_of setting stage ≡ ask.Resolve range
       tells : answer ≡ told.NoSlot
-      found : session.IsResolvedSo before now avoided range None
+      found : truth.IsResolvedSo before now avoided range None
 
     without : (stage : Stage) (answer : Told) → TrueAt stage answer
         → mixing.Settles setting (after setting stage answer) Without → CameWithout stage answer
@@ -138,7 +139,7 @@ module _ (setting : QuerySetting) (range : Range) (named : List FoundDown) where
         let same : one ≡ range = cc in record {
           asks = ap ask.Resolve same;
           tells = refl;
-          found = subst (λ (r : Range). session.IsResolvedSo before now avoided r None) same is;
+          found = subst (λ (r : Range). truth.IsResolvedSo before now avoided r None) same is;
         }
     without (at.Resolving course round one) (told.Down cut) is settles = absurd is
     without (at.Resolving course round one) (told.Unread cut) is settles = absurd is

@@ -10,12 +10,13 @@ use Rattle.mon_value.specs.declared.positions.RangeSlot.{RangeSlot}
 use Rattle.query_core.specs.Machine.{Query, slots_at}
 use Rattle.query_core.specs.Orders.{answer_words, events_told, words_loaded}
 use Rattle.query_core.specs.Program.{ask_of}
-use Rattle.query_core.specs.Rounds.{QuerySetting}
+use Rattle.query_traces.specs.Rounds.{QuerySetting}
 use Rattle.query_core.specs.Sessions as session
-use Rattle.query_core.specs.declared.asks.Ask.{Ask}
-use Rattle.query_core.specs.declared.asks.Ask.TheVariants as ask
-use Rattle.query_core.specs.declared.asks.Told.{Told}
-use Rattle.query_core.specs.declared.asks.Told.TheVariants as told
+use Rattle.query_traces.specs.TrueAnswers as truth
+use Rattle.query_traces.specs.declared.asks.Ask.{Ask}
+use Rattle.query_traces.specs.declared.asks.Ask.TheVariants as ask
+use Rattle.query_traces.specs.declared.asks.Told.{Told}
+use Rattle.query_traces.specs.declared.asks.Told.TheVariants as told
 use Rattle.raise_table.specs.declared.views.Note.{Note}
 use Rattle.running_query.specs.InOrder.{AreNotedAs}
 use Rattle.running_query.specs.Notes.{lengths_of, lengths_told, words_of, words_told}
@@ -26,7 +27,7 @@ bits_of = λ (word : Note). word.bits
 module _ (store : Setting) (setting : QuerySetting) (moment : ℤ) where
   module _ (before after : View) (avoided : List Leaf) (slots : List RangeSlot) where
     abbrev TrueTo : Ask → Told → Type 0
-    TrueTo asked answer = session.IsTrueAnswer store setting moment before after avoided slots asked answer
+    TrueTo asked answer = truth.IsTrueAnswer store setting moment before after avoided slots asked answer
 
     -- one look more in front
     one_noted : (asked : Ask) (answer : Told) → TrueTo asked answer → (asks : List Ask) (words : List Note)

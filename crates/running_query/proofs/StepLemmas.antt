@@ -7,15 +7,16 @@ use Rattle.know.specs.Knowledge.{Knowledge}
 use Rattle.mon_topo.specs.Settings.{Setting}
 use Rattle.mon_topo.specs.Views.{IsViewWithin, View}
 use Rattle.query_core.proofs.ToldAnswers.{all_there, may_be_told}
-use Rattle.query_core.specs.AskedPlaces.{IsThere}
+use Rattle.query_traces.specs.AskedPlaces.{IsThere}
 use Rattle.query_core.specs.Machine.{Query, avoided_after, new_query, slots_at}
 use Rattle.query_core.specs.Mixtures.{LeadsTo, MayBeTold}
 use Rattle.query_core.specs.Program.{ask_of}
 use Rattle.query_core.specs.SentTold.{answer_sent, sent_told}
-use Rattle.query_core.specs.Sessions.{Event, IsLicensed, IsLicensedEvent, IsTrueAnswer, query_after, told_then}
+use Rattle.query_core.specs.Sessions.{Event, IsLicensed, IsLicensedEvent, query_after, told_then}
+use Rattle.query_traces.specs.TrueAnswers.{IsTrueAnswer}
 use Rattle.query_core.specs.Sessions.{view_after}
-use Rattle.query_core.specs.Rounds.{QuerySetting}
-use Rattle.query_core.specs.declared.asks.Told.{Told}
+use Rattle.query_traces.specs.Rounds.{QuerySetting}
+use Rattle.query_traces.specs.declared.asks.Told.{Told}
 use Rattle.raise_table.specs.Tables.{RaiseIdentity}
 use Rattle.running_query.proofs.GoingLemmas.{goes_through, handed_more}
 use Rattle.running_query.proofs.ViewLemmas.{grown}

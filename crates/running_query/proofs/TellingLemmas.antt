@@ -15,7 +15,7 @@ use Rattle.mon_value.specs.declared.positions.Leaf.{Leaf}
 use Rattle.mon_value.specs.declared.positions.RangeSlot.{RangeSlot}
 use Rattle.typed_trees.specs.declared.plans.Plan.{Plan}
 use Rattle.owners.specs.Calls.{HasLooked}
-use Rattle.query_core.specs.declared.asks.Told.{Told}
+use Rattle.query_traces.specs.declared.asks.Told.{Told}
 use Rattle.running_query.proofs.GoingLemmas.{called_goes}
 use Rattle.running_query.specs.Looks.{GoesOn}
 use Rattle.running_query.specs.Telling.{LooksSo, told_is}

@@ -6,14 +6,15 @@ use Rattle.know.specs.Sound.{IsSound}
 use Rattle.mon_topo.specs.HeldHistories.{first_histories, AreWithin}
 use Rattle.mon_topo.specs.Settings.{Setting}
 use Rattle.mon_topo.specs.Zones.{leaf_counts, ranges_in}
-use Rattle.query_core.specs.Askings.{IsAskedOf}
+use Rattle.query_traces.specs.Askings.{IsAskedOf}
 use Rattle.query_core.specs.Machine.{Query, new_query, slots_at}
 use Rattle.query_core.specs.Program.{ask_of}
 use Rattle.query_core.specs.SentTold.{answer_sent, sent_told}
-use Rattle.query_core.specs.Sessions.{Event, IsLicensed, IsTrueAnswer, query_after, view_after}
-use Rattle.query_core.specs.Rounds.{QuerySetting}
-use Rattle.query_core.specs.declared.asks.Ask.{Ask}
-use Rattle.query_core.specs.declared.asks.Told.{Told}
+use Rattle.query_core.specs.Sessions.{Event, IsLicensed, query_after, view_after}
+use Rattle.query_traces.specs.TrueAnswers.{IsTrueAnswer}
+use Rattle.query_traces.specs.Rounds.{QuerySetting}
+use Rattle.query_traces.specs.declared.asks.Ask.{Ask}
+use Rattle.query_traces.specs.declared.asks.Told.{Told}
 use Rattle.raise_table.specs.Tables.{RaiseIdentity}
 use Rattle.running_query.specs.Looks.{GoesOn, view_of}
 use Rattle.running_query.specs.Notes.{HandsOut, IsHanded, lengths_of, lengths_told, words_of, words_told}

@@ -6,11 +6,11 @@ use Rattle.know.specs.Knowledge.{Knowledge}
 use Rattle.mon_hints.specs.declared.places.Place.TheVariants as place
 use Rattle.mon_topo.specs.Settings.{Setting}
 use Rattle.query_core.specs.Orders.{ComeInOrder, ComeWholeInOrder}
-use Rattle.query_core.specs.Rounds.{QuerySetting}
-use Rattle.query_core.specs.declared.answers.Answer.{Answer}
-use Rattle.query_core.specs.declared.answers.RoundFault.{RoundFault}
-use Rattle.query_core.specs.declared.asks.Ask.{Ask}
-use Rattle.query_core.specs.declared.asks.Ask.TheVariants as ask
+use Rattle.query_traces.specs.Rounds.{QuerySetting}
+use Rattle.query_traces.specs.declared.answers.Answer.{Answer}
+use Rattle.query_traces.specs.declared.answers.RoundFault.{RoundFault}
+use Rattle.query_traces.specs.declared.asks.Ask.{Ask}
+use Rattle.query_traces.specs.declared.asks.Ask.TheVariants as ask
 use Rattle.raise_table.specs.Seats.{note}
 use Rattle.raise_table.specs.declared.views.Note.{Note}
 use Rattle.running_query.specs.Notes.{range_number}

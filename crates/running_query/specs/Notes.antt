@@ -12,11 +12,11 @@ use Rattle.mon_value.specs.declared.positions.Range.{Range}
 use Rattle.query_core.specs.Machine.{Query}
 use Rattle.query_core.specs.Program.{ask_of}
 use Rattle.query_core.specs.Sessions.{Event, told_then}
-use Rattle.query_core.specs.Rounds.{QuerySetting}
-use Rattle.query_core.specs.declared.asks.Ask.{Ask}
-use Rattle.query_core.specs.declared.asks.Ask.TheVariants as ask
-use Rattle.query_core.specs.declared.asks.Told.{Told}
-use Rattle.query_core.specs.declared.asks.Told.TheVariants as told
+use Rattle.query_traces.specs.Rounds.{QuerySetting}
+use Rattle.query_traces.specs.declared.asks.Ask.{Ask}
+use Rattle.query_traces.specs.declared.asks.Ask.TheVariants as ask
+use Rattle.query_traces.specs.declared.asks.Told.{Told}
+use Rattle.query_traces.specs.declared.asks.Told.TheVariants as told
 use Rattle.raise_table.specs.Seats.{note}
 use Rattle.raise_table.specs.declared.views.Note.{Note}
 

@@ -16,9 +16,9 @@ use Rattle.mon_value.specs.declared.positions.Range.{Range}
 use Rattle.mon_value.specs.declared.positions.RangeSlot.{RangeSlot}
 use Rattle.mon_value.specs.declared.positions.SlotLeaf.{SlotLeaf}
 use Rattle.typed_trees.specs.declared.plans.Plan.{Plan}
-use Rattle.query_core.specs.SeenSights.{seen_of}
-use Rattle.query_core.specs.declared.asks.Told.{Told}
-use Rattle.query_core.specs.declared.asks.Told.TheVariants as told
+use Rattle.query_traces.specs.SeenSights.{seen_of}
+use Rattle.query_traces.specs.declared.asks.Told.{Told}
+use Rattle.query_traces.specs.declared.asks.Told.TheVariants as told
 use Rattle.raise_table.specs.Seats.{HasKnown, note}
 use Rattle.range_cell.specs.Calls.{HasResolved}
 

@@ -2,21 +2,21 @@
 use Rattle.std.proofs.Common.{◌≡◌, ◌∙◌, ◌≤ℤ◌, ℕ, pos, sym, ap, subst}
 use Rattle.std.specs.Prelude.{◌≢◌, Some}
 use Rattle.mon_config.specs.declared.config.Config.{Config}
-use Rattle.query_core.specs.AskedPlaces.{IsThere}
-use Rattle.query_core.specs.Askings.{IsAskedOf}
+use Rattle.query_traces.specs.AskedPlaces.{IsThere}
+use Rattle.query_traces.specs.Askings.{IsAskedOf}
 use Rattle.query_core.specs.Machine.{Query, slots_at}
 use Rattle.query_core.specs.Mixtures.{MayBeTold}
 use Rattle.query_core.specs.Program.{ask_of}
-use Rattle.query_core.specs.Sessions.{IsSeenSo}
-use Rattle.query_core.specs.Rounds.{QuerySetting}
-use Rattle.query_core.specs.declared.asks.Ask.{Ask}
-use Rattle.query_core.specs.declared.asks.Told.{Told}
+use Rattle.query_traces.specs.TrueAnswers.{IsSeenSo}
+use Rattle.query_traces.specs.Rounds.{QuerySetting}
+use Rattle.query_traces.specs.declared.asks.Ask.{Ask}
+use Rattle.query_traces.specs.declared.asks.Told.{Told}
 use Rattle.core_theory.proofs.ReaderAnswers.{reader_may, reader_there}
-use Rattle.query_core.proofs.SeenLemmas.{seen_told}
+use Rattle.query_traces.proofs.SeenLemmas.{seen_told}
 use Rattle.core_store.specs.Agreements.{AreShared}
 use Rattle.core_theory.specs.Core.{Core, IsTold, Reader, asked_now, query_now, view_then, world_then}
 use Rattle.core_theory.specs.Licensed.{IsReader}
-use Rattle.query_core.specs.SeenSights.{seen_of}
+use Rattle.query_traces.specs.SeenSights.{seen_of}
 use Rattle.weave_core.specs.QueryTurns.{IsAnswered, IsAsking, QueryWaits}
 use Rattle.mon_topo.specs.Sights.{sight_of}
 use Rattle.weave_core.specs.States.{holder_for_query}

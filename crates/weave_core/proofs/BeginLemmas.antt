@@ -29,7 +29,7 @@ use Rattle.typed_trees.specs.declared.levels.Level.TheVariants as level
 use Rattle.typed_trees.specs.declared.nodes.Node.TheVariants as node
 use Rattle.typed_trees.specs.declared.plans.Plan.{Plan}
 use Rattle.query_core.specs.Machine.{new_query}
-use Rattle.query_core.specs.Rounds.{QuerySetting}
+use Rattle.query_traces.specs.Rounds.{QuerySetting}
 use Rattle.write_core.specs.Deeds.{IsUnused, acks_by, puts_by}
 use Rattle.write_core.specs.Invariant.{IsRangeSettled}
 use Rattle.mon_topo.specs.Views.{IsSound}

@@ -15,8 +15,8 @@ use Rattle.mon_value.specs.declared.rows.Row.{Row}
 use Rattle.typed_trees.specs.Nodes.{TypedTree}
 use Rattle.query_core.specs.Machine.{Query, new_query}
 use Rattle.query_core.specs.Program as query
-use Rattle.query_core.specs.Rounds.{QuerySetting}
-use Rattle.query_core.specs.declared.asks.Ask.TheVariants as query_ask
+use Rattle.query_traces.specs.Rounds.{QuerySetting}
+use Rattle.query_traces.specs.declared.asks.Ask.TheVariants as query_ask
 use Rattle.query_core.specs.declared.stages.Stage.{Stage}
 use Rattle.query_texts.specs.declared.faults.TextFault.{TextFault}
 use Rattle.core_theory.proofs.CoreLemmas.{stays_woven}

@@ -13,13 +13,12 @@ use Rattle.mon_value.specs.declared.positions.Leaf.{Leaf}
 use Rattle.mon_value.specs.declared.positions.RangeSlot.{RangeSlot}
 use Rattle.query_core.proofs.AskLemmas.{slots_same}
 use Rattle.query_core.specs.Machine.{Query, slots_at, slots_of}
-use Rattle.query_core.specs.Mixtures.{typed_of}
+use Rattle.query_traces.specs.Rounds.{typed_of, QuerySetting}
 use Rattle.query_core.specs.Program.{ask_of}
 use Rattle.mon_meaning.specs.ReadableSlots.{CanBeRead}
-use Rattle.query_core.specs.Rounds.{QuerySetting}
-use Rattle.query_core.specs.declared.asks.Ask.{Ask}
-use Rattle.query_core.specs.declared.asks.Ask.TheVariants as ask
-use Rattle.query_core.specs.declared.asks.Told.{Told}
+use Rattle.query_traces.specs.declared.asks.Ask.{Ask}
+use Rattle.query_traces.specs.declared.asks.Ask.TheVariants as ask
+use Rattle.query_traces.specs.declared.asks.Told.{Told}
 use Rattle.query_core.specs.declared.stages.Stage.TheVariants as at
 use Rattle.core_store.proofs.MeetingLemmas.{leaf_met}
 use Rattle.weave_core.proofs.QuerySeats.{same_world, shared_leaf, visited_same}

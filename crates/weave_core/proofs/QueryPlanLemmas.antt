@@ -2,7 +2,7 @@
 use Rattle.std.proofs.Common.{◌≡◌, ℕ, List, Ok, sym, subst, refl}
 use Rattle.mon_config.specs.declared.config.Config.{Config}
 use Rattle.typed_trees.specs.declared.plans.Plan.{Plan}
-use Rattle.query_core.specs.Rounds.{areas_of, QuerySetting}
+use Rattle.query_traces.specs.Rounds.{areas_of, QuerySetting}
 use Rattle.query_core.specs.Machine.{Query, new_query}
 use Rattle.query_texts.specs.TextTypes.{IsPlanOver, plan_type, text_type}
 use Rattle.core_store.specs.Agreements.{IsServed}

@@ -8,7 +8,7 @@ use Rattle.mon_topo.specs.declared.sights.Sight.{Sight}
 use Rattle.query_core.specs.Machine.{Query}
 use Rattle.query_core.specs.Program.{ask_of}
 use Rattle.query_core.specs.Sides.{word_asked}
-use Rattle.query_core.specs.declared.asks.Told.{Told}
+use Rattle.query_traces.specs.declared.asks.Told.{Told}
 use Rattle.core_theory.specs.Core.{Core}
 use Rattle.weave_core.proofs.WordAnswers.{root_answered, root_word_there, zone_answered, zone_there}
 use Rattle.core_store.specs.HintWords.{HasWord, hint_word_at}

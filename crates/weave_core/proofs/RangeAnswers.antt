@@ -8,9 +8,9 @@ use Rattle.mon_value.specs.declared.positions.SlotLeaf.{SlotLeaf}
 use Rattle.query_core.specs.Machine.{Query, slots_at}
 use Rattle.query_core.specs.Program.{ask_of}
 use Rattle.mon_topo.specs.RangeHistories.{first_serving}
-use Rattle.query_core.specs.declared.asks.Ask.{Ask}
-use Rattle.query_core.specs.declared.asks.Ask.TheVariants as ask
-use Rattle.query_core.specs.declared.asks.Told.{Told}
+use Rattle.query_traces.specs.declared.asks.Ask.{Ask}
+use Rattle.query_traces.specs.declared.asks.Ask.TheVariants as ask
+use Rattle.query_traces.specs.declared.asks.Told.{Told}
 use Rattle.core_store.proofs.MeetingLemmas.{range_met}
 use Rattle.weave_core.proofs.QuerySeats.{resolved_same, same_world, shared_range}
 use Rattle.core_store.proofs.SeatLemmas.{parts_alike}

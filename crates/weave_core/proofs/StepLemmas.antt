@@ -2,10 +2,10 @@
 use Rattle.std.proofs.Common.{◌≡◌, ◌≢◌, ℕ, ℤ, Bool, List, [], ◌∷◌, refl, sym, subst, inl, inr}
 use Rattle.mon_topo.specs.Settings.{Setting}
 use Rattle.mon_value.specs.declared.positions.Leaf.{Leaf}
-use Rattle.query_core.specs.Rounds.{QuerySetting}
-use Rattle.query_core.specs.declared.asks.Ask.{Ask}
-use Rattle.query_core.specs.declared.asks.Ask.TheVariants as ask
-use Rattle.query_core.specs.declared.asks.Told.{Told}
+use Rattle.query_traces.specs.Rounds.{QuerySetting}
+use Rattle.query_traces.specs.declared.asks.Ask.{Ask}
+use Rattle.query_traces.specs.declared.asks.Ask.TheVariants as ask
+use Rattle.query_traces.specs.declared.asks.Told.{Told}
 use Rattle.query_core.specs.declared.stages.Stage.{Stage as QueryStage}
 use Rattle.core_theory.proofs.CoreLemmas.{stays_woven}
 use Rattle.core_store.proofs.CopyHolderLemmas.{copy_held}

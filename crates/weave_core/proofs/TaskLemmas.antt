@@ -6,9 +6,9 @@ use Rattle.std.specs.Option.{option_copied}
 use Rattle.mon_config.specs.declared.config.Config.{Config}
 use Rattle.query_core.specs.Machine.{Query}
 use Rattle.query_core.specs.Program as query
-use Rattle.query_core.specs.Rounds.{QuerySetting}
-use Rattle.query_core.specs.declared.asks.Ask.{Ask}
-use Rattle.query_core.specs.declared.asks.Ask.TheVariants as query_ask
+use Rattle.query_traces.specs.Rounds.{QuerySetting}
+use Rattle.query_traces.specs.declared.asks.Ask.{Ask}
+use Rattle.query_traces.specs.declared.asks.Ask.TheVariants as query_ask
 use Rattle.weave_core.specs.ActorAgreements.{Agrees, IsActorSo, IsRecovering, IsTaskSo, IsQuerying, IsWriting}
 use Rattle.weave_core.specs.ActorAgreements.{actor_numbered}
 use Rattle.weave_core.specs.ActorSteps.{IsIn}

@@ -6,10 +6,10 @@ use Rattle.mon_topo.specs.HeldHistories.{AreWithin, first_histories}
 use Rattle.mon_topo.specs.Settings.{Setting}
 use Rattle.mon_topo.specs.Zones.{leaves_in}
 use Rattle.mon_value.specs.declared.positions.Leaf.{Leaf}
-use Rattle.query_core.specs.Askings.{IsAskedOf}
+use Rattle.query_traces.specs.Askings.{IsAskedOf}
 use Rattle.query_core.specs.Machine.{new_query}
 use Rattle.query_core.specs.Program as query
-use Rattle.query_core.specs.declared.asks.Ask.TheVariants as query_ask
+use Rattle.query_traces.specs.declared.asks.Ask.TheVariants as query_ask
 use Rattle.core_store.specs.Agreements.{AreShared, first_view}
 use Rattle.core_theory.specs.Core.{Reader, asked_now, query_now}
 use Rattle.core_store.specs.Holders.{AreHolders}

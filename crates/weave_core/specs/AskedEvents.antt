@@ -1,7 +1,7 @@
 -- The events that actors ask for.
 use Rattle.std.specs.Prelude.{Option, Some, None}
-use Rattle.query_core.specs.declared.asks.Ask.{Ask}
-use Rattle.query_core.specs.declared.asks.Ask.TheVariants as ask
+use Rattle.query_traces.specs.declared.asks.Ask.{Ask}
+use Rattle.query_traces.specs.declared.asks.Ask.TheVariants as ask
 use Rattle.schedule_lines.specs.declared.events.Event.{Event}
 use Rattle.schedule_lines.specs.declared.events.Event.TheVariants as event
 use Rattle.write_core.specs.declared.asks.WriteAsk.{WriteAsk}

@@ -9,10 +9,9 @@ use Rattle.mon_value.specs.declared.positions.Range.{Range}
 use Rattle.mon_value.specs.declared.rows.Row.{Row}
 use Rattle.typed_trees.specs.Nodes.{TypedTree}
 use Rattle.plan_split.specs.FetchFormulas.{plan_formulas}
-use Rattle.query_core.specs.Askings.{IsAskedOf}
+use Rattle.query_traces.specs.Askings.{IsAskedOf}
 use Rattle.query_core.specs.Machine.{new_query}
-use Rattle.query_core.specs.Mixtures.{typed_of}
-use Rattle.query_core.specs.Rounds.{QuerySetting}
+use Rattle.query_traces.specs.Rounds.{typed_of, QuerySetting}
 use Rattle.core_theory.specs.Core.{CanCome, CoreEvent, Happens, Hears, Reader}
 use Rattle.query_texts.specs.TextTypes.{text_type}
 use Rattle.query_texts.specs.declared.faults.TextFault.{TextFault}

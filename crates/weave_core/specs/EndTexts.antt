@@ -9,9 +9,9 @@ use Rattle.mon_topo.specs.Zones.{down_text}
 use Rattle.mon_topo.specs.declared.zones.ZoneSpec.{ZoneSpec}
 use Rattle.mon_value.specs.declared.positions.Leaf.{Leaf}
 use Rattle.mon_value.specs.declared.positions.Range.{Range}
-use Rattle.query_core.specs.FaultTexts.{round_fault_text}
-use Rattle.query_core.specs.declared.answers.Answer.{Answer}
-use Rattle.query_core.specs.declared.answers.RoundFault.{RoundFault}
+use Rattle.query_traces.specs.FaultTexts.{round_fault_text}
+use Rattle.query_traces.specs.declared.answers.Answer.{Answer}
+use Rattle.query_traces.specs.declared.answers.RoundFault.{RoundFault}
 use Rattle.query_texts.specs.TextTypes.{text_fault_text}
 use Rattle.query_texts.specs.declared.faults.TextFault.{TextFault}
 use Rattle.write_core.specs.Events.{SwitchTold, SwitchesSpent, WasDownAlready, WasSwitched, WasUpAlready}

@@ -12,11 +12,11 @@ use Rattle.mon_value.specs.declared.positions.SlotLeaf.{SlotLeaf}
 use Rattle.typed_trees.specs.Nodes.{typed_tree}
 use Rattle.typed_trees.specs.declared.plans.Plan.{Plan}
 use Rattle.query_core.specs.Machine.{slots_of}
-use Rattle.query_core.specs.SeenSights.{seen_of}
+use Rattle.query_traces.specs.SeenSights.{seen_of}
 use Rattle.mon_meaning.specs.ReadableSlots.{CanBeRead}
 use Rattle.mon_topo.specs.RangeHistories.{first_serving}
-use Rattle.query_core.specs.declared.asks.Told.{Told}
-use Rattle.query_core.specs.declared.asks.Told.TheVariants as told
+use Rattle.query_traces.specs.declared.asks.Told.{Told}
+use Rattle.query_traces.specs.declared.asks.Told.TheVariants as told
 use Rattle.core_store.specs.Meetings.{sight_at_leaf, sight_at_range}
 use Rattle.mon_topo.specs.Sights.{AreAlike}
 use Rattle.core_store.specs.WriteEvents.{ChangesLeaf, ChangesRange, IsHeldFrom, StaysThere}

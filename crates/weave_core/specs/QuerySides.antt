@@ -4,8 +4,8 @@ use Rattle.mon_config.specs.declared.config.Config.{Config}
 use Rattle.mon_topo.specs.declared.sights.Sight.{Sight}
 use Rattle.query_core.specs.Machine.{Query}
 use Rattle.query_core.specs.Program.{ask_of}
-use Rattle.query_core.specs.declared.asks.Ask.{Ask}
-use Rattle.query_core.specs.declared.asks.Told.{Told}
+use Rattle.query_traces.specs.declared.asks.Ask.{Ask}
+use Rattle.query_traces.specs.declared.asks.Told.{Told}
 use Rattle.core_theory.specs.Core.{Core}
 use Rattle.weave_core.specs.QueryTurns.{AnswersSo, IsAskedSomewhere, IsAsking}
 use Rattle.core_store.specs.Agreements.{store_of}

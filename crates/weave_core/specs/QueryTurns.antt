@@ -4,10 +4,10 @@ use Rattle.mon_config.specs.declared.config.Config.{Config}
 use Rattle.query_core.specs.Machine.{Query, avoided_after, slots_at}
 use Rattle.query_core.specs.Mixtures.{Settles}
 use Rattle.query_core.specs.Program.{after, ask_of}
-use Rattle.query_core.specs.declared.answers.Answer.{Answer}
-use Rattle.query_core.specs.declared.answers.RoundFault.{RoundFault}
-use Rattle.query_core.specs.declared.asks.Ask.TheVariants.{Finished}
-use Rattle.query_core.specs.declared.asks.Told.{Told}
+use Rattle.query_traces.specs.declared.answers.Answer.{Answer}
+use Rattle.query_traces.specs.declared.answers.RoundFault.{RoundFault}
+use Rattle.query_traces.specs.declared.asks.Ask.TheVariants.{Finished}
+use Rattle.query_traces.specs.declared.asks.Told.{Told}
 use Rattle.query_core.specs.declared.stages.Stage.{Stage}
 use Rattle.query_core.specs.declared.stages.Stage.TheVariants as at
 use Rattle.weave_core.specs.ActorAgreements.{IsReaderSo}

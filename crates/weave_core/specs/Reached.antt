@@ -3,13 +3,13 @@ use Rattle.std.specs.Prelude.{ℕ, ◌≡◌, List, [], ◌∷◌, None, Ok, Err
 use Rattle.mon_config.specs.declared.config.Config.{Config}
 use Rattle.mon_value.specs.declared.positions.FoundDown.{FoundDown}
 use Rattle.mon_value.specs.declared.positions.Range.{Range}
-use Rattle.query_core.specs.Answers.{IsAnsweredRightly, IsStoppedRightly}
-use Rattle.query_core.specs.Courses.{HasNoReplica}
+use Rattle.query_traces.specs.Answers.{IsAnsweredRightly, IsStoppedRightly}
+use Rattle.query_traces.specs.Founds.{HasNoReplica}
 use Rattle.query_core.specs.Machine.{new_query}
 use Rattle.query_core.specs.ToldDowns.{downs_told}
-use Rattle.query_core.specs.declared.answers.Answer.{Answer}
-use Rattle.query_core.specs.declared.answers.RoundFault.TheVariants as fault
-use Rattle.query_core.specs.declared.answers.Trace.{Trace}
+use Rattle.query_traces.specs.declared.answers.Answer.{Answer}
+use Rattle.query_traces.specs.declared.answers.RoundFault.TheVariants as fault
+use Rattle.query_traces.specs.declared.answers.Trace.{Trace}
 use Rattle.query_core.specs.declared.stages.Stage.TheVariants as at
 use Rattle.core_theory.specs.Core.{Reader, query_now}
 use Rattle.schedule_lines.specs.LawfulLines.{IsLawfulForm}

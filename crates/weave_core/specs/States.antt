@@ -2,8 +2,8 @@
 use Rattle.std.specs.Prelude.{ℕ, Bool, true, false, not, is_some, List, Option, Some, None, if◌then◌else◌}
 use Rattle.mon_topo.specs.Settings.{Setting}
 use Rattle.mon_value.specs.declared.positions.Leaf.{Leaf}
-use Rattle.query_core.specs.declared.asks.Ask.{Ask}
-use Rattle.query_core.specs.declared.asks.Ask.TheVariants as ask
+use Rattle.query_traces.specs.declared.asks.Ask.{Ask}
+use Rattle.query_traces.specs.declared.asks.Ask.TheVariants as ask
 use Rattle.core_theory.specs.Core.{Core, Reader, asked_now}
 use Rattle.core_store.specs.NextAsks.{copy_asks, holder_for_actor, recovers_begun, write_asks, writes_begun}
 use Rattle.weave_core.specs.AskedEvents.{event_of_copy, event_of_query, event_of_write}

@@ -3,7 +3,7 @@ ghost use Rattle.std.specs.Prelude.{◌≡◌, ◌≢◌, ℕ, IfOk};
 ghost use Rattle.mon_config.specs.declared.config.Config.{Config as ConfigOf};
 ghost use Rattle.query_core.specs.Mixtures.{MayBeTold};
 ghost use Rattle.query_core.specs.Program.{ask_of};
-ghost use Rattle.query_core.specs.declared.asks.Ask.TheVariants.{Finished};
+ghost use Rattle.query_traces.specs.declared.asks.Ask.TheVariants.{Finished};
 ghost use Rattle.core_theory.specs.Core.{Core};
 ghost use Rattle.weave_core.specs.QuerySides.{IsAskedThere, TellsThere};
 ghost use Rattle.weave_core.specs.QueryTurns.{IsAskedSomewhere, IsAsking, IsTurnOf, QueriesSo, TurnsBy};

@@ -1,7 +1,7 @@
 // What an actor prints that ends.
 ghost use Rattle.std.specs.Prelude.{◌≡◌, IfOk, string_bytes};
 ghost use Rattle.mon_script.specs.Controls.{control_refusal_text, source_down_text};
-ghost use Rattle.query_core.specs.FaultTexts.{round_fault_text};
+ghost use Rattle.query_traces.specs.FaultTexts.{round_fault_text};
 ghost use Rattle.weave_core.specs.EndTexts as spec;
 ghost use Rattle.core_store.specs.Switches.{switch_told};
 ghost use Rattle.write_core.specs.RangeAnswers.{refused_text};

@@ -1,7 +1,7 @@
 use Rattle.std.specs.Prelude.{Ok, Err}
-use Rattle.query_core.specs.Answers.{IsAnsweredRightly, IsStoppedRightly}
-use Rattle.query_core.specs.Courses.{HasNoReplica}
-use Rattle.query_core.specs.declared.answers.RoundFault.TheVariants.{NoReplica, StepLimit}
+use Rattle.query_traces.specs.Answers.{IsAnsweredRightly, IsStoppedRightly}
+use Rattle.query_traces.specs.Founds.{HasNoReplica}
+use Rattle.query_traces.specs.declared.answers.RoundFault.TheVariants.{NoReplica, StepLimit}
 use Rattle.query_core.specs.declared.stages.Stage.TheVariants.{Ended}
 use Rattle.core_theory.proofs.ReaderLemmas.{as_new, seen_now, stage_is}
 use Rattle.core_theory.proofs.laws.queries_answer_rightly.Goals as goal

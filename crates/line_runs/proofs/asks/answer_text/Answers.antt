@@ -10,7 +10,7 @@ use Rattle.mon_script.specs.declared.questions.How.TheVariants as asked
 use Rattle.mon_config.specs.declared.config.Config.{Config}
 use Rattle.mon_table.specs.Tables.{printed_table}
 use Rattle.mon_topo.specs.Zones.{leaves_in}
-use Rattle.query_core.specs.Traces.{source_of}
+use Rattle.query_traces.specs.Traces.{source_of}
 use Rattle.query_texts.specs.TextTypes.{text_type}
 use Rattle.run_traces.specs.LineTexts.{leaf_lines, line_text, op_line}
 use Rattle.run_traces.specs.declared.traces.LineTrace.TheVariants as came

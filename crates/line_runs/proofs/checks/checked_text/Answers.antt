@@ -3,7 +3,7 @@ use Rattle.line_runs.specs.Questions.{CanBeChecked, meant_text}
 use Rattle.mon_config.specs.Configs.{IsLimited}
 use Rattle.mon_config.specs.declared.config.Config.{Config}
 use Rattle.mon_value.specs.declared.rows.Row.{Row}
-use Rattle.query_core.specs.Traces.{source_of}
+use Rattle.query_traces.specs.Traces.{source_of}
 use Rattle.query_texts.specs.TextTypes.{text_type}
 use Rattle.line_runs.proofs.checks.checked_text.Goals as goal
 

@@ -1,7 +1,7 @@
 -- those that were found so far
 use Rattle.std.proofs.Common.{◌≡◌, filter, take}
 use Rattle.mon_value.specs.declared.positions.FoundDown.{FoundDown}
-use Rattle.query_core.specs.Rounds.{has_leaf}
+use Rattle.query_traces.specs.Rounds.{has_leaf}
 use Rattle.query_core.proofs.courses.founds_in.Given as goal
 
 abbrev pub invariant-loop-found : goal.invariant-loop-found

@@ -1,7 +1,7 @@
 use Rattle.std.proofs.Common.{rules, ◌≡◌, ◌∙◌, ℤ, to_z, of_z, w64, refl, sym, subst}
 use Rattle.query_core.specs.Program.{ask_of}
-use Rattle.query_core.specs.Rounds.{QuerySetting}
-use Rattle.query_core.specs.declared.asks.Ask.TheVariants as ask
+use Rattle.query_traces.specs.Rounds.{QuerySetting}
+use Rattle.query_traces.specs.declared.asks.Ask.TheVariants as ask
 use Rattle.running_query.proofs.EndLemmas.{AreEndsRight, begun, ends_rightly}
 use Rattle.running_query.proofs.FunctionLemmas.{on_at}
 use Rattle.running_query.proofs.GoingLemmas.{goes_through}

@@ -1,7 +1,7 @@
 use Rattle.std.proofs.Common.{rules, ◌≡◌, ℤ, to_z, of_z, w64, refl, sym, subst}
 use Rattle.query_core.specs.Mixtures.{LeadsTo}
 use Rattle.query_core.specs.Program.{ask_of}
-use Rattle.query_core.specs.Rounds.{QuerySetting}
+use Rattle.query_traces.specs.Rounds.{QuerySetting}
 use Rattle.running_query.proofs.FunctionLemmas.{on_ok_two}
 use Rattle.running_query.proofs.StepLemmas.{may, told_on}
 use Rattle.running_query.specs.Asking.{IsAnswered, IsSomewhere}

@@ -1,5 +1,5 @@
 use Rattle.std.proofs.Common.{ap, ◌∙◌}
-use Rattle.query_core.specs.SeenSights.{seen_of}
+use Rattle.query_traces.specs.SeenSights.{seen_of}
 use Rattle.running_query.proofs.GoingLemmas.{load_goes, load_told, same_goes}
 use Rattle.running_query.proofs.looks.load.Goals as goal
 

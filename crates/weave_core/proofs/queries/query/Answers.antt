@@ -1,6 +1,6 @@
 use Rattle.std.proofs.Common.{◌≡◌, IfOk, Option, of_z, refl, rules, subst, to_z, w64}
 use Rattle.query_core.specs.Program.{ask_of}
-use Rattle.query_core.specs.declared.asks.Told.{Told}
+use Rattle.query_traces.specs.declared.asks.Told.{Told}
 use Rattle.weave_core.proofs.AskingLemmas.{may_tell}
 use Rattle.weave_core.proofs.QuerySideLemmas.{asked_there, told_so}
 use Rattle.weave_core.proofs.QueryTurnLemmas.{answered_turns}

@@ -3,8 +3,8 @@ use Rattle.std.specs.Prelude.{slice_index_or}
 use Rattle.std.specs.List.{flat_map}
 use Rattle.know.specs.Knowledge.{stopped_count}
 use Rattle.mon_value.specs.declared.rows.Row.{Row}
-use Rattle.query_core.specs.Traces.{resolved_rows}
-use Rattle.query_core.specs.declared.answers.Resolved.{Resolved}
+use Rattle.query_traces.specs.Traces.{resolved_rows}
+use Rattle.query_traces.specs.declared.answers.Resolved.{Resolved}
 use Rattle.mon_store.proofs.GatherLemmas.{counted_on, cut_seen, none_handed, one_more, one_there, owns_itself, owns_on}
 use Rattle.mon_store.proofs.stores.Store.gathered.Goals as goal
 

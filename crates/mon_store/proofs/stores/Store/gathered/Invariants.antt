@@ -1,7 +1,7 @@
 -- the rows so far in front of those of what is left are all, and so many were handed out
 use Rattle.std.proofs.Common.{◌≡◌, ◌++◌, length, drop}
 use Rattle.std.specs.List.{flat_map}
-use Rattle.query_core.specs.Traces.{resolved_rows, source_of}
+use Rattle.query_traces.specs.Traces.{resolved_rows, source_of}
 use Rattle.mon_store.proofs.stores.Store.gathered.Given as goal
 use Rattle.mon_store.specs.Gathers.{HasBeenHanded}
 use Rattle.mon_store.specs.Passes.{OwnsTheSame}

@@ -1,7 +1,7 @@
 use Rattle.std.proofs.Common.{◌∙◌, Option, ap, sym}
 use Rattle.query_core.proofs.StageLemmas.{slots_here}
 use Rattle.query_core.specs.Machine.{Query, slots_if, slots_of}
-use Rattle.query_core.specs.Rounds.{Round}
+use Rattle.query_traces.specs.Rounds.{Round}
 use Rattle.query_core.proofs.machine.QueryMachine.slots.Goals as goal
 
 pub returns-in-Some-slots : goal.returns-in-Some-slots

@@ -1,8 +1,8 @@
 use Rattle.std.proofs.Common.{refl, sym, subst}
 use Rattle.std.specs.Prelude.{Option, Some}
 use Rattle.query_core.specs.Sides.{word_asked}
-use Rattle.query_core.specs.declared.asks.Told.{Told}
-use Rattle.query_core.specs.declared.asks.Told.TheVariants as told
+use Rattle.query_traces.specs.declared.asks.Told.{Told}
+use Rattle.query_traces.specs.declared.asks.Told.TheVariants as told
 use Rattle.weave_core.proofs.QuerySideLemmas.{word_so, word_there}
 use Rattle.weave_core.specs.QuerySides.{TellsThere}
 use Rattle.weave_core.proofs.queries.StoreSideQuerySide.load.Goals as goal

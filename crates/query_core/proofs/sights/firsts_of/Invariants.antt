@@ -1,7 +1,0 @@
--- the ranges so far, in front of those that are left
-use Rattle.std.proofs.Common.{◌≡◌, ◌++◌, drop}
-use Rattle.query_core.specs.SeenSights.{firsts_from}
-use Rattle.query_core.proofs.sights.firsts_of.Given as goal
-
-abbrev pub invariant-loop-number : goal.invariant-loop-number
-invariant-loop-number l = l.firsts ++ firsts_from l.number (drop l.number l.ranges) ≡ firsts_from 0 l.ranges

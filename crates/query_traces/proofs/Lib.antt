@@ -1,0 +1,15 @@
+mod AckedRows
+mod AreaLemmas
+pub mod FindingLemmas
+pub mod HintFacts
+pub mod LeafLemmas
+pub mod NextPlaces
+pub mod ResolvedZones
+pub mod RoundLemmas
+pub mod SeenLemmas
+pub mod SeenSpans
+pub mod Spans
+mod TraceGrowth
+mod VisitLemmas
+pub mod WantedRows
+pub mod ZoneFacts

@@ -1,0 +1,11 @@
+pub mod Answers
+pub mod AskedPlaces
+pub mod Askings
+pub mod FaultTexts
+pub mod Founds
+pub mod Loadings
+pub mod Rounds
+pub mod SeenSights
+pub mod Traces
+pub mod TrueAnswers
+pub mod Visits
