@@ -29,6 +29,9 @@ QUERIES = [
     "fetch T::/m | group_by [u,z], sum(v)",
     "fetch T::/d | align delta(60s) | group_by [u], sum(d)",
     'fetch T::/d | filter d>2 | group_by [z], min(d)',
+    "fetch T::/c",
+    "fetch T::/c | align delta(60s) | group_by [u], sum(c)",
+    'fetch T::/c | filter u!="psi" | filter c>2 | group_by [z], sum(c), count()',
     '{fetch T::/m | filter u=="tau";fetch T::/m | filter z=="e"} | union',
     "{fetch T::/m;fetch T::/m} | union | group_by [z], sum(v), count()",
 ]
@@ -125,8 +128,10 @@ class Maker:
         user = self.chance.choice(USERS)
         end = max(1, self.now - self.chance.choice([0, 0, 0, 0, 1, 5]))
         self.now += self.chance.choice([0, 1, 1, 3])
-        metric = self.chance.choice(["/m", "/m", "/m", "/d"])
+        metric = self.chance.choice(["/m", "/m", "/m", "/d", "/c", "/c"])
         start = end if metric == "/m" else end - self.chance.randint(1, min(end, 9))
+        if metric == "/c":
+            start = self.chance.choice([start, 0, 0, end // 20 * 20 if end % 20 else 0])
         return f"T,{metric},{start},{end},{self.chance.randint(-2, 9)},{user},{location}"
 
     def query(self):

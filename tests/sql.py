@@ -12,7 +12,10 @@ SCHEMAS = {
             ],
         }
     ],
-    "metrics": [{"name": "/work", "kind": "delta", "type": "int", "column": "work"}],
+    "metrics": [
+        {"name": "/work", "kind": "delta", "type": "int", "column": "work"},
+        {"name": "/served", "kind": "cumulative", "type": "int", "column": "served"},
+    ],
 }
 MOMENT = 1000
 ALL = "fetch Task::/work | align delta(1000s)"
@@ -53,6 +56,39 @@ QUERIES = [
 ]
 
 
+# What each point of a series adds to the one before it, which is its whole value where the count began anew between.
+INCREASES = (
+    "SELECT *, served - IIF(start IS LAG(start) OVER series, LAG(served) OVER series, 0) AS increase FROM totals"
+    " WINDOW series AS (PARTITION BY user, job, cluster, task ORDER BY end)"
+)
+SERVED = (
+    f"SELECT user, job, cluster, task, SUM(increase) AS served FROM ({INCREASES})"
+    " WHERE end > 500 AND end <= 1000 GROUP BY user, job, cluster, task"
+)
+# The same of queries over a cumulative metric.
+TOTAL_QUERIES = [
+    ("fetch Task::/served | align delta(500s)", SERVED),
+    ("fetch Task::/served | within 500s | every 500s", SERVED),
+    ("fetch Task::/served | align delta(1000s)", SERVED.replace("end > 500", "end > 0")),
+    (
+        'fetch Task::/served | filter user=="u1" || job=="job7" | align delta(500s)',
+        SERVED.replace("end > 500", "end > 500 AND (user = 'u1' OR job = 'job7')"),
+    ),
+    (
+        "fetch Task::/served | filter served>300 | align delta(500s)",
+        SERVED.replace("FROM totals", "FROM (SELECT * FROM totals WHERE served > 300)"),
+    ),
+    (
+        "fetch Task::/served | align delta(500s) | group_by [cluster], sum(served), count()",
+        f"SELECT cluster, SUM(served) AS served, COUNT(*) AS count FROM ({SERVED}) GROUP BY cluster",
+    ),
+    (
+        "fetch Task::/served | align delta(500s) | top 5, served",
+        f"SELECT * FROM ({SERVED}) ORDER BY served DESC, user, job, cluster, task LIMIT 5",
+    ),
+]
+
+
 def zone(number):
     """A zone of one location, with two leaves and two ranges that both hold."""
     first, second = f"z{number}a", f"z{number}b"
@@ -65,18 +101,20 @@ def zone(number):
 
 
 def make_table(base):
-    base.execute(
-        "CREATE TABLE points (start INTEGER, end INTEGER, work INTEGER,"
-        " user TEXT, job TEXT, cluster TEXT, task INTEGER)"
-    )
+    for table, column in (("points", "work"), ("totals", "served")):
+        base.execute(
+            f"CREATE TABLE {table} (start INTEGER, end INTEGER, {column} INTEGER,"
+            " user TEXT, job TEXT, cluster TEXT, task INTEGER)"
+        )
 
 
 def add_records(base, records):
     """Adds the records of a file of points."""
-    rows = (
-        (int(row[2]), int(row[3]), int(row[4]), row[5], row[6], row[7], int(row[8])) for row in records
-    )
-    base.executemany("INSERT INTO points VALUES (?, ?, ?, ?, ?, ?, ?)", rows)
+    rows = {"/work": [], "/served": []}
+    for row in records:
+        rows[row[1]].append((int(row[2]), int(row[3]), int(row[4]), row[5], row[6], row[7], int(row[8])))
+    base.executemany("INSERT INTO points VALUES (?, ?, ?, ?, ?, ?, ?)", rows["/work"])
+    base.executemany("INSERT INTO totals VALUES (?, ?, ?, ?, ?, ?, ?)", rows["/served"])
 
 
 def table(base, sql):

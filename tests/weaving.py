@@ -241,19 +241,28 @@ class Fetch:
 
     def aligned(self, rows, moment):
         """The rows of its table, and its load."""
-        series = {}
+        series, table = {}, []
         for row in rows:
-            if (row.schema, row.metric) != (self.schema, self.metric) or not moment - SPAN < row.end <= moment:
-                continue
-            if all(is_met(test, self.cells(row)) for test in self.on_fields):
-                series.setdefault(row.series, []).append(row)
-        table = []
+            if (row.schema, row.metric) == (self.schema, self.metric) and row.end <= moment:
+                if all(is_met(test, self.cells(row)) for test in self.on_fields):
+                    series.setdefault(row.series, []).append(row)
         for points in series.values():
             kept = [row for row in points if all(is_met(test, self.cells(row)) for test in self.on_points)]
-            if kept:
-                value = kept[-1].value if self.of["kind"] == "gauge" else sum(row.value for row in kept)
-                table.append(dict(zip(self.columns, [*kept[-1].fields, value])))
-        return table, sum(map(len, series.values())) + len(table)
+            values = [value for row, value in zip(kept, self.values(kept)) if row.end > moment - SPAN]
+            if values:
+                value = values[-1] if self.of["kind"] == "gauge" else sum(values)
+                table.append(dict(zip(self.columns, [*points[0].fields, value])))
+        return table, sum(row.end > moment - SPAN for points in series.values() for row in points) + len(table)
+
+    def values(self, points):
+        """The values of a series: of totals what each adds to the one before it, if it has the same start."""
+        if self.of["kind"] != "cumulative":
+            return [row.value for row in points]
+        befores = [None, *points]
+        return [
+            row.value - before.value if before and before.start == row.start else row.value
+            for before, row in zip(befores, points)
+        ]
 
 
 def names_of(test):

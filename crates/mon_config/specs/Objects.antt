@@ -188,6 +188,7 @@ abbrev pub kind_named : List ℕ → Option Kind
 kind_named word =
     if same_text word (codes "gauge") then Some kind.Gauge
     else if same_text word (codes "delta") then Some kind.Delta
+    else if same_text word (codes "cumulative") then Some kind.Cumulative
     else None
 
 abbrev pub kind_in : Data → Result Kind (List ℕ)

@@ -131,6 +131,7 @@ impl Reader for KindReader {
         match value.as_str() {
             Some(word) if word == "gauge" => Ok(Kind::Gauge),
             Some(word) if word == "delta" => Ok(Kind::Delta),
+            Some(word) if word == "cumulative" => Ok(Kind::Cumulative),
             _ => wrong_form(alloc),
         }
     }

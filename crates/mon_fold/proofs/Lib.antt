@@ -2,6 +2,7 @@ pub mod AggregatePartLemmas
 pub mod AlignmentLemmas
 pub mod GroupBounds
 pub mod GroupKeyLemmas
+pub mod GrowthLemmas
 pub mod KeptGroups
 pub mod MeanLemmas
 pub mod MergeableGroups

@@ -168,7 +168,7 @@ count_within points i k =
 
 -- ---- a window from a later one
 
-between_long : (start end : ℕ) (points : List Point) → end ≤ length points → length (points_between start end points)
+pub between_long : (start end : ℕ) (points : List Point) → end ≤ length points → length (points_between start end points)
     ≡ end - start
 between_long start end points h =
     let rest = length-drop start points in
@@ -262,7 +262,7 @@ neither_alone [] start end some within alike no_number no_counts = omega (arith,
 neither_alone (p ∷ all) start end some within alike no_number no_counts = of_neither (p ∷ all) start end some p.value
     alike.0 alike no_number no_counts
 
-magnitude_joined : (xs ys : List Point) → sum_by magnitude (values_of (xs ++ ys)) ≡ sum_by magnitude (values_of xs)
+pub magnitude_joined : (xs ys : List Point) → sum_by magnitude (values_of (xs ++ ys)) ≡ sum_by magnitude (values_of xs)
     + sum_by magnitude (values_of ys)
 magnitude_joined xs ys = ap (sum_by magnitude) (values_of_both xs ys) ∙ sum_by-append magnitude (values_of xs)
     (values_of ys)

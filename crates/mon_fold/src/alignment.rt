@@ -1,16 +1,18 @@
 // Series brought to the times of a grid.
 ghost use Rattle.std.specs.Prelude.{◌≡◌, IfOk, OnOk, ◌++◌, option_map};
 ghost use Rattle.mon_value.specs.Grids.{aligned_values, CanAlign, newest_point, timed_values, IsLawfulGrid, time_count};
-ghost use Rattle.mon_value.specs.declared.aligners.Aligner.TheVariants.{Delta, NextOlder};
+ghost use Rattle.mon_value.specs.declared.aligners.Aligner.TheVariants.{Delta, Increase, NextOlder};
 
+use crate::growth::{Growth, growth_at};
 use crate::sliding::{Window, window_at};
 use mon_series::{KeptPoint, Series};
 use mon_value::{Aligner, Grid, OutOfMemory, TimedValue, TimedValues, Value};
 use std::alloc::Global;
 
 /// The values of a series at the times of a grid, the newest time first. A time has none where no
-/// point ends in the aligner's seconds up to it. Where the windows of a delta overlap, a point is
-/// added once and taken off once, for however many times it counts.
+/// point ends in the aligner's seconds up to it. Where the windows of a delta or of increases overlap, a
+/// point is added once and taken off once, for however many times it counts; of a series of totals only
+/// the points of the windows are read, and the one before each.
 pub fn align(
     alloc: Global,
     points: &Series,
@@ -23,6 +25,7 @@ pub fn align(
     match by {
         Aligner::NextOlder(seconds) => newest_values(alloc, points, seconds, grid),
         Aligner::Delta(seconds) => added_values(alloc, points, seconds, grid),
+        Aligner::Increase(seconds) => increased_values(alloc, points, seconds, grid),
     }
 }
 
@@ -62,6 +65,27 @@ fn added_values(
     for _ in 0..times_of(grid) {
         window = window_at(alloc, points, window, time, seconds)?;
         add_value(&mut values, time, window.total(alloc)?)?;
+        time -= grid.every;
+    }
+    Ok(values)
+}
+
+// What the points in the seconds up to each time add to those before them.
+fn increased_values(
+    alloc: Global,
+    points: &Series,
+    seconds: i64,
+    grid: &Grid,
+) -> Result<TimedValues, OutOfMemory>
+    requires { CanAlign (Increase seconds) grid.now points.now.points }
+    ensures { IfOk result (λ values. values ≡ aligned_values (Increase seconds) grid.now points.now.points) }
+{
+    let mut values = TimedValues::new(alloc);
+    let mut growth = Growth::behind(points.points());
+    let mut time = grid.moment;
+    for _ in 0..times_of(grid) {
+        growth = growth_at(points, growth, time, seconds);
+        add_value(&mut values, time, growth.told())?;
         time -= grid.every;
     }
     Ok(values)

@@ -9,6 +9,7 @@ mod extremes;
 mod folds;
 mod grouping;
 mod groups;
+mod growth;
 mod means;
 mod merges;
 mod merging;

@@ -160,8 +160,8 @@ fn long_sum(window: &[KeptPoint]) -> i128
     sum
 }
 
-// The number that a point's value is, and 0 where it is none.
-fn number_or_zero(point: &KeptPoint) -> i128
+/// The number that a point's value is, and 0 where it is none.
+pub(crate) fn number_or_zero(point: &KeptPoint) -> i128
     ensures { result ≡ sum_of (numbers_in (point.now.value ∷ [])) }
 {
     match point.number() {

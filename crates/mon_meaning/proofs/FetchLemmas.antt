@@ -13,7 +13,7 @@ use Rattle.mon_value.specs.declared.rows.Point.{Point}
 use Rattle.mon_value.specs.declared.rows.SeriesKey.{SeriesKey}
 use Rattle.mon_value.specs.declared.values.Value.{Value}
 use Rattle.mql_ast.specs.Rows.{predicate_truth}
-use Rattle.typed_trees.specs.Meaning.{lets_in, meets, names_keys, series_cells, is_fetched}
+use Rattle.typed_trees.specs.Meaning.{is_in_reach, lets_in, meets, names_keys, series_cells, is_fetched}
 use Rattle.typed_trees.specs.Nodes as node
 use Rattle.typed_trees.specs.Nodes.{NodeTree}
 use Rattle.mon_meaning.specs.within.FetchViews.{FetchView, FetchesNothing, IsFetchOf, all_filters_hold, is_fetch_met}
@@ -24,8 +24,8 @@ use Rattle.mon_meaning.specs.within.Reach.{points_within_reach}
 use Rattle.mon_meaning.specs.within.KeyFilters.{KeysDecide, fetches_series}
 use Rattle.mon_meaning.specs.within.SeriesMeaning.{SeriesGroup, align_load, flows, points_flowing, reach_count}
 use Rattle.mon_meaning.specs.within.SeriesMeaning.{series_rows}
-use Rattle.mon_meaning.proofs.FilterLemmas.{filter_none}
-use Rattle.mon_meaning.proofs.ReachLemmas.{aligned-in_reach}
+use Rattle.mon_meaning.proofs.FilterLemmas.{filter_none, filter_swap}
+use Rattle.mon_meaning.proofs.ReachLemmas.{aligned-unreached}
 use Rattle.mon_meaning.proofs.SeriesOrders.{no_values}
 use Rattle.mon_value.proofs.PlainLemmas.{and_both}
 
@@ -151,9 +151,9 @@ module _ (grid : Grid) (by : Aligner) (input : NodeTree) (fetch : FetchView) (is
   unreached_rows one e =
       let test : Point → Bool = λ point. flows input one.0 point.value in
       let none : points_within_reach grid by one.1 ≡ [] = empty_by_length (points_within_reach grid by one.1) e in
-      ap (map (row_of one.0))
-      (sym (aligned-in_reach grid by test one.1 lawful)
-      ∙ no_values by grid (filter test (points_within_reach grid by one.1)) (ap (filter test) none))
+      let unreached : points_within_reach grid by (points_flowing input one) ≡ [] =
+      filter_swap (is_in_reach grid by) test one.1 ∙ ap (filter test) none in
+      ap (map (row_of one.0)) (aligned-unreached grid by (points_flowing input one) lawful unreached)
 
   counted_parts : (met empty : Bool) → (met && not empty) ≡ true → met ≡ true
   counted_parts true empty e = refl

@@ -25,4 +25,5 @@ mod SideLemmas
 pub mod StandingPieces
 mod TopLemmas
 pub mod WalkLemmas
+pub mod WantedLemmas
 mod WindowLemmas

@@ -66,10 +66,12 @@ each_series P f (key ∷ keys) give = (give key, each_series P f keys give)
 fits_none : (by : Aligner) (times : List ℤ) → AllByRecursion (SumFits by []) times
 fits_none by [] = tt
 fits_none (aligner.Delta seconds) (time ∷ times) = (omega arith, fits_none (aligner.Delta seconds) times)
+fits_none (aligner.Increase seconds) (time ∷ times) = (omega arith, fits_none (aligner.Increase seconds) times)
 fits_none (aligner.NextOlder seconds) (time ∷ times) = (tt, fits_none (aligner.NextOlder seconds) times)
 
 alike_none : (by : Aligner) → CanAddUnder by []
 alike_none (aligner.Delta seconds) = tt
+alike_none (aligner.Increase seconds) = tt
 alike_none (aligner.NextOlder seconds) = tt
 
 -- a series without points can be aligned

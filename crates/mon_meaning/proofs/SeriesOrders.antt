@@ -91,8 +91,10 @@ module _ (input : NodeTree) (key : SeriesKey) where
 
 no_values_at : (by : Aligner) (times : List ℤ) → flat_map (λ time. timed_values time (value_at by [] time)) times ≡ []
 no_values_at (aligner.Delta seconds) [] = refl
+no_values_at (aligner.Increase seconds) [] = refl
 no_values_at (aligner.NextOlder seconds) [] = refl
 no_values_at (aligner.Delta seconds) (time ∷ times) = no_values_at (aligner.Delta seconds) times
+no_values_at (aligner.Increase seconds) (time ∷ times) = no_values_at (aligner.Increase seconds) times
 no_values_at (aligner.NextOlder seconds) (time ∷ times) = no_values_at (aligner.NextOlder seconds) times
 
 -- a series without points has no values

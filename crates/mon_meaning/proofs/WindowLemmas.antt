@@ -1,6 +1,6 @@
 -- The points that end between two times, by their places.
 use Rattle.std.proofs.Common.{◌≡◌, ◌∙◌, Option, Some, None, neg_ℤ, unsigned_abs, ℕ, zero, suc, ◌+◌, ◌-◌, ◌*◌, ◌/◌, ◌≤◌}
-use Rattle.std.proofs.Common.{◌<◌, ℤ, ◌≤ℤ◌, ◌<ℤ◌, ◌-ℤ◌, pos, Bool, true, false, ◌&&◌, cond, List, [], ◌∷◌, length}
+use Rattle.std.proofs.Common.{◌<◌, ℤ, ◌≤ℤ◌, ◌<ℤ◌, ◌-ℤ◌, pos, Bool, true, false, ◌&&◌, cond, List, [], ◌∷◌, ◌++◌, length}
 use Rattle.std.proofs.Common.{take, drop, get_or, IfSome, refl, sym, ap, subst, arith}
 use Rattle.std.specs.Prelude.{int_le, int_lt}
 use Rattle.std.specs.List.{AllByRecursion, filter}
@@ -179,6 +179,54 @@ until_more low high (p ∷ ps) order =
     more_by low high p (points_until low ps) (points_until high ps) (int_le p.end low) (int_le p.end high) refl refl
     order
     (until_more low high ps order)
+
+-- ---- points behind a place
+
+pub EndsRise-drop : (n : ℕ) (ps : List Point) → EndsRise ps → EndsRise (drop n ps)
+EndsRise-drop zero [] h = tt
+EndsRise-drop zero (p ∷ ps) h = h
+EndsRise-drop (suc n) [] h = tt
+EndsRise-drop (suc n) (p ∷ ps) h = EndsRise-drop n ps h.1
+
+split_by : (low high : ℤ) (p : Point) (ps : List Point) (late early now : Bool) → int_lt low p.end ≡ late
+    → int_le p.end low ≡ early → int_le p.end high ≡ now → EndsAfter p.end ps → low ≤ℤ high
+    → points_until high ps ≡ points_until low ps ++ filter (between low high) ps
+    → cond now (p ∷ points_until high ps) (points_until high ps)
+    ≡ cond early (p ∷ points_until low ps) (points_until low ps)
+    ++ cond (late && now) (p ∷ filter (between low high) ps) (filter (between low high) ps)
+split_by low high p ps true true now e f g after order rest = absurd (grind (arith, ints))
+split_by low high p ps false false now e f g after order rest = absurd (grind (arith, ints))
+split_by low high p ps false true false e f g after order rest = absurd (grind (arith, ints))
+split_by low high p ps false true true e f g after order rest = ap (λ points. p ∷ points) rest
+split_by low high p ps true false false e f g after order rest = rest
+split_by low high p ps true false true e f g after order rest =
+    let past : low <ℤ p.end = grind (arith, ints) in
+    let none : points_until low ps ≡ [] = none_until low ps (after_all low p.end ps after (omega (arith, ints))) in
+    ap (λ points. p ∷ points) (rest ∙ ap (λ points. points ++ filter (between low high) ps) none)
+    ∙ ap (λ points. points ++ p ∷ filter (between low high) ps) (sym none)
+
+-- the points until a later time are those until an earlier one, and those between them
+until_split : (low high : ℤ) (ps : List Point) → EndsRise ps → low ≤ℤ high
+    → points_until high ps ≡ points_until low ps ++ filter (between low high) ps
+until_split low high [] rise order = refl
+until_split low high (p ∷ ps) rise order =
+    split_by low high p ps (int_lt low p.end) (int_le p.end low) (int_le p.end high) refl refl refl rise.0 order
+    (until_split low high ps rise.1 order)
+
+drop_front : (n : ℕ) (xs ys : List Point) → n ≤ length xs → drop n (xs ++ ys) ≡ drop n xs ++ ys
+drop_front zero [] [] h = refl
+drop_front zero [] (y ∷ ys) h = refl
+drop_front zero (x ∷ xs) ys h = refl
+drop_front (suc n) [] ys h = absurd (omega arith)
+drop_front (suc n) (x ∷ xs) ys h = drop_front n xs ys (omega arith)
+
+-- the points behind a place among those until an earlier time
+pub behind_place : (low high : ℤ) (n : ℕ) (ps : List Point) → EndsRise ps → low ≤ℤ high
+    → n ≤ length (points_until low ps)
+    → drop n (points_until high ps) ≡ drop n (points_until low ps) ++ filter (between low high) ps
+behind_place low high n ps rise order within =
+    ap (drop n) (until_split low high ps rise order)
+    ∙ drop_front n (points_until low ps) (filter (between low high) ps) within
 
 -- ---- the least time
 

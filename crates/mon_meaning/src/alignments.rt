@@ -16,7 +16,7 @@ ghost use Rattle.mon_meaning.specs.within.SeriesMeaning.{align_load, series_rows
 
 use crate::evaluation::EvaluationSetting;
 use crate::fetches::{Fetch, series_cells};
-use crate::kept_points::{kept_series, points_in_reach};
+use crate::kept_points::{points_in_reach, wanted_series};
 use crate::meter::{Meter, OverLimit};
 use mon_fold::align;
 use mon_series::{KeptRows, Series};
@@ -225,9 +225,8 @@ fn series_values(
     if fetch.keeps_all() {
         return align(setting.alloc, met.series, by, &setting.grid);
     }
-    let reached = points_in_reach(met.series, by, &setting.grid);
-    let kept = kept_series(setting.alloc, fetch, met.key, reached)?;
-    align(setting.alloc, &kept, by, &setting.grid)
+    let wanted = wanted_series(setting.alloc, fetch, met.key, met.series, by, &setting.grid)?;
+    align(setting.alloc, &wanted, by, &setting.grid)
 }
 
 // Adds a row for each value of a series.

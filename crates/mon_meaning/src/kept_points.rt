@@ -1,11 +1,13 @@
 // The points of a series that an alignment may see.
-ghost use Rattle.std.specs.Prelude.{◌≡◌, ◌≤◌, ◌-ℤ◌, ◌<ℤ◌, ◌≤ℤ◌, ◌++◌, ◌∷◌, [], cond, length, neg_ℤ, IfOk, IfSome, OnOk};
+ghost use Rattle.std.specs.Prelude.{◌≡◌, ◌≤◌, ◌-ℤ◌, ◌<ℤ◌, ◌≤ℤ◌, ◌++◌, ◌∷◌, [], cond, drop, length, neg_ℤ, IfOk, IfSome};
+ghost use Rattle.std.specs.Prelude.{OnOk};
+ghost use Rattle.std.specs.Option.{option_to_list};
 ghost use Rattle.mon_series.specs.Splits.{points_until};
 ghost use Rattle.mon_value.specs.Grids as grids;
 ghost use Rattle.mon_value.specs.LeafHistories.{last_end};
 ghost use Rattle.mon_value.specs.Grids.{EndsRise};
 ghost use Rattle.mon_meaning.specs.within.FetchViews.{points_kept};
-ghost use Rattle.mon_meaning.specs.within.Reach.{points_within_reach};
+ghost use Rattle.mon_meaning.specs.within.Reach.{earlier_wanted, points_wanted, points_within_reach};
 
 use crate::fetches::{Fetch, series_cells};
 use mon_series::{KeptPoint, Series};
@@ -63,6 +65,7 @@ fn seconds_of(by: Aligner) -> i64
 {
     match by {
         Aligner::Delta(seconds) => seconds,
+        Aligner::Increase(seconds) => seconds,
         Aligner::NextOlder(seconds) => seconds,
     }
 }
@@ -78,18 +81,85 @@ fn least_time(grid: &Grid) -> i64
     grid.moment - span as i64
 }
 
-/// A series of those points in reach of which all filters hold, where the series is met.
-pub(crate) fn kept_series(
+/// A series of the points that an alignment wants of a series that is met: of those in reach the ones that the filters
+/// keep, and in front of them for increases the newest earlier one that they keep.
+pub(crate) fn wanted_series(
     alloc: Global,
     fetch: &Fetch<'_>,
     key: &SeriesKey,
-    reached: &[KeptPoint],
+    series: &Series,
+    by: Aligner,
+    grid: &Grid,
 ) -> Result<Series, OutOfMemory>
-    requires rises { EndsRise reached.now }
-    ensures kept { IfOk result (λ kept. kept.points ≡ points_kept fetch.now (key.now, reached.now)) }
+    requires lawful { grids.IsLawfulGrid grid.now }
+    requires looks_back { grids.IsDuration (grids.seconds_of by) }
+    ensures rises { EndsRise series.now.points }
+    ensures wanted { IfOk result (λ wanted. wanted.points
+        ≡ points_wanted grid.now by (points_kept fetch.now (key.now, series.now.points))) }
+{
+    let earlier = series.before(least_time(grid) - seconds_of(by));
+    let first = first_wanted(alloc, fetch, key, by, earlier)?;
+    let ended = series.before(grid.moment);
+    let wanted = &ended[first..];
+    kept_series(alloc, fetch, key, wanted)
+}
+
+// The place of the first point that an alignment wants, where these end before its reach.
+fn first_wanted(
+    alloc: Global,
+    fetch: &Fetch<'_>,
+    key: &SeriesKey,
+    by: Aligner,
+    earlier: &[KeptPoint],
+) -> Result<usize, OutOfMemory>
+    ensures within { IfOk result (λ first. first ≤ length earlier.now) }
+    ensures wanted { IfOk result (λ first. points_kept fetch.now (key.now, drop first earlier.now)
+        ≡ earlier_wanted by (points_kept fetch.now (key.now, earlier.now))) }
+{
+    match by {
+        Aligner::Delta(_) => Ok(earlier.len()),
+        Aligner::NextOlder(_) => Ok(earlier.len()),
+        Aligner::Increase(_) => newest_kept(alloc, fetch, key, earlier),
+    }
+}
+
+// The place of the newest of the points of which all filters hold, or the place behind all where there is none.
+fn newest_kept(
+    alloc: Global,
+    fetch: &Fetch<'_>,
+    key: &SeriesKey,
+    points: &[KeptPoint],
+) -> Result<usize, OutOfMemory>
+    ensures within { IfOk result (λ place. place ≤ length points.now) }
+    ensures newest { IfOk result (λ place. points_kept fetch.now (key.now, drop place points.now)
+        ≡ option_to_list (grids.newest_point (points_kept fetch.now (key.now, points.now)))) }
+{
+    let mut cells = series_cells(alloc, key)?;
+    let mut place = points.len();
+    while place > 0 {
+        let value = points[place - 1].value(alloc)?;
+        let (keeps, again) = fetch.keeps(alloc, cells, value)?;
+        cells = again;
+        place -= 1;
+        if keeps {
+            return Ok(place);
+        }
+    }
+    Ok(points.len())
+}
+
+// A series of those points of which all filters hold, where the series is met.
+fn kept_series(
+    alloc: Global,
+    fetch: &Fetch<'_>,
+    key: &SeriesKey,
+    points: &[KeptPoint],
+) -> Result<Series, OutOfMemory>
+    requires rises { EndsRise points.now }
+    ensures kept { IfOk result (λ kept. kept.points ≡ points_kept fetch.now (key.now, points.now)) }
 {
     let mut kept = Series::new(alloc);
-    match keep_points(alloc, fetch, key, reached, &mut kept) {
+    match keep_points(alloc, fetch, key, points, &mut kept) {
         Ok(()) => Ok(kept),
         Err(fault) => {
             drop(kept);

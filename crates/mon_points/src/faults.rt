@@ -15,8 +15,8 @@ pub enum RowFault {
     /// This field is no value of its type. The target's fields and then the metric's are numbered
     /// from 1.
     BadField(usize),
-    /// A time is no number from 0 to 2^63 - 1, a gauge's start is not its end, or a delta's start is
-    /// not before its end.
+    /// A time is no number from 0 to 2^63 - 1, a gauge's start is not its end, or another metric's
+    /// start is not before its end.
     BadTime,
     /// The value is none of the metric's type.
     BadValue,

@@ -89,13 +89,17 @@ is_bounded type.Bool = true
 is_bounded type.Text = true
 is_bounded (type.Dist bounds) = are_bounds bounds
 
--- points that speak of a time can be added up
+-- points that speak of a time can be added up, and totals are numbers
 abbrev pub is_kind_met : Kind → ValueType → Bool
 is_kind_met kind.Gauge of = true
 is_kind_met kind.Delta type.Int = true
 is_kind_met kind.Delta type.Bool = false
 is_kind_met kind.Delta type.Text = false
 is_kind_met kind.Delta (type.Dist bounds) = true
+is_kind_met kind.Cumulative type.Int = true
+is_kind_met kind.Cumulative type.Bool = false
+is_kind_met kind.Cumulative type.Text = false
+is_kind_met kind.Cumulative (type.Dist bounds) = false
 
 -- a metric is refused for the first of these
 abbrev pub metric_fault : SchemaLists → MetricSchema → Option SchemaFault

@@ -49,10 +49,11 @@ field_fits of.Text b = false
 abbrev pub fields_fit : List Field → List FieldValue → Bool
 fields_fit fields values = pointwise (λ field value. field_fits field.of value) fields values
 
--- a gauge's point starts at its end, and a delta's before it
+-- a gauge's point starts at its end, and any other before it
 abbrev pub is_start : Kind → ℤ → ℤ → Bool
 is_start kind.Gauge start end = int_eq start end
 is_start kind.Delta start end = int_lt start end
+is_start kind.Cumulative start end = int_lt start end
 
 -- the start and the end of a metric's point
 abbrev pub times_fit : Kind → ℤ → ℤ → Bool

@@ -18,7 +18,8 @@ pub enum SchemaFault {
     BadBounds,
     /// There are too many schemas or fields, or a target has no field.
     TooMany,
-    /// The points of a delta are neither whole numbers nor distributions, and so can't be added up.
+    /// The points of a delta are neither whole numbers nor distributions, and so can't be added up, or the totals of
+    /// a cumulative metric are no whole numbers.
     BadKind,
 }
 

@@ -18,13 +18,14 @@ pub(crate) fn is_bounded(of: &ValueType) -> bool
     }
 }
 
-/// Whether points that speak of a time can be added up.
+/// Whether points that speak of a time can be added up, and totals are numbers.
 pub(crate) fn is_kind_met(kind: Kind, of: &ValueType) -> bool
     ensures met { result ≡ spec.is_kind_met kind of.now }
 {
     match kind {
         Kind::Gauge => true,
         Kind::Delta => matches!(of, ValueType::Int | ValueType::Dist(_)),
+        Kind::Cumulative => matches!(of, ValueType::Int),
     }
 }
 

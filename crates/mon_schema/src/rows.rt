@@ -51,7 +51,7 @@ pub fn times_fit(kind: Kind, start: i64, end: i64) -> bool
 {
     let is_start = match kind {
         Kind::Gauge => start == end,
-        Kind::Delta => start < end,
+        Kind::Delta | Kind::Cumulative => start < end,
     };
     start >= 0 && end >= 0 && is_start
 }

@@ -76,6 +76,7 @@ impl Series {
     /// The points in order.
     pub fn points(&self) -> &[KeptPoint]
         ensures points { result.now ≡ self.now.points }
+        ensures rises { EndsRise self.now.points }
     {
         self.points.as_slice()
     }
@@ -104,6 +105,15 @@ impl Series {
         let (ended, _) = split_at_time(self.points.as_slice(), time);
         let (before, _) = split_at_time(ended, time - seconds);
         (before.len(), ended.len())
+    }
+
+    /// The points that end at the time or before it. At most one binary search finds them, and no memory is taken.
+    pub fn before(&self, time: i64) -> &[KeptPoint]
+        ensures ended { result.now ≡ points_until time self.now.points }
+        ensures rises { EndsRise self.now.points }
+    {
+        let (ended, _) = split_at_time(self.points.as_slice(), time);
+        ended
     }
 
     /// The points that end in so many seconds up to the time: above `time - seconds` and at most `time`. A

@@ -1,9 +1,11 @@
 pub mod AggregateLemmas
 pub mod CountsLemmas
 pub mod CountsPartLemmas
+pub mod EarlierLemmas
 pub mod FartherLemmas
 pub mod GridLemmas
 pub mod GroupLemmas
+pub mod IncreaseLemmas
 pub mod KeyedLemmas
 pub mod LeafHistoryLemmas
 pub mod ListLendsLemmas

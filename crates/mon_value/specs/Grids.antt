@@ -1,14 +1,16 @@
 -- The times that a query gives rows for, and series brought to them.
 use Rattle.std.specs.Prelude.{ℕ, zero, suc, ◌+◌, ◌-◌, ◌*◌, ◌/◌, ◌≤◌, ℤ, pos, ◌-ℤ◌, ◌≤ℤ◌, unsigned_abs, List, [], ◌∷◌}
 use Rattle.std.specs.Prelude.{◌<ℤ◌, int_lt, int_le, Bool, ◌&&◌, ◌≡◌, ◌^◌, sum_by, length, map, Option, Some, None}
-use Rattle.std.specs.Prelude.{option_map}
+use Rattle.std.specs.Prelude.{◌++◌, option_map}
 use Rattle.std.specs.List.{AllByRecursion, filter, flat_map}
+use Rattle.std.specs.Option.{option_or, option_to_list}
+use Rattle.mon_value.specs.Increases.{increases}
 use Rattle.mon_value.specs.Values.{LONGEST_DURATION, magnitude}
 use Rattle.mon_value.specs.declared.grids.Grid.{Grid}
 use Rattle.mon_value.specs.declared.rows.Point.{Point}
 use Rattle.mon_value.specs.Groups.{total_of}
 use Rattle.mon_value.specs.declared.aligners.Aligner.{Aligner}
-use Rattle.mon_value.specs.declared.aligners.Aligner.TheVariants.{Delta, NextOlder}
+use Rattle.mon_value.specs.declared.aligners.Aligner.TheVariants.{Delta, Increase, NextOlder}
 use Rattle.mon_value.specs.declared.grids.TimedValue.{TimedValue}
 use Rattle.mon_value.specs.declared.values.Value.{Value}
 use Rattle.mon_value.specs.declared.values.Value.TheVariants as value
@@ -63,32 +65,57 @@ ends_within t w point = int_lt (t -ℤ w) point.end && int_le point.end t
 abbrev pub window_of : ℤ → ℤ → List Point → List Point
 window_of t w points = filter (ends_within t w) points
 
--- Series brought to the times of a grid.
-
--- how many seconds an aligner looks back
-abbrev pub seconds_of : Aligner → ℤ
-seconds_of (Delta seconds) = seconds
-seconds_of (NextOlder seconds) = seconds
-
 -- the newest of the points of a series: the last, since their ends rise
 abbrev pub newest_point : List Point → Option Point
 newest_point [] = None
 newest_point (point ∷ []) = Some point
 newest_point (point ∷ next ∷ points) = newest_point (next ∷ points)
 
+-- the points that end at a time or before it
+abbrev pub ended_by : ℤ → List Point → List Point
+ended_by time points = filter (λ point. int_le point.end time) points
+
+-- the newest of the points, or else the one that stood before them
+abbrev pub newest_or : Option Point → List Point → Option Point
+newest_or before points = option_or (newest_point points) before
+
+-- the points that end above a time, behind the newest of the others
+abbrev pub with_earlier : ℤ → List Point → List Point
+with_earlier start points =
+    option_to_list (newest_point (ended_by start points)) ++ filter (λ point. int_lt start point.end) points
+
+-- the points that end in the w seconds up to t, behind the newest of the earlier ones
+abbrev pub window_with_earlier : ℤ → ℤ → List Point → List Point
+window_with_earlier t w points = option_to_list (newest_point (ended_by (t -ℤ w) points)) ++ window_of t w points
+
+-- Series brought to the times of a grid.
+
+-- how many seconds an aligner looks back
+abbrev pub seconds_of : Aligner → ℤ
+seconds_of (Delta seconds) = seconds
+seconds_of (Increase seconds) = seconds
+seconds_of (NextOlder seconds) = seconds
+
 abbrev pub values_of : List Point → List Value
 values_of points = map (λ point. point.value) points
+
+-- a series as an aligner sees it: totals as what each point adds to the one before it, and others as they are
+abbrev pub seen_as : Aligner → List Point → List Point
+seen_as (Delta seconds) points = points
+seen_as (Increase seconds) points = increases None points
+seen_as (NextOlder seconds) points = points
 
 -- what an aligner makes of the points that it sees: the value of the newest, or the sum or the merged
 -- distribution of all; nothing of no points
 abbrev pub value_made : Aligner → List Point → Option Value
 value_made (NextOlder seconds) points = option_map (λ point. point.value) (newest_point points)
 value_made (Delta seconds) points = total_of (values_of points)
+value_made (Increase seconds) points = total_of (values_of points)
 
 -- what a series has at a time: an aligner sees the points whose ends are above its seconds before the
 -- time, and at most the time
 abbrev pub value_at : Aligner → List Point → ℤ → Option Value
-value_at by points time = value_made by (window_of time (seconds_of by) points)
+value_at by points time = value_made by (window_of time (seconds_of by) (seen_as by points))
 
 abbrev pub timed_values : ℤ → Option Value → List TimedValue
 timed_values time None = []
@@ -115,19 +142,29 @@ abbrev pub CanAddAll : List Value → Type 0
 CanAddAll [] = Unit {0}
 CanAddAll (first ∷ values) = AllByRecursion (CanAdd first) (first ∷ values)
 
+abbrev pub IsNumber : Value → Type 0
+IsNumber (value.Int z) = Unit {0}
+IsNumber (value.Bool p) = ⊥
+IsNumber (value.Text s) = ⊥
+IsNumber (value.Dist counts) = ⊥
+
 -- what the magnitudes of the points that are added for one time sum to at most
 abbrev pub most_aligned : ℕ
 most_aligned = 2 ^ 124
 
--- an aligner that adds meets values that can be added
+-- an aligner that adds meets values that can be added, and totals are numbers
 abbrev pub CanAddUnder : Aligner → List Point → Type 0
 CanAddUnder (NextOlder seconds) points = Unit {0}
 CanAddUnder (Delta seconds) points = CanAddAll (values_of points)
+CanAddUnder (Increase seconds) points = AllByRecursion IsNumber (values_of points)
 
--- an aligner that adds meets no more than so much for a time
+-- an aligner that adds meets no more than so much for a time, the point before its window among what it takes increases
+-- of
 abbrev pub SumFits : Aligner → List Point → ℤ → Type 0
 SumFits (NextOlder seconds) points time = Unit {0}
 SumFits (Delta seconds) points time = sum_by magnitude (values_of (window_of time seconds points)) ≤ most_aligned
+SumFits (Increase seconds) points time =
+    sum_by magnitude (values_of (window_with_earlier time seconds points)) ≤ most_aligned
 
 -- a series that an aligner can bring to the times of a grid
 pub record CanAlign (by : Aligner) (grid : Grid) (points : List Point) : Type 0 where

@@ -2,6 +2,7 @@ pub mod Answers
 pub mod Grids
 pub mod Groups
 pub mod Histories
+pub mod Increases
 pub mod LeafHistories
 pub mod ListItems
 pub mod ListLends

@@ -6,8 +6,8 @@ use Rattle.std.specs.Str.Parse.{digits_value}
 use Rattle.std.specs.Fmt.{decimal, signed_decimal}
 use Rattle.std.specs.List.{join_with_byte}
 pub use Rattle.mon_value.specs.declared.limits.TheConstants.{LONGEST_FILE, LONGEST_TEXT, LONGEST_DURATION, NUMBER_BITS}
-pub use Rattle.mon_value.specs.declared.limits.TheConstants.{ROW_BITS, SUM_BITS, WIDEST_SUM, MOST_BUCKETS}
-pub use Rattle.mon_value.specs.declared.limits.TheConstants.{MOST_SWITCHES}
+pub use Rattle.mon_value.specs.declared.limits.TheConstants.{ROW_BITS, SUM_BITS, INCREASE_BITS, WIDEST_SUM}
+pub use Rattle.mon_value.specs.declared.limits.TheConstants.{MOST_BUCKETS, MOST_SWITCHES}
 use Rattle.mon_value.specs.declared.values.Value.{Value}
 use Rattle.mon_value.specs.declared.values.Value.TheVariants as value
 

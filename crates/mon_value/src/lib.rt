@@ -24,15 +24,15 @@ mod texts;
 mod values;
 
 pub use aggregates::{Aggregate, AggregateKind, Aggregates};
-pub use aligners::Aligner;
+pub use aligners::{Aligner, earlier_points_are_enough, increases_are_of_windows};
 pub use columns::{Anchor, Column, Columns};
 pub use copying::TryCopy;
 pub use distributions::{merging_is_orderless, percentiles_rise};
 pub use grids::{Grid, TimedValue, TimedValues, grids_reach_back};
 pub use histories::{Ack, Entries, Entry, Histories, Miss, Misses, RangeEntries, RangeEntry};
 pub use limits::{
-    LONGEST_DURATION, LONGEST_FILE, LONGEST_TEXT, MOST_BUCKETS, MOST_SWITCHES, NUMBER_BITS,
-    ROW_BITS, SUM_BITS, WIDEST_SUM,
+    INCREASE_BITS, LONGEST_DURATION, LONGEST_FILE, LONGEST_TEXT, MOST_BUCKETS, MOST_SWITCHES,
+    NUMBER_BITS, ROW_BITS, SUM_BITS, WIDEST_SUM,
 };
 pub use lists::ListOf;
 pub use numbers::read_number;

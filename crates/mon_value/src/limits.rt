@@ -18,6 +18,9 @@ pub const ROW_BITS: u32 = 24;
 /// The width in bits of the sum of such numbers over the rows of a table.
 pub const SUM_BITS: u32 = 87;
 
+/// The width in bits of the sum of the increases of so many points: each is the difference of two such numbers.
+pub const INCREASE_BITS: u32 = 88;
+
 /// The most bits of a sum, whether of a column over its rows or of a row's cells: its magnitude is at
 /// most 2 to that power.
 pub const WIDEST_SUM: u32 = 126;

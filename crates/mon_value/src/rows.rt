@@ -22,7 +22,8 @@ pub struct SeriesKey {
 }
 
 /// One measurement. `start` and `end` are whole seconds from the epoch. A gauge's point has its end
-/// as its start; a delta's speaks of the time after `start` up to `end`.
+/// as its start; a delta's speaks of the time after `start` up to `end`, and so does a cumulative
+/// metric's, whose points may have one start.
 #[derive(PartialEq, Eq, Drop)]
 pub struct Point {
     pub start: i64,

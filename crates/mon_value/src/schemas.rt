@@ -28,11 +28,13 @@ pub struct TargetSchema {
 pub type TargetSchemas = ListOf<TargetSchema>;
 
 /// How the points of a metric relate to time: a gauge's holds at its end, a delta's speaks of the
-/// time from its start to its end.
+/// time from its start to its end, and a cumulative metric's has the total since its start, which it
+/// shares with other points until the count begins anew.
 #[derive(Clone, Copy, PartialEq, Eq)]
 pub enum Kind {
     Gauge,
     Delta,
+    Cumulative,
 }
 
 /// A metric: the type of its points' values, the column that they make, and the fields that tell its

@@ -134,8 +134,10 @@ aggregate_text aggregate =
 abbrev pub duration_text : ℤ → List ℕ
 duration_text seconds = signed_decimal seconds ++ codes "s"
 
+-- an increase is written as the delta that it is read from
 abbrev pub aligner_text : Aligner → List ℕ
 aligner_text (aligner.Delta seconds) = codes "delta(" ++ (duration_text seconds ++ codes ")")
+aligner_text (aligner.Increase seconds) = codes "delta(" ++ (duration_text seconds ++ codes ")")
 aligner_text (aligner.NextOlder seconds) = codes "next_older(" ++ (duration_text seconds ++ codes ")")
 
 abbrev pub name_text : Name → List ℕ

@@ -9,7 +9,7 @@ use crate::parts::Part;
 use mon_value::{Aligner, Column, Columns, Kind, Shared, TryCopy};
 use std::alloc::{AllocError, Global};
 use typed_columns::with_width;
-use typed_trees::{Faults, Node, NodeInfo, OF_DELTA, OF_NUMBER, TypeKind, Width};
+use typed_trees::{Faults, Node, NodeInfo, OF_DELTA, OF_INCREASE, OF_NUMBER, TypeKind, Width};
 
 /// A table: what isn't aligned yet is aligned here, at no place of the text.
 pub(crate) fn aligned_tree(alloc: Global, every: i64, part: Part) -> Result<Node, AllocError>
@@ -18,6 +18,7 @@ pub(crate) fn aligned_tree(alloc: Global, every: i64, part: Part) -> Result<Node
     match part.points {
         Some(Kind::Gauge) => align_node(alloc, None, Aligner::NextOlder(every), part.node),
         Some(Kind::Delta) => align_node(alloc, None, Aligner::Delta(every), part.node),
+        Some(Kind::Cumulative) => align_node(alloc, None, Aligner::Increase(every), part.node),
         None => Ok(part.node),
     }
 }
@@ -72,11 +73,36 @@ fn aligned_width(by: Aligner) -> Width
 {
     match by {
         Aligner::Delta(_) => OF_DELTA,
+        Aligner::Increase(_) => OF_INCREASE,
         Aligner::NextOlder(_) => OF_NUMBER,
     }
 }
 
-/// Tells an alignment of a table, of a gauge as a delta, or of a delta as a gauge.
+/// What an alignment of points of a kind is, by what the query says: the delta of totals is what they increase by.
+pub(crate) fn aligned_as(points: Option<Kind>, by: Aligner) -> Aligner
+    ensures aligner { result ≡ spec.aligned_as points by }
+{
+    let Some(kind) = points else {
+        return by;
+    };
+    match by {
+        Aligner::Delta(seconds) => delta_of(kind, seconds),
+        Aligner::Increase(seconds) => delta_of(kind, seconds),
+        Aligner::NextOlder(seconds) => Aligner::NextOlder(seconds),
+    }
+}
+
+fn delta_of(kind: Kind, seconds: i64) -> Aligner
+    ensures aligner { result ≡ spec.delta_of kind seconds }
+{
+    match kind {
+        Kind::Gauge => Aligner::Delta(seconds),
+        Kind::Delta => Aligner::Delta(seconds),
+        Kind::Cumulative => Aligner::Increase(seconds),
+    }
+}
+
+/// Tells an alignment of a table, of a gauge as a delta, or of any other metric as a gauge.
 pub(crate) fn tell_align(points: Option<Kind>, at: u32, by: Aligner, found: &mut Faults)
     ensures faults { found.new.first ≡ first_with found.old.first (spec.align_faults points at by) }
 {
@@ -84,14 +110,31 @@ pub(crate) fn tell_align(points: Option<Kind>, at: u32, by: Aligner, found: &mut
         found.tell(at, TypeKind::BadOrder);
         return;
     };
+    match by {
+        Aligner::Delta(_) => tell_delta(kind, at, found),
+        Aligner::Increase(_) => tell_delta(kind, at, found),
+        Aligner::NextOlder(_) => tell_newest(kind, at, found),
+    }
+}
+
+// Tells the delta of a gauge.
+fn tell_delta(kind: Kind, at: u32, found: &mut Faults)
+    ensures faults { found.new.first ≡ first_with found.old.first (spec.delta_faults kind at) }
+{
     match kind {
-        Kind::Gauge => match by {
-            Aligner::Delta(_) => found.tell(at, TypeKind::NotDelta),
-            Aligner::NextOlder(_) => {}
-        },
-        Kind::Delta => match by {
-            Aligner::Delta(_) => {}
-            Aligner::NextOlder(_) => found.tell(at, TypeKind::NotGauge),
-        },
+        Kind::Gauge => found.tell(at, TypeKind::NotDelta),
+        Kind::Delta => {}
+        Kind::Cumulative => {}
+    }
+}
+
+// Tells the newest value of what isn't a gauge.
+fn tell_newest(kind: Kind, at: u32, found: &mut Faults)
+    ensures faults { found.new.first ≡ first_with found.old.first (spec.newest_faults kind at) }
+{
+    match kind {
+        Kind::Gauge => {}
+        Kind::Delta => found.tell(at, TypeKind::NotGauge),
+        Kind::Cumulative => found.tell(at, TypeKind::NotGauge),
     }
 }

@@ -11,7 +11,7 @@ ghost use Rattle.typed_trees.specs.Nodes.{columns_of, node_tree};
 ghost use Rattle.mql_types.specs.PartViews.{part_view};
 ghost use Rattle.typed_trees.specs.Typing as spec;
 
-use crate::aligning::{align_node, aligned_tree, tell_align};
+use crate::aligning::{align_node, aligned_as, aligned_tree, tell_align};
 use crate::parts::{Part, table};
 use mon_value::{Aligner, Column, Shared, TryCopy};
 use mql_ast::{Aggregate, Items, Name, Op, OpKind, Predicate};
@@ -144,10 +144,11 @@ fn align_part(
     found: &mut Faults,
 ) -> Result<Part, AllocError>
     ensures part { IfOk result (λ made. part_view made
-        ≡ spec.table (spec.align_node (Some at) by (node_tree part.node))) }
+        ≡ spec.table (spec.align_node (Some at) (spec.aligned_as part.points by) (node_tree part.node))) }
     ensures faults { OnOk result (found.new.first ≡ first_with found.old.first (spec.align_faults part.points at by)) }
 {
     tell_align(part.points, at, by, found);
+    let by = aligned_as(part.points, by);
     Ok(table(align_node(alloc, Some(at), by, part.node)?))
 }
 

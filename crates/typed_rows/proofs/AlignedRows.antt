@@ -41,8 +41,9 @@ use Rattle.mon_schema.specs.Fits.{HasNumbers}
 use Rattle.typed_trees.specs.Soundness.{FitTable}
 use Rattle.typed_trees.specs.Typing.{aligned_column, aligned_width}
 use Rattle.typed_trees.specs.Branches.{with_width}
-use Rattle.typed_rows.proofs.AlignedValues.{PointFits, Takes, aligned_fit, grid_reach, can_add_all, most_of, reached}
-use Rattle.typed_rows.proofs.AlignedValues.{series_within, sum_of_values, valued, weight, window_weight}
+use Rattle.typed_rows.proofs.AlignedValues.{IsBetween, PointFits, Takes, aligned_fit, are_numbers, can_add_all}
+use Rattle.typed_rows.proofs.AlignedValues.{earlier_weight, grid_reach, heaviest, most_of, reached, series_within}
+use Rattle.typed_rows.proofs.AlignedValues.{sum_of_values, valued, weighed, window_weight}
 use Rattle.typed_rows.proofs.FetchedPoints.{IsRowOf, IsSeriesOf, series_columns, series_small, series_typed}
 use Rattle.typed_rows.proofs.FetchedPoints.{value_small, value_typed}
 use Rattle.typed_rows.proofs.GroupSums.{key_sums_within, keys_apart}
@@ -97,28 +98,45 @@ series_fit target metric rows fit =
 row_weight : Grid → Aligner → Row → ℕ
 row_weight grid by row = reached grid by row.point
 
-step_by : (b : Bool) (row : Row) (some : List Row) (n rest : ℕ) → n ≤ 2 ^ 63 → rest ≤ length some * 2 ^ 63
-    → cond b n 0 + rest ≤ length (cond b (row ∷ some) some) * 2 ^ 63
-step_by true row some n rest h less = omega (arith, h, less, suc-mul (length some) (2 ^ 63))
-step_by false row some n rest h less = omega (arith, less)
+step_by : (b : Bool) (row : Row) (some : List Row) (n rest most : ℕ) → n ≤ most → rest ≤ length some * most
+    → cond b n 0 + rest ≤ length (cond b (row ∷ some) some) * most
+step_by true row some n rest most h less =
+    let one : length (row ∷ some) ≡ suc (length some) = omega arith in
+    let more : length (row ∷ some) * most ≡ length some * most + most =
+    ap (λ k. k * most) one ∙ suc-mul (length some) most in
+    omega (arith, h, less, more)
+step_by false row some n rest most h less = omega (arith, less)
+
+weighed_small : (by : Aligner) (of : ValueType) (point : Point) → PointFits of point → weighed by point ≤ heaviest by
+weighed_small (aligner.Delta seconds) of point fit = fit.1
+weighed_small (aligner.Increase seconds) of point fit = omega arith
+weighed_small (aligner.NextOlder seconds) of point fit = fit.1
 
 -- so many points in reach weigh no more than each does so many times
 reach_weight : (grid : Grid) (by : Aligner) (of : ValueType) (rows : List Row)
     → AllByRecursion (λ (row : Row). PointFits of row.point) rows
-    → sum_by (row_weight grid by) rows ≤ length (filter (is_reached grid by) rows) * 2 ^ 63
+    → sum_by (row_weight grid by) rows ≤ length (filter (is_reached grid by) rows) * heaviest by
 unfolding row_weight
 reach_weight grid by of [] fit = omega arith
 reach_weight grid by of (row ∷ rows) fit =
     omega (
       arith,
       sum_by-cons (row_weight grid by) row rows,
-      step_by (is_reached grid by row) row (filter (is_reached grid by) rows) (weight row.point)
-          (sum_by (row_weight grid by) rows) fit.0.1
+      step_by (is_reached grid by row) row (filter (is_reached grid by) rows) (weighed by row.point)
+          (sum_by (row_weight grid by) rows) (heaviest by) (weighed_small by of row.point fit.0)
           (reach_weight grid by of rows fit.1),
     )
 
-reach_within : (n w : ℕ) → n ≤ 2 ^ 24 → w ≤ n * 2 ^ 63 → w ≤ 2 ^ 87
-reach_within n w few h = omega (arith, h, mul-le-mul_right (2 ^ 63) few)
+-- the most that all points in reach weigh
+abbrev most_weight : Aligner → ℕ
+most_weight (aligner.Delta seconds) = 2 ^ 87
+most_weight (aligner.Increase seconds) = 2 ^ 88
+most_weight (aligner.NextOlder seconds) = 2 ^ 87
+
+reach_within : (by : Aligner) (n w : ℕ) → n ≤ 2 ^ 24 → w ≤ n * heaviest by → w ≤ most_weight by
+reach_within (aligner.Delta seconds) n w few h = omega (arith, h, mul-le-mul_right (2 ^ 63) few)
+reach_within (aligner.Increase seconds) n w few h = omega (arith, h, mul-le-mul_right (2 ^ 64) few)
+reach_within (aligner.NextOlder seconds) n w few h = omega (arith, h, mul-le-mul_right (2 ^ 63) few)
 
 -- the points of all series in reach
 abbrev pub IsFew : Grid → Aligner → List Row → Type 0
@@ -126,9 +144,9 @@ IsFew grid by rows = length (filter (is_reached grid by) rows) ≤ 2 ^ 24
 
 all_weight : (grid : Grid) (by : Aligner) (target : TargetSchema) (metric : MetricSchema) (rows : List Row)
     → AllByRecursion (IsRowOf target metric) rows
-    → IsFew grid by rows → sum_by (row_weight grid by) rows ≤ 2 ^ 87
+    → IsFew grid by rows → sum_by (row_weight grid by) rows ≤ most_weight by
 all_weight grid by target metric rows fit few =
-    reach_within (length (filter (is_reached grid by) rows)) (sum_by (row_weight grid by) rows) few
+    reach_within by (length (filter (is_reached grid by) rows)) (sum_by (row_weight grid by) rows) few
     (reach_weight grid by metric.value rows
     (all-map (IsRowOf target metric) (λ (row : Row). PointFits metric.value row.point) rows
     (row_point target metric) fit))
@@ -209,7 +227,7 @@ aligned_are by target metric =
 -- ---- cells
 
 row_fits : (by : Aligner) (target : TargetSchema) (metric : MetricSchema) (key : SeriesKey)
-    → IsSeriesOf target metric key → (whole : ℕ) → whole ≤ 2 ^ 87
+    → IsSeriesOf target metric key → (whole : ℕ) → whole ≤ most_weight by
     → (timed : TimedValue) → HasType metric.value timed.value × (magnitude timed.value ≤ most_of by whole)
     → FitsBoth (columns_aligned by target metric) (row_of key timed)
 row_fits by target metric key own whole h timed fit =
@@ -221,9 +239,10 @@ row_fits by target metric key own whole h timed fit =
           (series_small target metric key own) (value_bits by metric whole (magnitude timed.value) h fit.1, tt),
     )
   where
-    value_bits : (by : Aligner) (metric : MetricSchema) (whole n : ℕ) → whole ≤ 2 ^ 87 → n ≤ most_of by whole
+    value_bits : (by : Aligner) (metric : MetricSchema) (whole n : ℕ) → whole ≤ most_weight by → n ≤ most_of by whole
         → n ≤ 2 ^ (with_width (aligned_width by) (value_column metric)).cell_bits
     value_bits (aligner.Delta seconds) metric whole n h less = omega (arith, h, less)
+    value_bits (aligner.Increase seconds) metric whole n h less = omega (arith, h, less)
     value_bits (aligner.NextOlder seconds) metric whole n h less = less
 
 -- what stands in a row of a series
@@ -340,9 +359,10 @@ series_wide target metric =
     (target_wide target.name 0 target.fields)
     (metric_wide metric.fields)
 
-value_total : (by : Aligner) (metric : MetricSchema) (n : ℕ) → n ≤ 2 ^ 87
+value_total : (by : Aligner) (metric : MetricSchema) (n : ℕ) → n ≤ most_weight by
     → n ≤ 2 ^ (with_width (aligned_width by) (value_column metric)).total_bits
 value_total (aligner.Delta seconds) metric n h = h
+value_total (aligner.Increase seconds) metric n h = h
 value_total (aligner.NextOlder seconds) metric n h = h
 
 only_place : (c d : Column) (k : ℕ) → slice_get (c ∷ []) k ≡ Some d → (c ≡ d) × (k ≡ 0)
@@ -414,22 +434,33 @@ alike (aligner.NextOlder seconds) of takes points all = tt
 alike (aligner.Delta seconds) of takes points all =
     can_add_all of takes (values_of points)
     (all-made (PointFits of) (HasType of) (λ (point : Point). point.value) points (λ point p. p.0) all)
+alike (aligner.Increase seconds) of takes points all =
+    are_numbers of takes (values_of points)
+    (all-made (PointFits of) (HasType of) (λ (point : Point). point.value) points (λ point p. p.0) all)
 
-sum_fits : (grid : Grid) (by : Aligner) (points : List Point) → sum_by (reached grid by) points ≤ 2 ^ 87 → (time : ℤ)
-    → sum_by weight (window_of time (seconds_of by) points) ≤ sum_by (reached grid by) points → SumFits by points time
-sum_fits grid (aligner.NextOlder seconds) points h time less = tt
-sum_fits grid (aligner.Delta seconds) points h time less =
-    omega (arith, sum_of_values (window_of time seconds points), h, less)
+sum_fits : (grid : Grid) (by : Aligner) (of : ValueType) (points : List Point) → AllByRecursion (PointFits of) points
+    → sum_by (reached grid by) points ≤ most_weight by → (time : ℤ) → IsBetween grid time → SumFits by points time
+sum_fits grid (aligner.NextOlder seconds) of points all h time between = tt
+sum_fits grid (aligner.Delta seconds) of points all h time between =
+    omega (
+      arith,
+      sum_of_values (window_of time seconds points),
+      h,
+      window_weight grid (aligner.Delta seconds) time between points,
+    )
+sum_fits grid (aligner.Increase seconds) of points all h time between =
+    omega (arith, earlier_weight grid seconds time between of points all, h)
 
 series_can : (grid : Grid) → IsLawfulGrid grid → (by : Aligner) → IsDuration (seconds_of by) → (of : ValueType)
     → Takes by of → (points : List Point)
-    → AllByRecursion (PointFits of) points → sum_by (reached grid by) points ≤ 2 ^ 87 → CanAlign by grid points
+    → AllByRecursion (PointFits of) points → sum_by (reached grid by) points ≤ most_weight by
+    → CanAlign by grid points
 series_can grid lawful by duration of takes points all h = record {
   looks_back = duration;
   lawful = lawful;
   alike = alike by of takes points all;
   sums = all-map _ (SumFits by points) (grid_times grid)
-      (λ time between. sum_fits grid by points h time (window_weight grid by time between points))
+      (λ time between. sum_fits grid by of points all h time between)
       (grid_reach grid lawful);
 }
 
@@ -476,6 +507,8 @@ metric_sound (f ∷ fs) = (field_sound None f, metric_sound fs)
 last_sound : (by : Aligner) (metric : MetricSchema) → HasNumbers metric.value → HasBound metric.value
     → IsSound (with_width (aligned_width by) (value_column metric))
 last_sound (aligner.Delta seconds) metric numbers bounded =
+    record { width = record { ordered = omega arith; narrow = omega arith }; numbers = numbers; bounded = bounded }
+last_sound (aligner.Increase seconds) metric numbers bounded =
     record { width = record { ordered = omega arith; narrow = omega arith }; numbers = numbers; bounded = bounded }
 last_sound (aligner.NextOlder seconds) metric numbers bounded =
     record { width = record { ordered = omega arith; narrow = omega arith }; numbers = numbers; bounded = bounded }

@@ -4,16 +4,18 @@ use Rattle.std.proofs.Common.{false, ◌&&◌, cond, int_le, int_lt, Option, Som
 use Rattle.std.proofs.Common.{ap, sym, arith, unsigned_abs}
 use Rattle.std.specs.Prelude.{option_map}
 use Rattle.std.specs.List.{AllByRecursion, flat_map, sum_by}
-use Rattle.std.specs.Option.{option_or}
+use Rattle.std.specs.Option.{IfSome, option_or, option_to_list}
 use Rattle.std.specs.Ordering.{int_eq}
 use Rattle.std.proofs.Math.Nat.{suc-mul}
 use Rattle.std.proofs.lemmas.Bool.Decides.{Decides-int_eq}
 use Rattle.std.proofs.lemmas.Int.{ints}
 use Rattle.std.proofs.lemmas.List.Sums.{sum_by-append, sum_by-cons}
 use Rattle.mon_value.specs.Groups.{sum_of, where_any, merge_in, numbers_in, sum_in, total_of}
-use Rattle.mon_value.specs.Grids.{CanAdd, CanAddAll, aligned_values, newest_point, seconds_of, timed_values, value_at}
+use Rattle.mon_value.specs.Grids.{CanAdd, CanAddAll, aligned_values, ended_by, seconds_of, timed_values, value_at}
 use Rattle.mon_value.specs.Grids.{value_made, values_of, IsLawfulGrid, grid_times, least_time, time_count, times_back}
-use Rattle.mon_value.specs.Grids.{ends_within, window_of}
+use Rattle.mon_value.specs.Grids.{IsNumber, ends_within, newest_point, seen_as, window_of, window_with_earlier}
+use Rattle.mon_value.specs.Increases.{increase, increases, less}
+use Rattle.mon_value.proofs.IncreaseLemmas.{increases_large}
 use Rattle.mon_value.specs.Tables.{HasType}
 use Rattle.mon_value.specs.Values.{magnitude}
 use Rattle.mon_value.specs.declared.aligners.Aligner.{Aligner}
@@ -32,13 +34,23 @@ use Rattle.typed_rows.proofs.FoldedValues.{Folded, merge_folded, sum_folded}
 use Rattle.typed_rows.proofs.JoinedRows.{all-map, all-made}
 use Rattle.typed_rows.proofs.KeptRows.{all-filter}
 use Rattle.typed_rows.proofs.SumBounds.{amount}
-use Rattle.mon_value.proofs.PlainLemmas.{nothing_is, and_both, all_append, same_item}
+use Rattle.mon_value.proofs.PlainLemmas.{nothing_is, and_both, all_append, all_both, same_item}
 
 -- ---- what an aligner makes of points
 
 -- the values of points are of a type, and of 63 bits
 abbrev pub PointFits : ValueType → Point → Type 0
 PointFits of point = HasType of point.value × (magnitude point.value ≤ 2 ^ 63)
+
+-- the most that a point counts as an aligner sees it: an increase is a difference of two values
+abbrev pub heaviest : Aligner → ℕ
+heaviest (aligner.Delta seconds) = 2 ^ 63
+heaviest (aligner.Increase seconds) = 2 ^ 64
+heaviest (aligner.NextOlder seconds) = 2 ^ 63
+
+-- the same of a point as an aligner sees it
+abbrev pub SeenFits : Aligner → ValueType → Point → Type 0
+SeenFits by of point = HasType of point.value × (magnitude point.value ≤ heaviest by)
 
 -- a value of a type, within a whole
 abbrev pub ValueWithin : ValueType → ℕ → Option Value → Type 0
@@ -115,20 +127,58 @@ sum_of_values (point ∷ points) =
     sum_by-cons magnitude point.value (values_of points) ∙ ap (λ n. magnitude point.value + n) (sum_of_values points)
     ∙ sym (sum_by-cons weight point points)
 
--- an aligner that adds takes what can be added
+-- an aligner that adds takes what can be added, and totals are numbers
 abbrev pub Takes : Aligner → ValueType → Type 0
 Takes (aligner.Delta seconds) of = is_kind_met kind.Delta of ≡ true
+Takes (aligner.Increase seconds) of = is_kind_met kind.Cumulative of ≡ true
 Takes (aligner.NextOlder seconds) of = Unit {0}
 
+-- what a point counts as an aligner sees it: its value's magnitude, or as much as any increase may
+abbrev pub weighed : Aligner → Point → ℕ
+weighed (aligner.Delta seconds) point = weight point
+weighed (aligner.Increase seconds) point = 2 ^ 64
+weighed (aligner.NextOlder seconds) point = weight point
+
+weight_less : (by : Aligner) (of : ValueType) (point : Point) → SeenFits by of point → weight point ≤ weighed by point
+weight_less (aligner.Delta seconds) of point fit = omega arith
+weight_less (aligner.Increase seconds) of point fit = fit.1
+weight_less (aligner.NextOlder seconds) of point fit = omega arith
+
+weights_less : (by : Aligner) (of : ValueType) (points : List Point) → AllByRecursion (SeenFits by of) points
+    → sum_by weight points ≤ sum_by (weighed by) points
+weights_less by of [] all = omega arith
+weights_less by of (point ∷ points) all =
+    omega (
+      arith,
+      sum_by-cons weight point points,
+      sum_by-cons (weighed by) point points,
+      weight_less by of point all.0,
+      weights_less by of points all.1,
+    )
+
+total_within_of : (by : Aligner) (of : ValueType) → is_kind_met kind.Delta of ≡ true → (points : List Point)
+    → AllByRecursion (SeenFits by of) points
+    → ValueWithin of (sum_by (weighed by) points) (total_of (values_of points))
+total_within_of by of met points all =
+    point_within of (sum_by magnitude (values_of points)) (sum_by (weighed by) points) (total_of (values_of points))
+    (total_within of met (values_of points)
+    (all-made (SeenFits by of) (HasType of) (λ (point : Point). point.value) points (λ point p. p.0) all))
+    (omega (arith, sum_of_values points, weights_less by of points all))
+
+-- totals are numbers, which can be added
+numbers_add : (of : ValueType) → is_kind_met kind.Cumulative of ≡ true → is_kind_met kind.Delta of ≡ true
+numbers_add type.Int met = refl
+numbers_add type.Bool met = absurd cc
+numbers_add type.Text met = absurd cc
+numbers_add (type.Dist bounds) met = absurd cc
+
 made_within : (by : Aligner) (of : ValueType) → Takes by of → (points : List Point)
-    → AllByRecursion (PointFits of) points
-    → ValueWithin of (sum_by weight points) (value_made by points)
+    → AllByRecursion (SeenFits by of) points
+    → ValueWithin of (sum_by (weighed by) points) (value_made by points)
 made_within (aligner.NextOlder seconds) of takes points all = newest_within of points all
-made_within (aligner.Delta seconds) of takes points all =
-    point_within of (sum_by magnitude (values_of points)) (sum_by weight points) (total_of (values_of points))
-    (total_within of takes (values_of points)
-    (all-made (PointFits of) (HasType of) (λ (point : Point). point.value) points (λ point p. p.0) all))
-    (omega (arith, sum_of_values points))
+made_within (aligner.Delta seconds) of takes points all = total_within_of (aligner.Delta seconds) of takes points all
+made_within (aligner.Increase seconds) of takes points all =
+    total_within_of (aligner.Increase seconds) of (numbers_add of takes) points all
 
 -- ---- the reach of a grid
 
@@ -138,7 +188,7 @@ is_in_reach grid by point = int_lt (least_time grid -ℤ seconds_of by) point.en
 
 -- what a point weighs, if it is in reach
 abbrev pub reached : Grid → Aligner → Point → ℕ
-reached grid by point = cond (is_in_reach grid by point) (weight point) 0
+reached grid by point = cond (is_in_reach grid by point) (weighed by point) 0
 
 times_between : (low high e : ℤ) (p : ℕ) → e ≡ pos p → (n : ℕ) (t : ℤ) → low ≤ℤ (t -ℤ pos ((n - 1) * p)) → t ≤ℤ high
     → AllByRecursion (λ time. (low ≤ℤ time) × (time ≤ℤ high)) (times_back n t e)
@@ -178,26 +228,96 @@ window_reached grid by time between point e =
     let parts = and_both (int_lt (time -ℤ seconds_of by) point.end) (int_le point.end time) e in
     reach_by (least_time grid) time (seconds_of by) point.end grid.moment between.0 between.1 parts.0 parts.1
 
-window_step : (b c : Bool) (point : Point) (some : List Point) (rest : ℕ) → (b ≡ true → c ≡ true)
-    → sum_by weight some ≤ rest
-    → sum_by weight (cond b (point ∷ some) some) ≤ cond c (weight point) 0 + rest
-window_step true true point some rest h less = omega (arith, sum_by-cons weight point some, less)
-window_step true false point some rest h less = let no : false ≡ true = h refl in absurd cc
-window_step false c point some rest h less = omega (arith, less)
+window_step : (by : Aligner) (b c : Bool) (point : Point) (some : List Point) (rest : ℕ) → (b ≡ true → c ≡ true)
+    → sum_by (weighed by) some ≤ rest
+    → sum_by (weighed by) (cond b (point ∷ some) some) ≤ cond c (weighed by point) 0 + rest
+window_step by true true point some rest h less = omega (arith, sum_by-cons (weighed by) point some, less)
+window_step by true false point some rest h less = let no : false ≡ true = h refl in absurd cc
+window_step by false c point some rest h less = omega (arith, less)
 
 -- the points in a window of the grid are in reach
 pub window_weight : (grid : Grid) (by : Aligner) (time : ℤ) → IsBetween grid time → (points : List Point)
-    → sum_by weight (window_of time (seconds_of by) points) ≤ sum_by (reached grid by) points
+    → sum_by (weighed by) (window_of time (seconds_of by) points) ≤ sum_by (reached grid by) points
 window_weight grid by time between [] = omega arith
 window_weight grid by time between (point ∷ points) =
     omega (
       arith,
-      window_step (ends_within time (seconds_of by) point) (is_in_reach grid by point) point
+      window_step by (ends_within time (seconds_of by) point) (is_in_reach grid by point) point
           (window_of time (seconds_of by) points)
           (sum_by (reached grid by) points) (window_reached grid by time between point)
           (window_weight grid by time between points),
       sum_by-cons (reached grid by) point points,
     )
+
+-- ---- a series as an aligner sees it
+
+-- increases end where their points do, and each weighs the same
+increases_reached : (grid : Grid) (seconds : ℤ) (before : Option Point) (points : List Point)
+    → sum_by (reached grid (aligner.Increase seconds)) (increases before points)
+    ≡ sum_by (reached grid (aligner.Increase seconds)) points
+increases_reached grid seconds before [] = refl
+increases_reached grid seconds before (point ∷ points) =
+    let by = aligner.Increase seconds in
+    sum_by-cons (reached grid by) (record point { value = increase before point }) (increases (Some point) points)
+    ∙ ap (λ n. reached grid by point + n) (increases_reached grid seconds (Some point) points)
+    ∙ sym (sum_by-cons (reached grid by) point points)
+
+seen_reached : (grid : Grid) (by : Aligner) (points : List Point)
+    → sum_by (reached grid by) (seen_as by points) ≡ sum_by (reached grid by) points
+seen_reached grid (aligner.Delta seconds) points = refl
+seen_reached grid (aligner.Increase seconds) points = increases_reached grid seconds None points
+seen_reached grid (aligner.NextOlder seconds) points = refl
+
+less_number : (x y : Value) → HasType type.Int x → HasType type.Int y → HasType type.Int (less x y)
+less_number (value.Int x) (value.Int y) h k = tt
+less_number (value.Int x) (value.Bool b) h k = absurd k
+less_number (value.Int x) (value.Text s) h k = absurd k
+less_number (value.Int x) (value.Dist counts) h k = absurd k
+less_number (value.Bool b) y h k = absurd h
+less_number (value.Text s) y h k = absurd h
+less_number (value.Dist counts) y h k = absurd h
+
+number_by : (b : Bool) (x y : Value) → HasType type.Int x → HasType type.Int y → HasType type.Int (cond b x y)
+number_by true x y h k = h
+number_by false x y h k = k
+
+increase_number : (before : Option Point) (point : Point)
+    → IfSome before (λ (p : Point). HasType type.Int p.value) → HasType type.Int point.value
+    → HasType type.Int (increase before point)
+increase_number None point h k = k
+increase_number (Some p) point h k =
+    number_by (int_eq p.start point.start) (less point.value p.value) point.value
+    (less_number point.value p.value k h) k
+
+increases_numbers : (before : Option Point) (points : List Point)
+    → IfSome before (λ (p : Point). HasType type.Int p.value)
+    → AllByRecursion (λ (p : Point). HasType type.Int p.value) points
+    → AllByRecursion (λ (p : Point). HasType type.Int p.value) (increases before points)
+increases_numbers before [] h all = tt
+increases_numbers before (p ∷ points) h all =
+    (increase_number before p h all.0, increases_numbers (Some p) points all.0 all.1)
+
+increases_fit : (seconds : ℤ) (of : ValueType) → is_kind_met kind.Cumulative of ≡ true → (points : List Point)
+    → AllByRecursion (PointFits of) points
+    → AllByRecursion (SeenFits (aligner.Increase seconds) of) (increases None points)
+increases_fit seconds type.Int met points all =
+    all_both (λ (p : Point). HasType type.Int p.value) (λ (p : Point). magnitude p.value ≤ 2 ^ 64)
+    (increases None points)
+    (increases_numbers None points tt
+    (all-map (PointFits type.Int) (λ (p : Point). HasType type.Int p.value) points (λ p fit. fit.0) all))
+    (all-map (λ (p : Point). magnitude p.value ≤ 2 ^ 63 + 2 ^ 63) (λ (p : Point). magnitude p.value ≤ 2 ^ 64)
+    (increases None points) (λ p h. omega (arith, h))
+    (increases_large (2 ^ 63) None points tt
+    (all-map (PointFits type.Int) (λ (p : Point). magnitude p.value ≤ 2 ^ 63) points (λ p fit. fit.1) all)))
+increases_fit seconds type.Bool met points all = absurd cc
+increases_fit seconds type.Text met points all = absurd cc
+increases_fit seconds (type.Dist bounds) met points all = absurd cc
+
+seen_fit : (by : Aligner) (of : ValueType) → Takes by of → (points : List Point)
+    → AllByRecursion (PointFits of) points → AllByRecursion (SeenFits by of) (seen_as by points)
+seen_fit (aligner.Delta seconds) of takes points all = all
+seen_fit (aligner.Increase seconds) of takes points all = increases_fit seconds of takes points all
+seen_fit (aligner.NextOlder seconds) of takes points all = all
 
 -- what a series has at each time of a grid
 pub value_within : (grid : Grid) → IsLawfulGrid grid → (by : Aligner) (of : ValueType) → Takes by of
@@ -209,11 +329,12 @@ value_within grid lawful by of takes points all =
     all-map (IsBetween grid) (λ time. ValueWithin of (sum_by (reached grid by) points) (value_at by points time))
     (grid_times grid)
     (λ time between.
-    point_within of (sum_by weight (window_of time (seconds_of by) points))
+    let seen = seen_as by points in
+    point_within of (sum_by (weighed by) (window_of time (seconds_of by) seen))
     (sum_by (reached grid by) points) (value_at by points time)
-    (made_within by of takes (window_of time (seconds_of by) points)
-    (all-filter (PointFits of) (ends_within time (seconds_of by)) points all))
-    (window_weight grid by time between points))
+    (made_within by of takes (window_of time (seconds_of by) seen)
+    (all-filter (SeenFits by of) (ends_within time (seconds_of by)) seen (seen_fit by of takes points all)))
+    (omega (arith, window_weight grid by time between seen, seen_reached grid by points)))
     (grid_reach grid lawful)
 
 -- ---- sums over the times of a grid
@@ -332,12 +453,14 @@ all_timed P by points (suc n) t e all =
 -- the most that a value has once it is aligned
 abbrev pub most_of : Aligner → ℕ → ℕ
 most_of (aligner.Delta seconds) whole = whole
+most_of (aligner.Increase seconds) whole = whole
 most_of (aligner.NextOlder seconds) whole = 2 ^ 63
 
-made_small : (by : Aligner) (of : ValueType) (points : List Point) → AllByRecursion (PointFits of) points
+made_small : (by : Aligner) (of : ValueType) (points : List Point) → AllByRecursion (SeenFits by of) points
     → (whole : ℕ) (o : Option Value) → o ≡ value_made by points
     → ValueWithin of whole o → ValueWithin of (most_of by whole) o
 made_small (aligner.Delta seconds) of points all whole o is fit = fit
+made_small (aligner.Increase seconds) of points all whole o is fit = fit
 made_small (aligner.NextOlder seconds) of points all whole None is fit = tt
 made_small (aligner.NextOlder seconds) of points all whole (Some v) is fit =
     let P : Option Value → Type 0 = λ p. amount p ≤ 2 ^ 63 in
@@ -359,14 +482,15 @@ pub aligned_fit : (grid : Grid) → IsLawfulGrid grid → (by : Aligner) (of : V
     (aligned_values by grid points)
 aligned_fit grid lawful by of takes points all =
     let whole = sum_by (reached grid by) points in
+    let seen = seen_as by points in
     all_timed (λ v. HasType of v × (magnitude v ≤ most_of by whole)) by points (time_count grid) grid.moment
     grid.every
     (all-map (λ at. ValueWithin of whole (value_at by points at))
     (λ at. (v : Value) → value_at by points at ≡ Some v → HasType of v × (magnitude v ≤ most_of by whole))
     (grid_times grid)
     (λ at fit. some_within of (most_of by whole) (value_at by points at)
-    (made_small by of (window_of at (seconds_of by) points)
-    (all-filter (PointFits of) (ends_within at (seconds_of by)) points all) whole
+    (made_small by of (window_of at (seconds_of by) seen)
+    (all-filter (SeenFits by of) (ends_within at (seconds_of by)) seen (seen_fit by of takes points all)) whole
     (value_at by points at) refl fit))
     (value_within grid lawful by of takes points all))
 
@@ -396,3 +520,43 @@ pub can_add_all : (of : ValueType) → is_kind_met kind.Delta of ≡ true → (v
 can_add_all of met [] all = tt
 can_add_all of met (first ∷ values) all =
     all-map (HasType of) (CanAdd first) (first ∷ values) (λ v h. can_add of met first v all.0 h) all
+
+-- totals are numbers
+number_is : (of : ValueType) → is_kind_met kind.Cumulative of ≡ true → (v : Value) → HasType of v → IsNumber v
+number_is type.Int met (value.Int z) h = tt
+number_is type.Int met (value.Bool b) h = absurd h
+number_is type.Int met (value.Text s) h = absurd h
+number_is type.Int met (value.Dist counts) h = absurd h
+number_is type.Bool met v h = absurd cc
+number_is type.Text met v h = absurd cc
+number_is (type.Dist bounds) met v h = absurd cc
+
+pub are_numbers : (of : ValueType) → is_kind_met kind.Cumulative of ≡ true → (values : List Value)
+    → AllByRecursion (HasType of) values → AllByRecursion IsNumber values
+are_numbers of met values all = all-map (HasType of) IsNumber values (λ v h. number_is of met v h) all
+
+newest_light : (of : ValueType) (points : List Point) → AllByRecursion (PointFits of) points
+    → sum_by weight (option_to_list (newest_point points)) ≤ 2 ^ 63
+newest_light of [] all = omega arith
+newest_light of (point ∷ []) all = omega (arith, sum_by-cons weight point [], all.0.1)
+newest_light of (point ∷ next ∷ points) all = newest_light of (next ∷ points) all.1
+
+-- a window and the point before it weigh little more than the window's increases may
+pub earlier_weight : (grid : Grid) (seconds time : ℤ) → IsBetween grid time → (of : ValueType) (points : List Point)
+    → AllByRecursion (PointFits of) points
+    → sum_by magnitude (values_of (window_with_earlier time seconds points))
+    ≤ 2 ^ 63 + sum_by (reached grid (aligner.Increase seconds)) points
+earlier_weight grid seconds time between of points all =
+    let by = aligner.Increase seconds in
+    let early = ended_by (time -ℤ seconds) points in
+    let window = window_of time seconds points in
+    let seen = all-map (PointFits of) (SeenFits by of) window (λ p fit. (fit.0, omega (arith, fit.1)))
+    (all-filter (PointFits of) (ends_within time seconds) points all) in
+    omega (
+      arith,
+      sum_of_values (window_with_earlier time seconds points),
+      sum_by-append weight (option_to_list (newest_point early)) window,
+      newest_light of early (all-filter (PointFits of) (λ (p : Point). int_le p.end (time -ℤ seconds)) points all),
+      weights_less by of window seen,
+      window_weight grid by time between points,
+    )

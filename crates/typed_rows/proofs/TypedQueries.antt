@@ -38,8 +38,9 @@ use Rattle.typed_trees.specs.Nodes.{NodeTree, TypedTree, columns_of}
 use Rattle.mon_schema.specs.Fits.{IsHeld}
 use Rattle.typed_trees.specs.Soundness.{AreBranchesSpelled, AreOpsSpelled, HasLiterals, IsDeedSpelled, IsPipeSpelled}
 use Rattle.typed_trees.specs.Soundness.{IsSourceSpelled}
-use Rattle.typed_trees.specs.Typing.{Part, align_faults, align_node, aligned_by_default, aligned_tree, branch_faults}
-use Rattle.typed_trees.specs.Typing.{branch_node, branches_faults, branches_node, deed_faults, deed_part}
+use Rattle.typed_trees.specs.Typing.{Part, align_faults, align_node, aligned_as, aligned_by_default, aligned_tree}
+use Rattle.typed_trees.specs.Typing.{branch_faults, branch_node, branches_faults, branches_node, deed_faults, deed_part}
+use Rattle.typed_trees.specs.Typing.{delta_faults, delta_of}
 use Rattle.typed_trees.specs.Typing.{default_aligner, fetch_part, further_faults, further_node, ops_faults, ops_part}
 use Rattle.typed_trees.specs.Typing.{pipe_faults, pipe_part, source_faults, source_part, typing}
 use Rattle.typed_rows.proofs.AlignedValues.{Takes}
@@ -77,14 +78,22 @@ delta_met found metric is =
     let P : Kind → Type 0 = λ of. is_kind_met of found.value ≡ true in
     subst P is metric.met
 
+total_met : (found : MetricSchema) → IsHeld found → found.kind ≡ kind.Cumulative
+    → is_kind_met kind.Cumulative found.value ≡ true
+total_met found metric is =
+    let P : Kind → Type 0 = λ of. is_kind_met of found.value ≡ true in
+    subst P is metric.met
+
 default_takes : (every : ℤ) (of : Kind) (found : MetricSchema) → IsHeld found → found.kind ≡ of
     → Takes (default_aligner every of) found.value
 default_takes every kind.Gauge found metric is = tt
 default_takes every kind.Delta found metric is = delta_met found metric is
+default_takes every kind.Cumulative found metric is = total_met found metric is
 
 default_duration : (every : ℤ) (of : Kind) → IsDuration every → IsDuration (seconds_of (default_aligner every of))
 default_duration every kind.Gauge long = long
 default_duration every kind.Delta long = long
+default_duration every kind.Cumulative long = long
 
 -- what isn't aligned is aligned by the step of the times
 aligned_ruled : (held : SchemaLists) (every : ℤ) → IsDuration every → (points : Option Kind) (tree : NodeTree)
@@ -101,31 +110,44 @@ aligned_ruled held every long (Some of) tree own = record {
   is = refl;
 }
 
+-- the delta of a metric without a fault is one that its values can be taken into
+delta_takes : (seconds : ℤ) (of : Kind) (at : ℕ) (found : MetricSchema) → IsHeld found → found.kind ≡ of
+    → delta_faults of at ≡ [] → Takes (delta_of of seconds) found.value
+delta_takes seconds kind.Gauge at found metric is none = absurd cc
+delta_takes seconds kind.Delta at found metric is none = delta_met found metric is
+delta_takes seconds kind.Cumulative at found metric is none = total_met found metric is
+
+delta_duration : (seconds : ℤ) (of : Kind) → IsDuration seconds → IsDuration (seconds_of (delta_of of seconds))
+delta_duration seconds kind.Gauge long = long
+delta_duration seconds kind.Delta long = long
+delta_duration seconds kind.Cumulative long = long
+
+as_takes : (of : Kind) (by : Aligner) (at : ℕ) (found : MetricSchema) → IsHeld found → found.kind ≡ of
+    → align_faults (Some of) at by ≡ [] → Takes (aligned_as (Some of) by) found.value
+as_takes of (aligner.Delta seconds) at found metric is none = delta_takes seconds of at found metric is none
+as_takes of (aligner.Increase seconds) at found metric is none = delta_takes seconds of at found metric is none
+as_takes of (aligner.NextOlder seconds) at found metric is none = tt
+
+as_duration : (of : Kind) (by : Aligner) → IsDuration (seconds_of by)
+    → IsDuration (seconds_of (aligned_as (Some of) by))
+as_duration of (aligner.Delta seconds) long = delta_duration seconds of long
+as_duration of (aligner.Increase seconds) long = delta_duration seconds of long
+as_duration of (aligner.NextOlder seconds) long = long
+
 -- an alignment without a fault
 align_ruled : (held : SchemaLists) (at : ℕ) (by : Aligner) → IsDuration (seconds_of by)
     → (points : Option Kind) (input : NodeTree) → IsRuled held points input
-    → align_faults points at by ≡ [] → AreRows held (align_node (Some at) by input)
+    → align_faults points at by ≡ [] → AreRows held (align_node (Some at) (aligned_as points by) input)
 align_ruled held at by long None input own none = absurd cc
-align_ruled held at (aligner.Delta seconds) long (Some kind.Gauge) input own none = absurd cc
-align_ruled held at (aligner.NextOlder seconds) long (Some kind.Gauge) input own none = record {
+align_ruled held at by long (Some of) input own none = record {
   target = own.target;
   found = own.found;
   metric = own.metric;
-  takes = tt;
-  duration = long;
+  takes = as_takes of by at own.found own.metric own.kind_is none;
+  duration = as_duration of by long;
   points = own.points;
   is = refl;
 }
-align_ruled held at (aligner.Delta seconds) long (Some kind.Delta) input own none = record {
-  target = own.target;
-  found = own.found;
-  metric = own.metric;
-  takes = delta_met own.found own.metric own.kind_is;
-  duration = long;
-  points = own.points;
-  is = refl;
-}
-align_ruled held at (aligner.NextOlder seconds) long (Some kind.Delta) input own none = absurd cc
 
 -- ---- filters
 

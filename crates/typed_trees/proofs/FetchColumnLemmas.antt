@@ -14,7 +14,8 @@ use Rattle.typed_trees.specs.Nodes as node
 use Rattle.typed_trees.specs.Nodes.{NodeTree, TypedTree, columns_of, level_of}
 use Rattle.typed_trees.specs.Plans.{HasFetchColumns, fetches}
 use Rattle.typed_trees.specs.Times.{every_said, pipe_order_faults, query_times, times_faults}
-use Rattle.typed_trees.specs.Typing.{Part, align_faults, align_node, aligned_tree, branch_faults, branch_node}
+use Rattle.typed_trees.specs.Typing.{Part, align_faults, align_node, aligned_as, aligned_tree, branch_faults}
+use Rattle.typed_trees.specs.Typing.{branch_node}
 use Rattle.typed_trees.specs.Typing.{branches_faults, branches_node, deed_faults, deed_part, further_faults}
 use Rattle.typed_trees.specs.Typing.{further_node, info, ops_faults, ops_part, pipe_faults, pipe_part, query_faults}
 use Rattle.typed_trees.specs.Typing.{source_faults, source_part, typed_query, typing, tree_or_fault}
@@ -74,7 +75,7 @@ filter_has held at by (Some of) part has = (refl, has)
 
 align_has : (held : SchemaLists) (at : ℕ) (by : Aligner) (points : Option Kind) (part : NodeTree)
     → PartHas held points part → align_faults points at by ≡ []
-    → AllByRecursion (HasFetchColumns held) (fetches (align_node (Some at) by part))
+    → AllByRecursion (HasFetchColumns held) (fetches (align_node (Some at) (aligned_as points by) part))
 align_has held at by None part has none = absurd (cc)
 align_has held at by (Some of) part has none = (has, tt)
 

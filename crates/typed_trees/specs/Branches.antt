@@ -4,7 +4,8 @@ use Rattle.std.specs.Prelude.{map, Option, Some, None, option_map, unwrap_or}
 use Rattle.std.specs.List.{flat_map, filter_map, list_any}
 use Rattle.std.specs.Cmp.Lexicographic.{pointwise}
 use Rattle.std.specs.Ordering.{int_eq}
-use Rattle.mon_value.specs.declared.limits.TheConstants.{NUMBER_BITS, ROW_BITS, SUM_BITS, WIDEST_SUM}
+use Rattle.mon_value.specs.declared.limits.TheConstants.{INCREASE_BITS, NUMBER_BITS, ROW_BITS, SUM_BITS}
+use Rattle.mon_value.specs.declared.limits.TheConstants.{WIDEST_SUM}
 use Rattle.mon_value.specs.declared.columns.Column.{Column}
 use Rattle.mon_value.specs.Tables.{has_name, right_columns}
 use Rattle.mon_value.specs.Same.{same_text, same_truth}
@@ -27,6 +28,10 @@ point_width = record { cell = NUMBER_BITS; total = SUM_BITS }
 -- a delta's sum over a window, which has as many rows as a table
 abbrev pub delta_width : Width
 delta_width = record { cell = SUM_BITS; total = SUM_BITS }
+
+-- the increases of totals over a window, of as many points
+abbrev pub increase_width : Width
+increase_width = record { cell = INCREASE_BITS; total = INCREASE_BITS }
 
 -- the number of the rows of a group
 abbrev pub count_width : Width

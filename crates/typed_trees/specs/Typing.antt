@@ -21,7 +21,7 @@ use Rattle.typed_trees.specs.declared.levels.Level.{Level}
 use Rattle.typed_trees.specs.declared.levels.Level.TheVariants as level
 use Rattle.typed_trees.specs.declared.nodes.NodeInfo.{NodeInfo}
 use Rattle.typed_trees.specs.Branches.{common_columns, join_columns, join_faults, union_columns, union_faults}
-use Rattle.typed_trees.specs.Branches.{delta_width, point_width, with_width}
+use Rattle.typed_trees.specs.Branches.{delta_width, increase_width, point_width, with_width}
 use Rattle.typed_trees.specs.Faults.{fault_at, first_fault}
 use Rattle.typed_trees.specs.Fetches.{fetch_columns, fetch_faults, kind_of, condition_faults, predicate_faults}
 use Rattle.typed_trees.specs.Groupings.{aggregates_over, grouped_columns, group_faults, listed_columns, listed_places}
@@ -59,6 +59,7 @@ fetch_part held at schema metric =
 -- how wide values are once they are aligned
 abbrev pub aligned_width : Aligner → Width
 aligned_width (aligner.Delta seconds) = delta_width
+aligned_width (aligner.Increase seconds) = increase_width
 aligned_width (aligner.NextOlder seconds) = point_width
 
 -- alignment leaves the keys, and widens the value
@@ -69,10 +70,24 @@ abbrev pub align_node : Option ℕ → Aligner → NodeTree → NodeTree
 align_node at by tree =
     node.Align (info at (map (aligned_column by) (columns_of tree)) (level_of tree)) by tree
 
--- a gauge has its newest value, and a delta the sum of its values
+-- what a delta is: the sum of a metric's values, and of totals what they increase by
+abbrev pub delta_of : Kind → ℤ → Aligner
+delta_of kind.Gauge seconds = aligner.Delta seconds
+delta_of kind.Delta seconds = aligner.Delta seconds
+delta_of kind.Cumulative seconds = aligner.Increase seconds
+
+-- a gauge has its newest value, and any other its delta
 abbrev pub default_aligner : ℤ → Kind → Aligner
 default_aligner every kind.Gauge = aligner.NextOlder every
-default_aligner every kind.Delta = aligner.Delta every
+default_aligner every kind.Delta = delta_of kind.Delta every
+default_aligner every kind.Cumulative = delta_of kind.Cumulative every
+
+-- what an alignment of points of a kind is, by what the query says
+abbrev pub aligned_as : Option Kind → Aligner → Aligner
+aligned_as None by = by
+aligned_as (Some of) (aligner.Delta seconds) = delta_of of seconds
+aligned_as (Some of) (aligner.Increase seconds) = delta_of of seconds
+aligned_as (Some of) (aligner.NextOlder seconds) = aligner.NextOlder seconds
 
 abbrev pub aligned_by_default : ℤ → Option Kind → NodeTree → NodeTree
 aligned_by_default every None tree = tree
@@ -82,13 +97,24 @@ aligned_by_default every (Some of) tree = align_node None (default_aligner every
 abbrev pub aligned_tree : ℤ → Part → NodeTree
 aligned_tree every part = aligned_by_default every part.points part.tree
 
--- a gauge is aligned as a gauge, a delta as a delta, and a table not again
+-- a gauge has no delta
+abbrev pub delta_faults : Kind → ℕ → List TypeFault
+delta_faults kind.Gauge at = fault_at at fault.NotDelta ∷ []
+delta_faults kind.Delta at = []
+delta_faults kind.Cumulative at = []
+
+-- a gauge alone has a newest value
+abbrev pub newest_faults : Kind → ℕ → List TypeFault
+newest_faults kind.Gauge at = []
+newest_faults kind.Delta at = fault_at at fault.NotGauge ∷ []
+newest_faults kind.Cumulative at = fault_at at fault.NotGauge ∷ []
+
+-- a gauge is aligned as a gauge, any other as a delta, and a table not again
 abbrev pub align_faults : Option Kind → ℕ → Aligner → List TypeFault
 align_faults None at by = fault_at at fault.BadOrder ∷ []
-align_faults (Some kind.Gauge) at (aligner.Delta seconds) = fault_at at fault.NotDelta ∷ []
-align_faults (Some kind.Gauge) at (aligner.NextOlder seconds) = []
-align_faults (Some kind.Delta) at (aligner.Delta seconds) = []
-align_faults (Some kind.Delta) at (aligner.NextOlder seconds) = fault_at at fault.NotGauge ∷ []
+align_faults (Some of) at (aligner.Delta seconds) = delta_faults of at
+align_faults (Some of) at (aligner.Increase seconds) = delta_faults of at
+align_faults (Some of) at (aligner.NextOlder seconds) = newest_faults of at
 
 -- ---- operations on tables
 
@@ -120,7 +146,8 @@ filter_part at by part = record part {
 -- a pipe with an operation more
 abbrev pub deed_part : SchemaLists → ℤ → Part → ℕ → DeedTree → Part
 deed_part held every part at (tree.Filter predicate) = filter_part at predicate part
-deed_part held every part at (tree.Align by) = table (align_node (Some at) by part.tree)
+deed_part held every part at (tree.Align by) =
+    table (align_node (Some at) (aligned_as part.points by) part.tree)
 deed_part held every part at (tree.GroupBy names aggregates) =
     table (group_node held at names aggregates (aligned_tree every part))
 deed_part held every part at (tree.Value items) = table (value_node at items (aligned_tree every part))

@@ -25,7 +25,7 @@ pub enum TypeKind {
     Mismatch(TypeWord, TypeWord),
     /// A gauge is aligned as a delta.
     NotDelta,
-    /// A delta is aligned as a gauge.
+    /// A delta or a cumulative metric is aligned as a gauge.
     NotGauge,
     /// A column would have the name of another one, or `time`.
     DuplicateColumn,

@@ -17,4 +17,4 @@ pub use levels::Level;
 pub use nodes::{Node, NodeInfo, Typed};
 pub use plans::{Formulas, Plan};
 pub use times::Times;
-pub use widths::{OF_COUNT, OF_DELTA, OF_NUMBER, Operand, Width};
+pub use widths::{OF_COUNT, OF_DELTA, OF_INCREASE, OF_NUMBER, Operand, Width};

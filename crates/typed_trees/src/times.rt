@@ -108,6 +108,7 @@ fn seconds_of(by: Aligner) -> i64
     ensures seconds { result ≡ seconds_of by }
 {
     match by {
-        Aligner::Delta(seconds) | Aligner::NextOlder(seconds) => seconds,
+        Aligner::Delta(seconds) | Aligner::NextOlder(seconds) | Aligner::Increase(seconds) =>
+            seconds,
     }
 }

@@ -4,7 +4,7 @@ ghost use Rattle.typed_trees.specs.Faults.{first_with};
 ghost use Rattle.typed_trees.specs.Branches as spec;
 
 use crate::faults::{Faults, TypeKind};
-use mon_value::{Column, NUMBER_BITS, ROW_BITS, SUM_BITS, Shared, WIDEST_SUM};
+use mon_value::{Column, INCREASE_BITS, NUMBER_BITS, ROW_BITS, SUM_BITS, Shared, WIDEST_SUM};
 use std::cmp::{max, min};
 
 /// Two bounds in bits, of what a column holds at one time: each magnitude is at most 2 to the power of `cell`,
@@ -25,6 +25,12 @@ pub const OF_NUMBER: Width = Width {
 pub const OF_DELTA: Width = Width {
     cell: SUM_BITS,
     total: SUM_BITS,
+};
+
+/// What the increases of a cumulative metric come to in a window.
+pub const OF_INCREASE: Width = Width {
+    cell: INCREASE_BITS,
+    total: INCREASE_BITS,
 };
 
 /// What the number of a group's rows has.

@@ -81,12 +81,16 @@ pub fn push_duration(out: &mut String, seconds: i64) -> Result<(), AllocError>
     out.push_str("s")
 }
 
-/// An aligner with its duration in parentheses.
+/// An aligner with its duration in parentheses. An increase is the delta of a cumulative metric.
 pub fn push_aligner(out: &mut String, by: Aligner) -> Result<(), AllocError>
     ensures { OnOk result (string_bytes out.new ≡ string_bytes out.old ++ aligner_text by) }
 {
     let seconds = match by {
         Aligner::Delta(seconds) => {
+            out.push_str("delta(")?;
+            seconds
+        }
+        Aligner::Increase(seconds) => {
             out.push_str("delta(")?;
             seconds
         }
