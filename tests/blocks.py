@@ -2,11 +2,11 @@
 come.
 
 The lines of a block run beside each other. Of the rows that a feed of the block brings to a range, a query there has
-seen those of a front, and all that stood before the block. How rows, switches and recoveries come out is worked out
-by `replicas.py`: what is printed of them may come if some order of their steps brings it about, and all states in
-which such orders end are kept until what is printed later tells which of them it is. What is printed outside of
-blocks is worked out from these states and the points alone. At the end all leaves come up, and all that was accepted
-is asked for."""
+seen those of a front, and all that stood before the block. A pour of two files is two feeds that go on at once,
+wherever it stands. How rows, switches and recoveries come out is worked out by `replicas.py`: what is printed of them
+may come if some order of their steps brings it about, and all states in which such orders end are kept until what is
+printed later tells which of them it is. What is printed outside of blocks is worked out from these states and the
+points alone. At the end all leaves come up, and all that was accepted is asked for."""
 
 import json
 import re
@@ -17,6 +17,8 @@ from replicas import Beside, Setting
 
 SUMS = sql.ALL
 QUESTIONS = ("query", "check", "explain")
+# The lines that name files.
+FEEDS = ("feed", "pour")
 # Texts of queries, with the span of their alignment and their operations.
 TEXTS = {SUMS: (1000, ["fetch leaf", "align leaf"]), "fetch Task::/work": (60, ["fetch leaf"])}
 REFUSED = {
@@ -87,17 +89,19 @@ class Script:
         begun, self.end = self.end, self.end + 50
         leaves, ranges = self.setting.zones[0]
         leaf, place = self.setting.leaves[chance.choice(leaves)], self.setting.ranges[chance.choice(ranges)]
-        feed = self.a_feed(chance, begun, [])
+        feed = chance.choice([self.a_feed, self.a_feed, self.a_pour])(chance, begun, [])
         for line in (Line("down", (leaf,)), feed, Line("up", (leaf,)), Line("recover", (place, leaf))):
             self.parts.append((chance.random() < 0.2, [line]))
 
     def a_line(self, chance, is_block, begun, part):
-        kinds = {"feed": 6, "ask": 4, "switch": 6 * self.has_switches, "recover": 4 * self.has_switches}
+        kinds = {"feed": 5, "pour": 2, "ask": 4, "switch": 6 * self.has_switches, "recover": 4 * self.has_switches}
         if self.has_ticks and not is_block:
             kinds |= {"standing": 3, "tick": 10}
         kind = chance.choices(list(kinds), list(kinds.values()))[0]
         if kind == "feed":
             return self.a_feed(chance, begun, part)
+        if kind == "pour":
+            return self.a_pour(chance, begun, part)
         if kind == "ask":
             moment = chance.choice([sql.MOMENT, sql.MOMENT, self.end])
             return Line(chance.choice(QUESTIONS), (moment, chance.choice([SUMS, SUMS, *TEXTS])))
@@ -118,9 +122,16 @@ class Script:
         text = chance.choice([*TEXTS, *TEXTS, *TEXTS, *REFUSED])
         return Line("standing", (chance.choice(NAMES), chance.choice(PERIODS), text))
 
+    def a_pour(self, chance, begun, part):
+        """Two such files as a feed has, at once."""
+        first = self.a_feed(chance, begun, part)
+        second = self.a_feed(chance, begun, [*part, first])
+        return Line("pour", first.given + second.given)
+
     def a_feed(self, chance, begun, part):
-        """A file of points, most of which end in the part's time, of series that no other feed of the part brings."""
-        taken = {fields for line in part if line.word == "feed" for _, _, fields in self.files[line.given[0]]}
+        """A file of points, most of which end in the part's time, of series that no other file of the part brings."""
+        names = [name for line in part if line.word in FEEDS for name in line.given]
+        taken = {fields for name in names for _, _, fields in self.files[name]}
         own = [fields for fields in self.series if fields not in taken and chance.random() < 0.5]
         name = f"p{len(self.files)}.csv"
         records = [
@@ -131,7 +142,7 @@ class Script:
         ]
         if self.has_switches:
             # So that all orders can be gone through.
-            room = MOST_ROWS - sum(len(self.files[line.given[0]]) for line in part if line.word == "feed")
+            room = MOST_ROWS - sum(len(self.files[name]) for name in names)
             kept = sorted(chance.sample(range(len(records)), min(len(records), chance.randint(0, room))))
             records = [records[number] for number in kept]
         self.files[name] = records
@@ -208,8 +219,8 @@ class Course:
 
     def run(self, line, state):
         """The state behind a line alone, its text, and what it accepted."""
-        if line.word == "feed":
-            return self.feed(line.given[0], state)
+        if line.word in FEEDS:
+            return self.feeds(line.given, state)
         if line.word in QUESTIONS:
             return state, self.ask(line.word, *line.given, state), []
         state, outcome = self.setting.alone(state, self.operation(line))
@@ -220,6 +231,14 @@ class Course:
         if line.word == "recover":
             return "recover", self.setting.ranges.index(line.given[0]), self.setting.leaves.index(line.given[1])
         return "switch", self.setting.leaves.index(line.given[0]), line.word == "down"
+
+    def feeds(self, names, state):
+        text, accepted = "", []
+        for name in names:
+            state, printed, taken = self.feed(name, state)
+            text += printed
+            accepted += taken
+        return state, text, accepted
 
     def feed(self, name, state):
         accepted, refused, lasts = [], [], {}
@@ -318,12 +337,13 @@ class Course:
                 return None
             given = given[len(printed) :]
             text += "".join(f"{one}\n" for one in printed)
-            if line.word == "feed":
-                work, accepted = self.told_feed(line.given[0], printed[1:])
-                if work is None or printed[0].split(":")[1] != f" {len(accepted)} accepted, {len(printed) - 1} refused":
-                    return None
-                works.append(work)
-                brought.append(accepted)
+            if line.word in FEEDS:
+                for name, lines in zip(line.given, fed_by(line.given, printed)):
+                    work, accepted = self.told_feed(name, lines[1:])
+                    if work is None or lines[0].split(":")[1] != f" {len(accepted)} accepted, {len(lines) - 1} refused":
+                        return None
+                    works.append(work)
+                    brought.append(accepted)
             elif line.word in QUESTIONS:
                 asked.append((line, printed))
             else:
@@ -340,7 +360,7 @@ class Course:
     def told_feed(self, name, lines):
         """The work of a feed with the refusals that are told, and what it accepted; no work where those can't be."""
         refused = dict(line.removeprefix("row ").split(": ", 1) for line in lines if re.match(r"row \d+: ", line))
-        if list(map(int, refused)) != sorted(map(int, refused)):
+        if len(refused) != len(lines) or list(map(int, refused)) != sorted(map(int, refused)):
             return None, []
         work, accepted, lasts = [], [], {}
         for number, (end, value, fields) in enumerate(self.script.files[name], 1):
@@ -460,11 +480,11 @@ def printed_by(line, given, setting):
     if not given or not given[0]:
         return None
     count = 1
-    if line.word == "feed":
-        told = re.fullmatch(r"feed (\S+): \d+ accepted, (\d+) refused", given[0])
-        if told is None or told[1] != line.given[0]:
+    if line.word in FEEDS:
+        texts = fed_by(line.given, given)
+        if texts is None:
             return None
-        count += int(told[2])
+        count = sum(map(len, texts))
     elif line.word in QUESTIONS and not given[0].startswith("refused: "):
         ends = [number for number, one in enumerate(given) if re.fullmatch(r"\d+ rows", one)]
         if not ends:
@@ -473,6 +493,18 @@ def printed_by(line, given, setting):
         if line.word == "explain":
             count += len(TEXTS[line.given[1]][1]) + len(setting.leaves)
     return given[:count] if len(given) > count else None
+
+
+def fed_by(names, given):
+    """The lines that each of these files printed, one behind the other; none where they could not."""
+    texts = []
+    for name in names:
+        told = re.fullmatch(r"feed (\S+): \d+ accepted, (\d+) refused", given[0]) if given else None
+        if told is None or told[1] != name:
+            return None
+        texts.append(given[: int(told[2]) + 1])
+        given = given[len(texts[-1]) :]
+    return texts
 
 
 def table_rows(lines, moment):

@@ -35,6 +35,7 @@ use Rattle.run_traces.specs.LineTexts.{line_text}
 use Rattle.run_traces.specs.declared.traces.LineFault.TheVariants as why
 use Rattle.run_traces.specs.declared.traces.LineTrace.{LineTrace}
 use Rattle.run_traces.specs.declared.traces.LineTrace.TheVariants as came
+use Rattle.run_traces.specs.declared.line_files.LineFiles.{LineFiles}
 use Rattle.running_query.specs.Looks.{GoesOn}
 use Rattle.running_query.proofs.GoingLemmas.{fronts_through}
 
@@ -91,7 +92,7 @@ module _ (store : Setting) (config : Config) (before : Knowledge)
       → GoesOn store before after → IsQueried config text moment config.limit before after (Err fault)
       → {F : Type 0} (result : Result LineRan F)
       → IfOk result (IsRefusedFor config.topology fault)
-      → IfOk result (λ ran. (content : List ℕ)
+      → IfOk result (λ ran. (content : LineFiles)
       → LineWrote config (ran_line (question what moment text) content ran.trace) ran.text before after)
   refused_ran what moment text after fault goes queried (Ok ran) refused = λ content.
       subst (λ (r : LineRan). LineWrote config (ran_line (question what moment text) content r.trace) r.text before
@@ -135,7 +136,7 @@ module _ (store : Setting) (config : Config) (before : Knowledge)
         (lengths_of before.seen) (lengths_of after.seen) mid.seen after.seen answer.trace
         (wider before.seen mid.seen after.seen goes.fronts same.fronts (more held)) ended.ends.rightly.of
 
-    wrote : IsHeld → (content : List ℕ) (ran : LineRan) → IsPrinted config what moment text mid answer.trace ran
+    wrote : IsHeld → (content : LineFiles) (ran : LineRan) → IsPrinted config what moment text mid answer.trace ran
         → LineWrote config (ran_line (question what moment text) content ran.trace) ran.text before after
     wrote held content ran printed =
         let trace : LineTrace = came.Asked moment answer.trace in
@@ -153,7 +154,7 @@ module _ (store : Setting) (config : Config) (before : Knowledge)
 
     pub answered_ran : {F : Type 0} (result : Result LineRan F)
         → IfOk result (IsPrinted config what moment text mid answer.trace) → IfOk result (λ ran. IsHeld)
-        → IfOk result (λ ran. (content : List ℕ)
+        → IfOk result (λ ran. (content : LineFiles)
         → LineWrote config (ran_line (question what moment text) content ran.trace) ran.text before after)
     answered_ran (Ok ran) printed held = λ content. wrote held content ran printed
     answered_ran (Err failed) printed held = tt

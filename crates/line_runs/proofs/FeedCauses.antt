@@ -10,7 +10,7 @@ use Rattle.history_book.specs.declared.views.History.{History}
 use Rattle.history_book.specs.declared.views.BookEntry.TheVariants as one
 use Rattle.history_book.specs.declared.views.History.TheVariants as of
 use Rattle.know.specs.Knowledge.{Knowledge}
-use Rattle.line_runs.specs.Feeding.{CanBeTold}
+use Rattle.ingest_queue.specs.Offers.{CanBeTold}
 use Rattle.mon_config.specs.declared.config.Config.{Config}
 use Rattle.know.proofs.SoundLemmas.{within_front}
 use Rattle.mon_store.specs.Writes.{AreAllDown, IsRefused, IsRefusedAs, WasFoundSo}

@@ -1,9 +1,10 @@
--- What a feed found: each refusal stands behind the rows that were accepted before it, and before the others.
+-- What became of a file's records was found so: each refusal stands behind the rows of the file that were accepted before
+-- it, and before the others.
 use Rattle.std.proofs.Common.{◌≡◌, ℕ, ◌+◌, ◌-◌, ◌<◌, ◌≤◌, Bool, true, false, cond, List, []}
 use Rattle.std.proofs.Common.{◌∷◌, ◌++◌, length, map, filter, slice_get, take, drop, Some, refl, sym, ap, ◌∙◌, subst}
-use Rattle.std.proofs.Common.{arith, append_assoc, append-nil, inl, inr}
+use Rattle.std.proofs.Common.{arith, append_assoc, inl, inr}
 use Rattle.std.specs.Prelude.{Contains}
-use Rattle.std.specs.List.{AllByRecursion, flat_map}
+use Rattle.std.specs.List.{AllByRecursion, list_any}
 use Rattle.std.proofs.lemmas.Bool.{cases_lt}
 use Rattle.std.proofs.lemmas.Bool.Decides.{nat_tests}
 use Rattle.std.proofs.lemmas.List.{drop_at, length-append, take_at}
@@ -15,7 +16,7 @@ use Rattle.history_book.specs.declared.views.BookEntry.{BookEntry}
 use Rattle.history_book.specs.declared.views.History.{History}
 use Rattle.history_book.specs.declared.views.History.TheVariants as of
 use Rattle.know.specs.Knowledge.{Knowledge}
-use Rattle.line_runs.specs.Feeding.{AreFed, WasTaken}
+use Rattle.line_runs.specs.Feeding.{WasTaken}
 use Rattle.mon_config.specs.declared.config.Config.{Config}
 use Rattle.mon_points.specs.declared.records.RowRead.{RowRead}
 use Rattle.mon_points.specs.declared.records.RowRead.TheVariants as read
@@ -34,30 +35,20 @@ use Rattle.query_traces.specs.Traces.{IsBetween, Lengths}
 use Rattle.range_cell.specs.declared.answers.WriteFault.TheVariants as unwritten
 use Rattle.run_traces.specs.LineCauses.{HasRowCause, WereMissed, rows_before}
 use Rattle.run_traces.specs.LineClaims.{AllTakenFound, FoundAmid, RowFound, RowsFound, TakenFound, marked}
-use Rattle.run_traces.specs.LineFeeds.{AreTold, refused_at}
-use Rattle.run_traces.specs.LineTables.{row_cuts}
-use Rattle.run_traces.specs.LineSwitches.{found_cuts, is_fed}
-use Rattle.run_traces.specs.declared.traces.RowRefusal.{RowRefusal}
-use Rattle.run_traces.specs.declared.traces.RowRefused.{RowRefused}
-use Rattle.run_traces.specs.declared.traces.RowRefused.TheVariants as refused
+use Rattle.ingest_queue.specs.Ends.{refused_at}
+use Rattle.run_traces.specs.LineTables.{file_cuts, row_cuts}
+use Rattle.run_traces.specs.LineSwitches.{found_cuts, is_fed, is_row}
+use Rattle.ingest_queue.specs.declared.refusals.RowRefusal.{RowRefusal}
+use Rattle.ingest_queue.specs.declared.refusals.RowRefused.{RowRefused}
+use Rattle.ingest_queue.specs.declared.refusals.RowRefused.TheVariants as refused
 use Rattle.run_traces.proofs.ListFacts.{both_all}
 use Rattle.run_traces.proofs.RowFacts.{fed_pass}
 use Rattle.line_runs.proofs.FeedCauses.{cause_stands, contained, found_down, lengths}
-use Rattle.line_runs.proofs.FeedParts.{AreSources, Part, at_new, fed_apart, part_both, part_none, part_of, part_refused}
+use Rattle.line_runs.proofs.FeedParts.{AreSources, Part, at_new, fed_apart, part_both, part_none, part_refused}
 use Rattle.line_runs.proofs.FeedParts.{part_taken, same_pass}
 use Rattle.line_runs.proofs.FeedRows.{at_end, front_stands}
-
--- ---- each record is told of
-
-pub all_told : (config : Config) (n : ℕ) (reads : List RowRead) (rows : List Row) (refusals : List RowRefusal)
-    (x z : Knowledge) → AreFed config n reads rows refusals x z → AreTold n reads rows refusals
-all_told config n [] rows refusals x z fed = (fed.0, fed.1)
-all_told config n (read.Fault fault ∷ reads) rows refusals x z fed =
-    (fed.0, fed.1, all_told config (n + 1) reads rows fed.0 x z fed.2)
-all_told config n (read.Row row ∷ reads) rows refusals x z fed = elim fed.1 [
-  | inl t ↦ inl (t.0, t.1, all_told config (n + 1) reads t.0 refusals fed.0 z t.3)
-  | inr t ↦ inr (t.0, t.1, t.2, all_told config (n + 1) reads rows t.1 fed.0 z t.4)
-]
+use Rattle.line_runs.proofs.FileRecords.{AreFedAmid, IsAmong, among_part, gap_behind, refused_gap, row_behind}
+use Rattle.run_traces.proofs.Causes.{fed_more}
 
 -- ---- where refusals stand
 
@@ -103,43 +94,53 @@ module _ (config : Config) (first last : Knowledge) (sources : AreSources config
         (front_stands (entries m.seen h) (entries last.seen h) (entries_front m.seen last.seen left.still.fronts h) k e
         there less) low (fed_pass (pass_of first) more e mine)) mine)
 
-    -- what was so between is found amid the feed's rows
-    amid : (front rest : List Row) → rows ≡ front → more ≡ rest → (Is : Lengths → Lengths → Type 0)
-        → Is (marked (lengths b)) (marked (lengths m))
+    -- what was so between is found amid rows that are among them
+    amid : (front rest : List Row) → ((w : Row) → list_any (is_row w) front ≡ true → list_any (is_row w) rows ≡ true)
+        → ((w : Row) → list_any (is_row w) rest ≡ true → list_any (is_row w) more ≡ true)
+        → (Is : Lengths → Lengths → Type 0) → Is (marked (lengths b)) (marked (lengths m))
         → FoundAmid config last.seen (lengths first) (lengths last) (pass_of first) front rest Is
-    amid front rest rows_are more_are Is is = record {
+    amid front rest of_front of_rest Is is = record {
       since = lengths b;
       until = lengths m;
       low = seen_below first b done.still.fronts;
       forth = seen_below b m here.still.fronts;
       high = seen_below m last left.still.fronts;
       before = λ h place stands. stands_before h place stands.0 stands.1
-          (subst (λ (some : List Row). is_fed (pass_of first) some stands.0 ≡ true) (sym rows_are) stands.4);
+          (fed_more (pass_of first) front rows of_front stands.0 stands.4);
       behind = λ h place stands. stands_behind h place stands.0 stands.1 stands.2
-          (subst (λ (some : List Row). is_fed (pass_of first) some stands.0 ≡ true) (sym more_are) stands.4);
+          (fed_more (pass_of first) rest more of_rest stands.0 stands.4);
       is = is;
     }
 
-  row_found : (b m : Knowledge) (rows more : List Row) → Part config first b rows → Part config b m []
-      → Part config m last more → (reads : List RowRead) (n others : ℕ) (one : RowRead) (fault : RowRefused)
+  -- what is among rows that are the same
+  same_any : (w : Row) (rows more : List Row) → rows ≡ more → list_any (is_row w) rows ≡ true
+      → list_any (is_row w) more ≡ true
+  same_any w rows more same is = subst (λ (some : List Row). list_any (is_row w) some ≡ true) same is
+
+  row_found : (b m : Knowledge) (rows more : List Row) → IsAmong config first b rows → Part config b m []
+      → IsAmong config m last more → (reads : List RowRead) (n others : ℕ) (one : RowRead) (fault : RowRefused)
       → n ≡ length rows + others + 1 → slice_get reads (n - 1) ≡ Some one
       → HasRowCause config last.seen (marked (lengths b)) (marked (lengths m)) one fault
       → RowFound config last.seen (lengths first) (lengths last) reads (pass_of first) (rows ++ more) others
       (refused_at n fault)
   row_found b m rows more done here left reads n others one fault counted there cause =
-      let k : rows_before others (refused_at n fault) ≡ length rows = omega arith in record {
+      let k : rows_before others (refused_at n fault) ≡ length rows = omega arith in
+      let front = take (rows_before others (refused_at n fault)) (rows ++ more) in
+      let rest = drop (rows_before others (refused_at n fault)) (rows ++ more) in
+      record {
         read = one;
         read_is = there;
-        amid = amid b m rows [] more done here left (take (rows_before others (refused_at n fault)) (rows ++ more))
-            (drop (rows_before others (refused_at n fault)) (rows ++ more))
-            (sym (take_at rows more (rows_before others (refused_at n fault)) (sym k)))
-            (sym (drop_at rows more (rows_before others (refused_at n fault)) (sym k)))
+        amid = amid b m done.all [] left.all done.part here left.part front rest
+            (λ w is. done.among w
+            (same_any w front rows (take_at rows more (rows_before others (refused_at n fault)) (sym k)) is))
+            (λ w is. left.among w
+            (same_any w rest more (drop_at rows more (rows_before others (refused_at n fault)) (sym k)) is))
             (λ since until. HasRowCause config last.seen since until one fault) cause;
       }
 
   -- a row that was taken
-  taken_found : (b m : Knowledge) (rows more : List Row) (row : Row) → Part config first b rows
-      → WasTaken config row b m → Part config m last more
+  taken_found : (b m : Knowledge) (rows more : List Row) (row : Row) → IsAmong config first b rows
+      → WasTaken config row b m → IsAmong config m last more
       → TakenFound config last.seen (lengths first) (lengths last) (pass_of first) (rows ++ row ∷ more) (length rows) row
   taken_found b m rows more row done taken left =
       let w = taken.written in
@@ -147,7 +148,7 @@ module _ (config : Config) (first last : Knowledge) (sources : AreSources config
       let all = rows ++ row ∷ more in
       let e = range_entry.Acked (pass_of first) row taken.ack in
       let there : range_history m.seen w.range ≡ w.history ++ e ∷ [] =
-      w.acknowledged ∙ ap (λ n. w.history ++ range_entry.Acked n row taken.ack ∷ []) (same_pass first b done.still) in
+      w.acknowledged ∙ ap (λ n. w.history ++ range_entry.Acked n row taken.ack ∷ []) (same_pass first b done.part.still) in
       let past : drop (place + 1) all ≡ more =
       ap (drop (place + 1)) (sym (append_assoc rows (row ∷ []) more))
       ∙ drop_at (rows ++ row ∷ []) more (place + 1) (length-append rows (row ∷ [])) in
@@ -155,40 +156,45 @@ module _ (config : Config) (first last : Knowledge) (sources : AreSources config
         range = w.range;
         ack = taken.ack;
         told = prefix_contains (range_history m.seen w.range) (range_history last.seen w.range) e
-            (left.still.fronts.1 w.range)
+            (left.part.still.fronts.1 w.range)
             (subst (λ (h : List RangeEntry). Contains h e) (sym there) (Contains-push w.history e));
-        amid = amid b m rows (row ∷ []) more done (part_taken config row b m taken) left (take place all)
-            (drop (place + 1) all) (sym (take_at rows (row ∷ more) place refl)) (sym past)
+        amid = amid b m done.all (row ∷ []) left.all done.part (part_taken config row b m taken) left.part
+            (take place all) (drop (place + 1) all)
+            (λ v is. done.among v (same_any v (take place all) rows (take_at rows (row ∷ more) place refl) is))
+            (λ v is. left.among v (same_any v (drop (place + 1) all) more past is))
             (λ since until. WereMissed last.seen since until taken.ack)
             (contained (λ (miss : Miss). IsFoundBetween (marked (lengths b)) (marked (lengths m)) last.seen
             (record { leaf = miss.leaf; cut = miss.cut })) taken.ack.missed
-            (λ miss there. let was = w.missed miss there in found_down config b m last left.still.fronts
+            (λ miss there. let was = w.missed miss there in found_down config b m last left.part.still.fronts
             (record { leaf = miss.leaf; cut = miss.cut }) was.from was.down));
       }
 
+  abbrev AllTaken : List Row → ℕ → List Row → Type 0
+  AllTaken all place some =
+      AllTakenFound config last.seen (lengths first) (lengths last) (pass_of first) all place some
+
   pub all_taken_found : (n : ℕ) (reads : List RowRead) (b : Knowledge) (rows more : List Row)
-      (refusals : List RowRefusal) → Part config first b rows → AreFed config n reads more refusals b last
-      → AllTakenFound config last.seen (lengths first) (lengths last) (pass_of first) (rows ++ more) (length rows) more
+      (refusals : List RowRefusal) → IsAmong config first b rows → AreFedAmid config n reads more refusals b last
+      → AllTaken (rows ++ more) (length rows) more
   all_taken_found n [] b rows more refusals done fed =
-      subst (λ (some : List Row). AllTakenFound config last.seen (lengths first) (lengths last) (pass_of first)
-      (rows ++ some) (length rows) some) (sym fed.0) tt
+      subst (λ (some : List Row). AllTaken (rows ++ some) (length rows) some) (sym fed.0) tt
   all_taken_found n (read.Fault fault ∷ reads) b rows more refusals done fed =
       all_taken_found (n + 1) reads b rows more fed.0 done fed.2
-  all_taken_found n (read.Row row ∷ reads) b rows more refusals done fed = elim fed.1 [
-    | inl t ↦ subst (λ (some : List Row). AllTakenFound config last.seen (lengths first) (lengths last) (pass_of first)
-        (rows ++ some) (length rows) some) (sym t.1) (
-          taken_found b fed.0 rows t.0 row done t.2 (part_of config (n + 1) reads t.0 refusals fed.0 last t.3),
-          subst (λ k. AllTakenFound config last.seen (lengths first) (lengths last) (pass_of first) (rows ++ row ∷ t.0) k t.0)
-              (length-append rows (row ∷ []))
-              (subst (λ (all : List Row). AllTakenFound config last.seen (lengths first) (lengths last) (pass_of first) all
-              (length (rows ++ row ∷ [])) t.0) (append_assoc rows (row ∷ []) t.0)
-              (all_taken_found (n + 1) reads fed.0 (rows ++ row ∷ []) t.0 refusals
-              (part_both config first b fed.0 rows (row ∷ []) done (part_taken config row b fed.0 t.2)) t.3)),
+  all_taken_found n (read.Row row ∷ reads) b rows more refusals done fed =
+      let so_far = gap_behind config first b fed.0 rows done fed.2 in
+      elim fed.3 [
+        | inl t ↦ subst (λ (some : List Row). AllTaken (rows ++ some) (length rows) some) (sym t.1) (
+          taken_found fed.0 fed.1 rows t.0 row so_far t.2
+              (among_part config (n + 1) reads t.0 refusals fed.1 last t.3),
+          subst (λ k. AllTaken (rows ++ row ∷ t.0) k t.0) (length-append rows (row ∷ []))
+              (subst (λ (all : List Row). AllTaken all (length (rows ++ row ∷ [])) t.0)
+              (append_assoc rows (row ∷ []) t.0)
+              (all_taken_found (n + 1) reads fed.1 (rows ++ row ∷ []) t.0 refusals
+              (row_behind config first fed.0 fed.1 rows row so_far t.2) t.3)),
         )
-    | inr t ↦ all_taken_found (n + 1) reads fed.0 rows more t.1
-        (subst (λ (some : List Row). Part config first fed.0 some) (append-nil rows)
-        (part_both config first b fed.0 rows [] done (part_refused config b fed.0 t.3.unwritten))) t.4
-  ]
+        | inr t ↦ all_taken_found (n + 1) reads fed.1 rows more t.1
+            (gap_behind config first fed.0 fed.1 rows so_far (refused_gap config fed.0 fed.1 t.3.unwritten)) t.4
+      ]
 
   abbrev Found : List RowRead → List Row → ℕ → List RowRefusal → Type 0
   Found reads rows others refusals =
@@ -210,39 +216,41 @@ module _ (config : Config) (first last : Knowledge) (sources : AreSources config
 
   pub rows_found : (all front reads : List RowRead) (n others : ℕ) (b : Knowledge) (rows more : List Row)
       (refusals : List RowRefusal) → all ≡ front ++ reads → n ≡ length front + 1 → n ≡ length rows + others + 1
-      → Part config first b rows → AreFed config n reads more refusals b last
+      → IsAmong config first b rows → AreFedAmid config n reads more refusals b last
       → Found all (rows ++ more) others refusals
   rows_found all front [] n others b rows more refusals is placed counted done fed =
       subst (λ (some : List RowRefusal). Found all (rows ++ more) others some) (sym fed.1) tt
   rows_found all front (read.Fault fault ∷ reads) n others b rows more refusals is placed counted done fed =
       subst (λ (some : List RowRefusal). Found all (rows ++ more) others some) (sym fed.1) (
-        row_found b b rows more done (part_none config b) (part_of config (n + 1) reads more fed.0 b last fed.2)
+        row_found b b rows more done (part_none config b)
+            (among_part config (n + 1) reads more fed.0 b last fed.2)
             all n others (read.Fault fault) (refused.Read fault) counted
             (read_at front (read.Fault fault) reads all n is placed) refl,
         rows_found all (front ++ read.Fault fault ∷ []) reads (n + 1) (others + 1) b rows more fed.0
             (one_read front (read.Fault fault) reads all is)
             (let l = longer front (read.Fault fault) in omega arith) (omega arith) done fed.2,
       )
-  rows_found all front (read.Row row ∷ reads) n others b rows more refusals is placed counted done fed = elim fed.1 [
-    | inl t ↦ subst (λ (some : List Row). Found all some others refusals)
-        (append_assoc rows (row ∷ []) t.0 ∙ ap (λ (w : List Row). rows ++ w) (sym t.1))
-        (rows_found all (front ++ read.Row row ∷ []) reads (n + 1) others fed.0 (rows ++ row ∷ []) t.0 refusals
-        (one_read front (read.Row row) reads all is) (let l = longer front (read.Row row) in omega arith)
-        (let l = longer rows row in omega arith)
-        (part_both config first b fed.0 rows (row ∷ []) done (part_taken config row b fed.0 t.2)) t.3)
-    | inr t ↦ subst (λ (some : List RowRefusal). Found all (rows ++ more) others some) (sym t.2) (
-      row_found b fed.0 rows more done (part_refused config b fed.0 t.3.unwritten)
-          (part_of config (n + 1) reads more t.1 fed.0 last t.4) all n others (read.Row row) (refused.Write t.0)
-          counted (read_at front (read.Row row) reads all n is placed)
-          (cause_stands config b fed.0 last (part_of config (n + 1) reads more t.1 fed.0 last t.4).still.fronts row
-          t.0 t.3.told t.3.cause),
-      rows_found all (front ++ read.Row row ∷ []) reads (n + 1) (others + 1) fed.0 rows more t.1
-          (one_read front (read.Row row) reads all is) (let l = longer front (read.Row row) in omega arith)
-          (omega arith)
-          (subst (λ (some : List Row). Part config first fed.0 some) (append-nil rows)
-          (part_both config first b fed.0 rows [] done (part_refused config b fed.0 t.3.unwritten))) t.4,
-    )
-  ]
+  rows_found all front (read.Row row ∷ reads) n others b rows more refusals is placed counted done fed =
+      let so_far = gap_behind config first b fed.0 rows done fed.2 in
+      elim fed.3 [
+        | inl t ↦ subst (λ (some : List Row). Found all some others refusals)
+            (append_assoc rows (row ∷ []) t.0 ∙ ap (λ (w : List Row). rows ++ w) (sym t.1))
+            (rows_found all (front ++ read.Row row ∷ []) reads (n + 1) others fed.1 (rows ++ row ∷ []) t.0 refusals
+            (one_read front (read.Row row) reads all is) (let l = longer front (read.Row row) in omega arith)
+            (let l = longer rows row in omega arith)
+            (row_behind config first fed.0 fed.1 rows row so_far t.2) t.3)
+        | inr t ↦
+            let left = among_part config (n + 1) reads more t.1 fed.1 last t.4 in
+            subst (λ (some : List RowRefusal). Found all (rows ++ more) others some) (sym t.2) (
+              row_found fed.0 fed.1 rows more so_far (part_refused config fed.0 fed.1 t.3.unwritten) left all n others
+                  (read.Row row) (refused.Write t.0) counted (read_at front (read.Row row) reads all n is placed)
+                  (cause_stands config fed.0 fed.1 last left.part.still.fronts row t.0 t.3.told t.3.cause),
+              rows_found all (front ++ read.Row row ∷ []) reads (n + 1) (others + 1) fed.1 rows more t.1
+                  (one_read front (read.Row row) reads all is) (let l = longer front (read.Row row) in omega arith)
+                  (omega arith)
+                  (gap_behind config first fed.0 fed.1 rows so_far (refused_gap config fed.0 fed.1 t.3.unwritten)) t.4,
+            )
+      ]
 
 -- ---- cuts that refusals name
 
@@ -288,11 +296,11 @@ module _ (config : Config) (seen : Histories) (from to : History → ℕ) (leaf 
 
   pub cuts_between : (reads : List RowRead) (pass : ℕ) (rows : List Row) (others : ℕ) (refusals : List RowRefusal)
       → RowsFound config seen from to reads pass rows others refusals
-      → AllByRecursion Lies (flat_map (λ (refusal : RowRefusal). row_cuts leaf refusal.fault) refusals)
+      → AllByRecursion Lies (file_cuts leaf refusals)
   cuts_between reads pass rows others [] found = tt
   cuts_between reads pass rows others (refusal ∷ refusals) found =
       both_all Lies (row_cuts leaf refusal.fault)
-      (flat_map (λ (other : RowRefusal). row_cuts leaf other.fault) refusals)
+      (file_cuts leaf refusals)
       (cuts_by found.0.amid.since found.0.amid.until found.0.amid.low found.0.amid.high found.0.read refusal.fault
       found.0.amid.is)
       (cuts_between reads pass rows (others + 1) refusals found.1)

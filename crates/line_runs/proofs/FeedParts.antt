@@ -39,7 +39,7 @@ use Rattle.run_theory.proofs.Stands.{kept_stands, same_to}
 use Rattle.run_traces.specs.LineClaims.{FeedMade, book_row}
 use Rattle.run_traces.specs.LineFeeds.{HasItsAck, lies_in}
 use Rattle.run_traces.specs.LineSwitches.{is_fed, is_row}
-use Rattle.run_traces.specs.declared.traces.RowRefusal.{RowRefusal}
+use Rattle.ingest_queue.specs.declared.refusals.RowRefusal.{RowRefusal}
 use Rattle.run_traces.proofs.ListFacts.{all_as, all_at, any_at, both_all, made_kept}
 use Rattle.run_traces.proofs.Paired.{among_all}
 use Rattle.run_traces.proofs.RowFacts.{fed_row, lies_as, row_joined, row_key}
@@ -64,7 +64,7 @@ still_through x y z a b = record {
   handed = b.handed ∙ a.handed;
 }
 
-still_itself : (x : Knowledge) → IsStill x x
+pub still_itself : (x : Knowledge) → IsStill x x
 still_itself x = record {
   fronts = same_fronts x.seen;
   number = refl;
@@ -306,6 +306,29 @@ module _ (config : Config) where
         (subst (λ n. FeedMade config n more b.made) (same_pass x y a.still) b.fed);
     ranged = both_all (IsRanged config z) rows more
         (all_as (IsRanged config y) (IsRanged config z) (ranged_on y z b.still) rows a.ranged) b.ranged;
+  }
+
+  -- ---- nothing was written
+
+  pub unwritten_itself : (x : Knowledge) → IsUnwritten x x
+  unwritten_itself x = record {
+    still = still_itself x;
+    own = refl;
+    none = λ h. ap (filter (is_under (pass_of x)))
+        (drop_all (length (entries x.seen h)) (entries x.seen h) (omega arith));
+  }
+
+  pub unwritten_through : (x y z : Knowledge) → IsUnwritten x y → IsUnwritten y z → IsUnwritten x z
+  unwritten_through x y z a b = record {
+    still = still_through x y z a.still b.still;
+    own = b.own ∙ a.own;
+    none = λ h.
+        ap (filter (is_under (pass_of x))) (came_both (entries x.seen h) (entries y.seen h) (entries z.seen h)
+        (entries_front x.seen y.seen a.still.fronts h) (entries_front y.seen z.seen b.still.fronts h))
+        ∙ filter-append (is_under (pass_of x)) (drop (length (entries x.seen h)) (entries y.seen h))
+        (drop (length (entries y.seen h)) (entries z.seen h))
+        ∙ (λ i. a.none h i ++ (ap (λ n. filter (is_under n) (drop (length (entries y.seen h)) (entries z.seen h)))
+        (sym (same_pass x y a.still)) ∙ b.none h) i);
   }
 
   -- records, one after another

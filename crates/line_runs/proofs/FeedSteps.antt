@@ -3,18 +3,18 @@ use Rattle.std.proofs.Common.{◌≡◌, ℕ, ◌+◌, List, [], ◌∷◌, ◌+
 use Rattle.std.proofs.Common.{inl, inr, Result, Ok, Err, OnOk}
 use Rattle.know.specs.Knowledge.{Knowledge}
 use Rattle.line_runs.specs.Feeding.{AreFed, ReadRefused, RecordFed, RowRefusedFor, RowTaken}
-use Rattle.line_runs.specs.declared.feeds.Fed.{Fed}
+use Rattle.ingest_queue.specs.declared.ends.FileEnd.{FileEnd}
 use Rattle.mon_config.specs.declared.config.Config.{Config}
 use Rattle.mon_points.specs.declared.faults.RowFault.{RowFault}
 use Rattle.mon_points.specs.declared.records.RowRead.{RowRead}
 use Rattle.mon_points.specs.declared.records.RowRead.TheVariants as read
 use Rattle.mon_value.specs.declared.rows.Row.{Row}
-use Rattle.run_traces.specs.LineFeeds.{refused_at}
-use Rattle.run_traces.specs.declared.traces.RowRefusal.{RowRefusal}
-use Rattle.run_traces.specs.declared.traces.RowRefused.TheVariants as refused
+use Rattle.ingest_queue.specs.Ends.{refused_at}
+use Rattle.ingest_queue.specs.declared.refusals.RowRefusal.{RowRefusal}
+use Rattle.ingest_queue.specs.declared.refusals.RowRefused.TheVariants as refused
 
 -- whatever the records that are left come to, all come to that behind what was fed so far
-pub record Feeding (config : Config) (all left : List RowRead) (fed : Fed) (n : ℕ) (first now : Knowledge)
+pub record Feeding (config : Config) (all left : List RowRead) (fed : FileEnd) (n : ℕ) (first now : Knowledge)
     : Type 0 where
   pub whole : (rows : List Row) (refusals : List RowRefusal) (last : Knowledge)
       → AreFed config (n + 1) left rows refusals now last
@@ -29,7 +29,7 @@ module _ (config : Config) (all : List RowRead) (first : Knowledge) where
   fed_as rows rows' refusals refusals' last a b fed =
       subst (λ (r : List Row). AllFed r refusals' last) a (subst (λ (r : List RowRefusal). AllFed rows r last) b fed)
 
-  pub feeding_first : (left : List RowRead) (fed : Fed) → left ≡ all → fed.accepted ≡ [] → fed.refused ≡ []
+  pub feeding_first : (left : List RowRead) (fed : FileEnd) → left ≡ all → fed.accepted ≡ [] → fed.refused ≡ []
       → Feeding config all left fed 0 first first
   feeding_first left fed same none none' = record {
     whole = λ rows refusals last done. fed_as rows (fed.accepted ++ rows) refusals (fed.refused ++ refusals) last
@@ -37,7 +37,7 @@ module _ (config : Config) (all : List RowRead) (first : Knowledge) where
         (subst (λ (l : List RowRead). AreFed config 1 l rows refusals first last) same done);
   }
 
-  module _ (fed fed' : Fed) (n : ℕ) (now now' : Knowledge) (rest : List RowRead) where
+  module _ (fed fed' : FileEnd) (n : ℕ) (now now' : Knowledge) (rest : List RowRead) where
     row_taken : (row : Row) → RowTaken config row fed fed' now now' → Feeding config all (read.Row row ∷ rest) fed n first
         now → Feeding config all rest fed' (n + 1) first now'
     row_taken row did so_far = record {
@@ -90,7 +90,7 @@ module _ (config : Config) (all : List RowRead) (first : Knowledge) where
         (one_fed one (subst (λ k. RecordFed config k one fed fed' now now') count did)
         (subst (λ (l : List RowRead). Feeding config all l fed n first now) next so_far))
 
-  pub feeding_last : (left : List RowRead) (fed : Fed) (n : ℕ) (now : Knowledge) → left ≡ []
+  pub feeding_last : (left : List RowRead) (fed : FileEnd) (n : ℕ) (now : Knowledge) → left ≡ []
       → Feeding config all left fed n first now → AreFed config 1 all fed.accepted fed.refused first now
   feeding_last left fed n now none so_far =
       fed_as (fed.accepted ++ []) fed.accepted (fed.refused ++ []) fed.refused now (append-nil fed.accepted)

@@ -8,8 +8,11 @@ pub mod FeedParts
 pub mod FeedRows
 pub mod FeedSteps
 pub mod FeedWrote
+pub mod FileRecords
 mod Growing
+pub mod Offered
 pub mod OtherLines
+pub mod PourWrote
 mod Printed
 mod RecoveryWrote
 mod Results

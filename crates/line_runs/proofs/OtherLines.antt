@@ -17,6 +17,7 @@ use Rattle.run_traces.specs.LineTables.{refusal_cuts}
 use Rattle.run_traces.specs.LineTexts.{done_text, refused_line}
 use Rattle.run_traces.specs.declared.traces.LineFault.{LineFault}
 use Rattle.run_traces.specs.declared.traces.LineTrace.TheVariants as came
+use Rattle.run_traces.specs.declared.line_files.LineFiles.{LineFiles}
 use Rattle.mon_script.specs.declared.forms.LineForm.{LineForm}
 use Rattle.history_book.specs.Histories.{entries}
 use Rattle.history_book.specs.declared.views.History.{History}
@@ -44,7 +45,7 @@ abbrev pub reached : Knowledge → History → ℕ
 reached know history = length (entries know.seen history)
 
 -- a line that does nothing
-pub done_wrote : (config : Config) (what : LineForm) (content : List ℕ) (know : Knowledge)
+pub done_wrote : (config : Config) (what : LineForm) (content : LineFiles) (know : Knowledge)
     → Suits what came.Done → LineWrote config (ran_line what content came.Done) (done_text what) know know
 done_wrote config what content know suits = record {
   keeps = still_kept know;
@@ -62,7 +63,7 @@ done_wrote config what content know suits = record {
 }
 
 -- a line that is refused for a cause that is no leaf's
-pub still_refused : (config : Config) (what : LineForm) (content : List ℕ) (know : Knowledge) (fault : LineFault)
+pub still_refused : (config : Config) (what : LineForm) (content : LineFiles) (know : Knowledge) (fault : LineFault)
     → Suits what (came.Refused fault) → ((leaf : Leaf) → refusal_cuts leaf what fault ≡ [])
     → HasCause config know.seen (marked (reached know)) (marked (reached know)) what fault
     → LineWrote config (ran_line what content (came.Refused fault)) (refused_line config.topology fault) know know

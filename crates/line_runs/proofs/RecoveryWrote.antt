@@ -49,6 +49,7 @@ use Rattle.run_traces.specs.declared.traces.ControlDone.TheVariants as did
 use Rattle.run_traces.specs.declared.traces.RecoveryFault.{RecoveryFault}
 use Rattle.run_traces.specs.declared.traces.RecoveryFault.TheVariants as closed
 use Rattle.run_traces.specs.declared.traces.LineTrace.TheVariants as came
+use Rattle.run_traces.specs.declared.line_files.LineFiles.{LineFiles}
 use Rattle.run_traces.proofs.ListFacts.{both_all, no_item}
 use Rattle.run_traces.proofs.Switched.{leaf_there, range_there}
 use Rattle.running_query.specs.Ends.{WasFoundDown}
@@ -70,6 +71,7 @@ use Rattle.query_traces.proofs.LeafLemmas.{same_leaves}
 recovery_suits : (what : LineForm) (recovery : Recovery) → recovery_of what ≡ Some recovery → (slot : Slot)
     → Suits what (came.Controlled (did.Recovered slot))
 recovery_suits (form.Feed name) recovery is slot = absurd cc
+recovery_suits (form.Pour first second) recovery is slot = absurd cc
 recovery_suits (form.Ask asked) recovery is slot = absurd cc
 recovery_suits (form.Control control) recovery is slot = subst IsAsked (sym is) tt
 recovery_suits (form.Standing line) recovery is slot = absurd cc
@@ -78,6 +80,7 @@ recovery_suits (form.Block mark) recovery is slot = absurd cc
 unopened_suits : (what : LineForm) (recovery : Recovery) → recovery_of what ≡ Some recovery → (fault : RecoveryFault)
     → Suits what (came.Refused (recovery_told fault))
 unopened_suits (form.Feed name) recovery is fault = absurd cc
+unopened_suits (form.Pour first second) recovery is fault = absurd cc
 unopened_suits (form.Ask asked) recovery is fault = absurd cc
 unopened_suits (form.Control control) recovery is fault = subst IsAsked (sym is) tt
 unopened_suits (form.Standing line) recovery is fault = absurd cc
@@ -130,7 +133,7 @@ new_stands before after h e more is =
 -- ---- a replica that was opened
 
 module _ (config : Config) (what : LineForm) (recovery : Recovery) (asked : recovery_of what ≡ Some recovery)
-    (on : leaf_of what ≡ Some recovery.leaf) (content : List ℕ) (before after : Knowledge)
+    (on : leaf_of what ≡ Some recovery.leaf) (content : LineFiles) (before after : Knowledge)
     (was : Holds config before) (is : Holds config after) where
   abbrev range : Range
   range = recovery.range
@@ -375,7 +378,7 @@ pub recovery_wrote : {F : Type 0} (config : Config) (what : LineForm) (recovery 
     → IfErr result (IsNotRecovered config recovery.range recovery.leaf before after)
     → OnErr result (IsUnrecovered before after)
     → (ran : Result LineRan F) → IfOk ran (IsRecoveryRan config.topology recovery result)
-    → IfOk ran (λ line. (content : List ℕ)
+    → IfOk ran (λ line. (content : LineFiles)
     → LineWrote config (ran_line what content line.trace) line.text before after)
 recovery_wrote config what recovery asked on before after was is result done refused unwritten (Ok line) told =
     λ content. recovery_by config what recovery asked on content before after was is result done refused unwritten line

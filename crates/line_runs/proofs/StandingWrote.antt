@@ -19,6 +19,7 @@ use Rattle.run_traces.specs.LineCauses.{StandingCause}
 use Rattle.run_traces.specs.LineClaims.{marked}
 use Rattle.run_traces.specs.LineDues.{IsDueBy, stands_behind}
 use Rattle.run_traces.specs.declared.traces.LineFault.TheVariants as why
+use Rattle.run_traces.specs.declared.line_files.LineFiles.{LineFiles}
 use Rattle.standing.specs.DueLists.{add_fault, fault_in, is_taken, StandingState}
 use Rattle.standing.specs.declared.faults.DueFault.{DueFault}
 use Rattle.standing.specs.declared.faults.StandingFault.{StandingFault}
@@ -52,7 +53,7 @@ not_taken false fault tree is other = is
 
 -- ---- lines
 
-module _ (config : Config) (state : StandingState) (name : List ℕ) (period : ℤ) (text : List ℕ) (content : List ℕ)
+module _ (config : Config) (state : StandingState) (name : List ℕ) (period : ℤ) (text : List ℕ) (content : LineFiles)
     (know : Knowledge) where
   abbrev pub the_form : LineForm
   the_form = form.Standing (line.Stand name period text)
@@ -97,7 +98,7 @@ module _ (config : Config) (state : StandingState) (name : List ℕ) (period : �
   standing_due = due_by fault_told refl
 
 -- a tick whose moment isn't taken
-pub undue_wrote : (config : Config) (moment : ℤ) (content : List ℕ) (know : Knowledge) (fault : DueFault)
+pub undue_wrote : (config : Config) (moment : ℤ) (content : LineFiles) (know : Knowledge) (fault : DueFault)
     → LineWrote config
     (ran_line (form.Standing (line.Tick moment)) content (refused_for config.topology (why.Due fault)).trace)
     (refused_for config.topology (why.Due fault)).text know know

@@ -39,6 +39,7 @@ use Rattle.run_traces.specs.LineSwitches.{IsAsked, StandsBetween, SwitchMade, cu
 use Rattle.run_traces.specs.LineTexts.{line_text}
 use Rattle.run_traces.specs.declared.traces.ControlDone.TheVariants as did
 use Rattle.run_traces.specs.declared.traces.LineTrace.TheVariants as came
+use Rattle.run_traces.specs.declared.line_files.LineFiles.{LineFiles}
 use Rattle.run_traces.proofs.RunFacts.{book_length}
 use Rattle.line_runs.proofs.Causes.{HasItsCause, LiesBetween}
 use Rattle.line_runs.proofs.FeedWrote.{Holds}
@@ -54,6 +55,7 @@ use Rattle.mon_value.proofs.PlainLemmas.{equal_means}
 switch_suits : (what : LineForm) (switch : Switch) → switch_of what ≡ Some switch → (cut : ℕ)
     → Suits what (came.Controlled (did.Switched cut))
 switch_suits (form.Feed name) switch is cut = absurd cc
+switch_suits (form.Pour first second) switch is cut = absurd cc
 switch_suits (form.Ask asked) switch is cut = absurd cc
 switch_suits (form.Control control) switch is cut = subst IsAsked (sym is) tt
 switch_suits (form.Standing line) switch is cut = absurd cc
@@ -62,6 +64,7 @@ switch_suits (form.Block mark) switch is cut = absurd cc
 refusal_suits : (what : LineForm) (switch : Switch) → switch_of what ≡ Some switch → (fault : ControlFault)
     → Suits what (came.Refused (control_told fault))
 refusal_suits (form.Feed name) switch is fault = absurd cc
+refusal_suits (form.Pour first second) switch is fault = absurd cc
 refusal_suits (form.Ask asked) switch is fault = absurd cc
 refusal_suits (form.Control control) switch is fault = subst IsAsked (sym is) tt
 refusal_suits (form.Standing line) switch is fault = absurd cc
@@ -92,7 +95,7 @@ only_few e false = omega arith
 -- ---- a leaf that was switched
 
 module _ (config : Config) (what : LineForm) (switch : Switch) (asked : switch_of what ≡ Some switch)
-    (on : leaf_of what ≡ Some switch.leaf) (content : List ℕ) (before after : Knowledge)
+    (on : leaf_of what ≡ Some switch.leaf) (content : LineFiles) (before after : Knowledge)
     (was : Holds config before) (is : Holds config after) where
   abbrev leaf : Leaf
   leaf = switch.leaf
@@ -315,7 +318,7 @@ pub switch_wrote : {F : Type 0} (config : Config) (what : LineForm) (switch : Sw
     → IfErr result (IsNotSwitched switch.leaf (way switch.down) before after)
     → OnErr result (IsUnwritten before after)
     → (ran : Result LineRan F) → IfOk ran (λ line. line ≡ switch_ran config.topology switch result)
-    → IfOk ran (λ line. (content : List ℕ)
+    → IfOk ran (λ line. (content : LineFiles)
     → LineWrote config (ran_line what content line.trace) line.text before after)
 switch_wrote config what switch asked on before after was is result done refused unwritten (Ok line) told = λ content.
     subst (λ (l : LineRan). LineWrote config (ran_line what content l.trace) l.text before after) (sym told)

@@ -44,6 +44,7 @@ use Rattle.run_traces.specs.RanLines.{RanLine}
 use Rattle.run_traces.specs.declared.traces.LineFault.{LineFault}
 use Rattle.run_traces.specs.declared.traces.LineTrace.{LineTrace}
 use Rattle.run_traces.specs.declared.traces.LineTrace.TheVariants as came
+use Rattle.run_traces.specs.declared.line_files.LineFiles.{LineFiles}
 
 -- ---- a caller that owns what it owned
 
@@ -81,7 +82,7 @@ module _ (config : Config) (seen more : Histories) (moment : ℤ) (trace : Trace
 
 -- ---- what a line owes that wrote nothing
 
-module _ (config : Config) (form : LineForm) (content : List ℕ) (before after : Knowledge)
+module _ (config : Config) (form : LineForm) (content : LineFiles) (before after : Knowledge)
     (owns : OwnsAsMuch before after) where
   abbrev pub from : History → ℕ
   from = seen_of before.seen
@@ -143,7 +144,7 @@ module _ (config : Config) (form : LineForm) (content : List ℕ) (before after 
 
 -- ---- what a question owes that was answered
 
-module _ (config : Config) (what : How) (moment : ℤ) (text content : List ℕ) (before after : Knowledge)
+module _ (config : Config) (what : How) (moment : ℤ) (text : List ℕ) (content : LineFiles) (before after : Knowledge)
     (owns : OwnsAsMuch before after) where
   abbrev pub the_line : LineTrace → RanLine
   the_line trace = ran_line (question what moment text) content trace

@@ -11,11 +11,12 @@ use Rattle.owners.specs.Puts.{pass_of}
 use Rattle.run_traces.specs.LineClaims.{Finds, HaveGrown, Makes}
 use Rattle.run_traces.specs.LineTexts.{line_text}
 use Rattle.run_traces.specs.RanLines.{RanLine}
+use Rattle.run_traces.specs.declared.line_files.LineFiles.{LineFiles}
 use Rattle.run_traces.specs.declared.traces.LineTrace.{LineTrace}
 use Rattle.mon_script.specs.declared.forms.LineForm.{LineForm}
 
--- a line that ran: what it says, what its file holds, and what it came to
-abbrev pub ran_line : LineForm → List ℕ → LineTrace → RanLine
+-- a line that ran: what it says, what its files hold, and what it came to
+abbrev pub ran_line : LineForm → LineFiles → LineTrace → RanLine
 ran_line what content trace = record { what = what; content = content; trace = trace }
 
 -- The caller's number, the numbers that it met, those that it can hand out and those that nobody can are as before, and

@@ -25,7 +25,7 @@ use Rattle.query_traces.specs.declared.answers.Trace.{Trace}
 use Rattle.query_texts.specs.TextTypes.{text_type}
 use Rattle.query_texts.specs.declared.faults.TextFault.{TextFault}
 use Rattle.run_traces.specs.LineTexts.{line_text, refused_line}
-use Rattle.run_traces.specs.RanLines.{RanLine}
+use Rattle.run_traces.specs.RanLines.{RanLine, no_files}
 use Rattle.run_traces.specs.declared.traces.LineFault.{LineFault}
 use Rattle.run_traces.specs.declared.traces.LineFault.TheVariants as why
 use Rattle.run_traces.specs.declared.traces.QuestionFault.{QuestionFault}
@@ -41,7 +41,7 @@ question what moment text = form.Ask (asking what moment text)
 
 -- and what it came to
 abbrev pub asked_line : How → ℤ → List ℕ → LineTrace → RanLine
-asked_line what moment text trace = ran_line (question what moment text) [] trace
+asked_line what moment text trace = ran_line (question what moment text) no_files trace
 
 -- ---- answers
 

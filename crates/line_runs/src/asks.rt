@@ -6,6 +6,7 @@ ghost use Rattle.line_runs.specs.Questions.{IsAnswerTo, IsPrinted, asked_line, q
 ghost use Rattle.mon_store.specs.Gathers.{HasSeenTrace};
 ghost use Rattle.mon_store.specs.Passes.{OwnsTheSame};
 ghost use Rattle.mon_topo.specs.HeldHistories.{AreHeld};
+ghost use Rattle.run_traces.specs.declared.line_files.LineFiles.{LineFiles};
 ghost use Rattle.run_traces.specs.LineTexts.{line_text};
 ghost use Rattle.run_traces.specs.declared.traces.LineTrace.TheVariants as came;
 
@@ -32,7 +33,7 @@ pub(crate) fn ask_question<N: Names, R: Wait>(
     asked: &Question,
 ) -> Result<LineRan, OutOfMemory>
     requires moment { pos 0 ≤ℤ asked.now.moment }
-    ensures wrote { IfOk result (λ ran. (content : List ℕ) → LineWrote store.now
+    ensures wrote { IfOk result (λ ran. (content : LineFiles) → LineWrote store.now
         (ran_line (LineForm.Ask asked.now) content ran.trace) ran.text p.old p.new) }
     ensures fronts { AreFronts p.old.seen p.new.seen }
 {
@@ -50,7 +51,7 @@ pub(crate) fn ask<N: Names, R: Wait>(
     text: &Text,
 ) -> Result<LineRan, OutOfMemory>
     requires moment { pos 0 ≤ℤ moment }
-    ensures wrote { IfOk result (λ ran. (content : List ℕ) → LineWrote store.now
+    ensures wrote { IfOk result (λ ran. (content : LineFiles) → LineWrote store.now
         (ran_line (question what moment text.now) content ran.trace) ran.text p.old p.new) }
     ensures fronts { AreFronts p.old.seen p.new.seen }
 {

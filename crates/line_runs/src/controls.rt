@@ -8,6 +8,7 @@ ghost use Rattle.mon_script.specs.Controls.{IsLawfulControl, control_refusal_tex
 ghost use Rattle.mon_topo.specs.RangeHistories.{IsInZoneOf};
 ghost use Rattle.mon_topo.specs.Zones.{leaves_in};
 ghost use Rattle.run_traces.specs.LineAsks.{Recovery, Switch};
+ghost use Rattle.run_traces.specs.declared.line_files.LineFiles.{LineFiles};
 ghost use Rattle.run_traces.specs.LineSwitches.{control_fault_text, recovery_fault_text, switch_fault_text};
 
 use crate::lines::LineRan;
@@ -34,7 +35,7 @@ pub(crate) fn run_control<N: Names, R: Wait>(
     what: ControlForm,
 ) -> Result<LineRan, OutOfMemory>
     requires lawful { IsLawfulControl store.now.topology what }
-    ensures wrote { IfOk result (λ ran. (content : List ℕ) → LineWrote store.now
+    ensures wrote { IfOk result (λ ran. (content : LineFiles) → LineWrote store.now
         (ran_line (LineForm.Control what) content ran.trace) ran.text p.old p.new) }
     ensures fronts { AreFronts p.old.seen p.new.seen }
 {
@@ -54,7 +55,7 @@ fn take_down<N: Names, R: Wait>(
     leaf: Leaf,
 ) -> Result<LineRan, OutOfMemory>
     requires there { leaf.0 < length (leaves_in store.now.topology) }
-    ensures wrote { IfOk result (λ ran. (content : List ℕ) → LineWrote store.now
+    ensures wrote { IfOk result (λ ran. (content : LineFiles) → LineWrote store.now
         (ran_line (LineForm.Control (ControlForm.Down leaf)) content ran.trace) ran.text p.old p.new) }
     ensures fronts { AreFronts p.old.seen p.new.seen }
 {
@@ -74,7 +75,7 @@ fn take_up<N: Names, R: Wait>(
     leaf: Leaf,
 ) -> Result<LineRan, OutOfMemory>
     requires there { leaf.0 < length (leaves_in store.now.topology) }
-    ensures wrote { IfOk result (λ ran. (content : List ℕ) → LineWrote store.now
+    ensures wrote { IfOk result (λ ran. (content : LineFiles) → LineWrote store.now
         (ran_line (LineForm.Control (ControlForm.Up leaf)) content ran.trace) ran.text p.old p.new) }
     ensures fronts { AreFronts p.old.seen p.new.seen }
 {
@@ -132,7 +133,7 @@ fn recover<N: Names, R: Wait>(
     leaf: Leaf,
 ) -> Result<LineRan, OutOfMemory>
     requires zoned { IsInZoneOf store.now.topology range leaf }
-    ensures wrote { IfOk result (λ ran. (content : List ℕ) → LineWrote store.now
+    ensures wrote { IfOk result (λ ran. (content : LineFiles) → LineWrote store.now
         (ran_line (LineForm.Control (ControlForm.Recover range leaf)) content ran.trace) ran.text p.old p.new) }
     ensures fronts { AreFronts p.old.seen p.new.seen }
 {

@@ -1,14 +1,13 @@
-// What a feed prints.
+// What feeds and pours print.
 ghost use Rattle.std.specs.Prelude.{◌≡◌, ◌++◌, length, IfOk, OnOk, string_bytes};
 ghost use Rattle.std.specs.List.{flat_map};
-ghost use Rattle.run_traces.specs.LineFeeds.{refused_at};
+ghost use Rattle.ingest_queue.specs.Ends.{refused_at};
 ghost use Rattle.run_traces.specs.LineTexts as spec;
 
-use crate::feeds::Fed;
 use mon_topo::{Topology, down_text};
 use mon_value::{OutOfMemory, Text};
 use range_cell::WriteFault;
-use run_traces::{RowRefusal, RowRefusals, RowRefused};
+use run_traces::{FileEnd, Poured, RowRefusal, RowRefusals, RowRefused};
 use std::alloc::Global;
 
 /// How many records a feed accepted and refused, and a line for each that it refused.
@@ -16,16 +15,46 @@ pub(crate) fn feed_text(
     alloc: Global,
     topology: &Topology,
     name: &Text,
-    fed: &Fed,
+    end: &FileEnd,
 ) -> Result<Text, OutOfMemory>
     ensures text { IfOk result (λ text. text
-        ≡ spec.feed_text topology.now name.now (length fed.now.accepted) fed.now.refused) }
+        ≡ spec.feed_text topology.now name.now (length end.now.accepted) end.now.refused) }
 {
-    let mut text = feed_summary(alloc, name.as_str(), fed.accepted.len(), fed.refused.len())?;
-    match push_refusals(alloc, topology, &fed.refused, &mut text) {
-        Ok(()) => Text::from_string(text),
-        Err(fault) => Err(fault),
-    }
+    let mut text = String::new(alloc);
+    push_feed(alloc, topology, name, end, &mut text)?;
+    Text::from_string(text)
+}
+
+/// The same of two files that were poured, one behind the other.
+pub(crate) fn pour_text(
+    alloc: Global,
+    topology: &Topology,
+    first: &Text,
+    second: &Text,
+    ends: &Poured,
+) -> Result<Text, OutOfMemory>
+    ensures text { IfOk result (λ text. text ≡ spec.pour_text topology.now first.now second.now ends.now) }
+{
+    let mut text = String::new(alloc);
+    push_feed(alloc, topology, first, &ends.first, &mut text)?;
+    push_feed(alloc, topology, second, &ends.second, &mut text)?;
+    Text::from_string(text)
+}
+
+// Adds what a feed prints.
+fn push_feed(
+    alloc: Global,
+    topology: &Topology,
+    name: &Text,
+    end: &FileEnd,
+    text: &mut String,
+) -> Result<(), OutOfMemory>
+    ensures text { OnOk result (string_bytes text.new ≡ string_bytes text.old
+        ++ spec.feed_text topology.now name.now (length end.now.accepted) end.now.refused) }
+{
+    let summary = feed_summary(alloc, name.as_str(), end.accepted.len(), end.refused.len())?;
+    text.push_str(summary.as_str())?;
+    push_refusals(alloc, topology, &end.refused, text)
 }
 
 // The first line of a feed.

@@ -1,13 +1,14 @@
 // Feeding the records of a file.
 ghost use Rattle.std.specs.Prelude.{◌≡◌, ◌+◌, ◌∷◌, ◌++◌, [], true, IfOk, IfSome, MatchOption, OnOk};
 ghost use Rattle.history_book.specs.Histories.{AreFronts};
-ghost use Rattle.line_runs.specs.Feeding.{AreFed, CanBeTold, RecordFed, RowFed};
+ghost use Rattle.ingest_queue.specs.Offers.{CanBeTold};
+ghost use Rattle.line_runs.specs.Feeding.{AreFed, RecordFed, RowFed};
 ghost use Rattle.line_runs.specs.LineWrites.{LineWrote, ran_line};
 ghost use Rattle.mon_points.specs.Fitting.{ReadFits};
 ghost use Rattle.mon_points.specs.Left.{IsNextRead, reads_left};
 ghost use Rattle.mon_points.specs.Records.{reads_of};
 ghost use Rattle.mon_schema.specs.Fits.{fits};
-ghost use Rattle.run_traces.specs.LineFeeds.{refused_at};
+ghost use Rattle.ingest_queue.specs.Ends.{refused_at};
 
 use crate::feed_texts::feed_text;
 use crate::lines::LineRan;
@@ -17,16 +18,9 @@ use mon_script::LineForm;
 use mon_store::{Pass, Store};
 use mon_value::{OutOfMemory, Row, Text};
 use range_cell::WriteFault;
-use run_traces::{FedRows, LineTrace, RowRefusal, RowRefusals, RowRefused};
+use run_traces::{FedRows, FileEnd, LineFiles, LineTrace, RowRefusal, RowRefusals, RowRefused};
 use std::alloc::{AllocError, Global};
 use std::sync::Wait;
-
-/// The rows that a feed accepted, and the records that it refused.
-#[derive(Drop)]
-pub(crate) struct Fed {
-    pub accepted: FedRows,
-    pub refused: RowRefusals,
-}
 
 /// Feeds what a file holds: each record is read as a row, which is written, or the record is refused. Where memory runs
 /// out, the rows of records before that one stay written.
@@ -36,7 +30,7 @@ pub(crate) fn feed<N: Names, R: Wait>(
     store: &Store<N>,
     p: &mut Pass<N>,
     name: &Text,
-    content: &[u8],
+    content: &LineFiles,
 ) -> Result<LineRan, OutOfMemory>
     ensures wrote { IfOk result (λ ran. LineWrote store.now
         (ran_line (LineForm.Feed name.now) content.now ran.trace) ran.text p.old p.new) }
@@ -45,7 +39,7 @@ pub(crate) fn feed<N: Names, R: Wait>(
     store.is_set_up();
     p.is_sound();
     let pass = p.number();
-    let fed = fed_records(rt, alloc, store, p, content)?;
+    let fed = fed_records(rt, alloc, store, p, content.first.as_slice())?;
     p.is_sound();
     match feed_text(alloc, &store.config().topology, name, &fed) {
         Ok(text) => Ok(ran_feed(pass, fed, text)),
@@ -57,7 +51,7 @@ pub(crate) fn feed<N: Names, R: Wait>(
 }
 
 // A feed that ran, with what it prints.
-fn ran_feed(pass: u64, fed: Fed, text: Text) -> LineRan
+fn ran_feed(pass: u64, fed: FileEnd, text: Text) -> LineRan
     ensures trace { result.trace ≡ LineTrace.Fed pass fed.accepted fed.refused }
     ensures text { result.text ≡ text }
 {
@@ -78,7 +72,7 @@ fn fed_records<N: Names, R: Wait>(
     store: &Store<N>,
     p: &mut Pass<N>,
     content: &[u8],
-) -> Result<Fed, OutOfMemory>
+) -> Result<FileEnd, OutOfMemory>
     ensures fed { IfOk result (λ fed. AreFed store.now 1 (reads_of store.now.schemas content.now)
         fed.accepted fed.refused p.old p.new) }
     ensures fronts { AreFronts p.old.seen p.new.seen }
@@ -94,11 +88,11 @@ fn fed_records<N: Names, R: Wait>(
 }
 
 // No record was fed so far.
-fn none_fed(alloc: Global) -> Fed
+fn none_fed(alloc: Global) -> FileEnd
     ensures accepted { result.accepted ≡ [] }
     ensures refused { result.refused ≡ [] }
 {
-    Fed {
+    FileEnd {
         accepted: FedRows::new(),
         refused: RowRefusals::new(alloc),
     }
@@ -111,7 +105,7 @@ fn feed_content<N: Names, R: Wait>(
     store: &Store<N>,
     p: &mut Pass<N>,
     content: &[u8],
-    fed: &mut Fed,
+    fed: &mut FileEnd,
 ) -> Result<(), OutOfMemory>
     requires accepted { fed.old.accepted ≡ [] }
     requires refused { fed.old.refused ≡ [] }
@@ -132,7 +126,7 @@ fn feed_left<N: Names, R: Wait>(
     store: &Store<N>,
     p: &mut Pass<N>,
     reader: &mut RowReader<'_>,
-    fed: &mut Fed,
+    fed: &mut FileEnd,
 ) -> Result<(), OutOfMemory>
     requires accepted { fed.old.accepted ≡ [] }
     requires refused { fed.old.refused ≡ [] }
@@ -176,7 +170,7 @@ fn feed_record<N: Names, R: Wait>(
     p: &mut Pass<N>,
     number: u32,
     read: RowRead,
-    fed: &mut Fed,
+    fed: &mut FileEnd,
 ) -> Result<(), OutOfMemory>
     requires fits { ReadFits store.now.schemas read }
     ensures fed { OnOk result (RecordFed store.now number read fed.old fed.new p.old p.new) }
@@ -196,7 +190,7 @@ fn feed_row<N: Names, R: Wait>(
     p: &mut Pass<N>,
     number: u32,
     row: Row,
-    fed: &mut Fed,
+    fed: &mut FileEnd,
 ) -> Result<(), OutOfMemory>
     requires fits { fits store.now.schemas row ≡ true }
     ensures fed { OnOk result (RowFed store.now number row fed.old fed.new p.old p.new) }
@@ -215,7 +209,7 @@ fn feed_row<N: Names, R: Wait>(
 }
 
 // Accepts a row.
-fn accept(fed: &mut Fed, row: Row) -> Result<(), OutOfMemory>
+fn accept(fed: &mut FileEnd, row: Row) -> Result<(), OutOfMemory>
     ensures accepted { OnOk result (fed.new.accepted ≡ fed.old.accepted ++ row ∷ []) }
     ensures refused { fed.new.refused ≡ fed.old.refused }
 {
@@ -223,7 +217,7 @@ fn accept(fed: &mut Fed, row: Row) -> Result<(), OutOfMemory>
 }
 
 // Refuses a record whose row was not written. Want of memory ends the feed.
-fn refuse_row(fed: &mut Fed, number: u32, fault: WriteFault) -> Result<(), OutOfMemory>
+fn refuse_row(fed: &mut FileEnd, number: u32, fault: WriteFault) -> Result<(), OutOfMemory>
     ensures accepted { fed.new.accepted ≡ fed.old.accepted }
     ensures refused { OnOk result (fed.new.refused
         ≡ fed.old.refused ++ refused_at number (RowRefused.Write fault) ∷ []) }
@@ -235,8 +229,8 @@ fn refuse_row(fed: &mut Fed, number: u32, fault: WriteFault) -> Result<(), OutOf
     }
 }
 
-// A fault that a feed tells of.
-fn told(fault: WriteFault) -> Result<WriteFault, OutOfMemory>
+/// A fault that is told of a record.
+pub(crate) fn told(fault: WriteFault) -> Result<WriteFault, OutOfMemory>
     ensures same { IfOk result (λ told. told ≡ fault) }
     ensures told { IfOk result (λ told. CanBeTold told) }
 {
@@ -250,7 +244,7 @@ fn told(fault: WriteFault) -> Result<WriteFault, OutOfMemory>
 }
 
 // Refuses a record.
-fn refuse(fed: &mut Fed, number: u32, fault: RowRefused) -> Result<(), OutOfMemory>
+fn refuse(fed: &mut FileEnd, number: u32, fault: RowRefused) -> Result<(), OutOfMemory>
     ensures accepted { fed.new.accepted ≡ fed.old.accepted }
     ensures refused { OnOk result (fed.new.refused ≡ fed.old.refused ++ refused_at number fault ∷ []) }
 {

@@ -8,8 +8,10 @@ mod explanations;
 mod feed_texts;
 mod feeds;
 mod lines;
+mod pours;
 mod refusals;
 mod standing_lines;
+mod store_writers;
 
 pub use lines::{LineRan, run_line, run_query};
 pub use standing_lines::{add_standing, due_heading, refuse_tick};

@@ -147,6 +147,7 @@ module _ (schemas : SchemaLists) where
   opens_due : (state : StandingState) (what : LineForm) → mark_of what ≡ mark.Opens
       → IsDueBy schemas state what came.Done × (stands_behind state what came.Done ≡ state)
   opens_due state (form.Feed name) is = absurd cc
+  opens_due state (form.Pour first second) is = absurd cc
   opens_due state (form.Ask asked) is = absurd cc
   opens_due state (form.Control control) is = absurd cc
   opens_due state (form.Standing line) is = absurd cc
@@ -156,6 +157,7 @@ module _ (schemas : SchemaLists) where
   closes_due : (state : StandingState) (what : LineForm) → mark_of what ≡ mark.Closes
       → IsDueBy schemas state what came.Done × (stands_behind state what came.Done ≡ state)
   closes_due state (form.Feed name) is = absurd cc
+  closes_due state (form.Pour first second) is = absurd cc
   closes_due state (form.Ask asked) is = absurd cc
   closes_due state (form.Control control) is = absurd cc
   closes_due state (form.Standing line) is = absurd cc

@@ -37,6 +37,7 @@ use Rattle.run_traces.specs.LineDues.{AreDue, asked_parts, is_refused, lines_sta
 use Rattle.run_traces.specs.LineTexts.{line_text}
 use Rattle.run_traces.specs.RanLines.{RanLine, parts_of, ran_lines}
 use Rattle.run_traces.specs.declared.traces.LineTrace.{LineTrace}
+use Rattle.run_traces.specs.declared.line_files.LineFiles.{LineFiles}
 use Rattle.standing.specs.DueLists.{standing_state}
 use Rattle.running_query.proofs.GoingLemmas.{same_fronts}
 
@@ -69,7 +70,7 @@ first_ranges zones = length-map (range_with_len 0 (length (ranges_in zones))) (f
 
 -- ---- the status
 
-refused_ran : (lines : List ScriptLine) (contents : List (List ℕ)) (traces : List LineTrace)
+refused_ran : (lines : List ScriptLine) (contents : List LineFiles) (traces : List LineTrace)
     → length contents ≡ length lines → length traces ≡ length lines
     → list_any (λ (line : RanLine). is_refused line.trace) (ran_lines lines contents traces) ≡ list_any is_refused
     traces
@@ -85,7 +86,7 @@ status_by : (refused : Bool) → end_status refused ≡ cond refused 7 0
 status_by true = refl
 status_by false = refl
 
-status_is : (lines : List ScriptLine) (contents : List (List ℕ)) (traces : List LineTrace) (refused : Bool)
+status_is : (lines : List ScriptLine) (contents : List LineFiles) (traces : List LineTrace) (refused : Bool)
     → length contents ≡ length lines → length traces ≡ length lines → refused ≡ list_any is_refused traces
     → end_status refused ≡ lines_status (ran_lines lines contents traces)
 status_is lines contents traces refused held same is =
@@ -129,7 +130,7 @@ module _ (config : Config) (lines : List ScriptLine) (ended : Histories) (before
         ∙ append-nil ran.contents
 
     lines_are : lines_by config ran.given lines ran.traces ≡ ran_lines lines ran.contents ran.traces
-    lines_are = ap (λ (contents : List (List ℕ)). ran_lines lines contents ran.traces) contents_are
+    lines_are = ap (λ (contents : List LineFiles). ran_lines lines contents ran.traces) contents_are
 
     all_held : length ran.contents ≡ length lines
     all_held = ran.have.count ∙ length-map lines (λ (line : ScriptLine). line.what)

@@ -17,8 +17,9 @@ use Rattle.mon_run.specs.Laws.{CameToItsEnd, EndsAreReached, WasNone, WordsAreNo
 use Rattle.mon_run.specs.Outside.{Files, written_then}
 use Rattle.mon_run.specs.Plans.{Came, Command, behind_first, block_steps, came, command_of, command_plan, config_plan}
 use Rattle.mon_run.specs.Plans.{contents_of, file_plan, first_content, forms_of, left_plan, lines_by, lines_plan, lines_read}
-use Rattle.mon_run.specs.Plans.{made_number, named_read, next_forms, number_plan, part_plan, parts_plan, reads_behind}
-use Rattle.mon_run.specs.Plans.{run_plan, schedule_end, schedule_plan, script_plan, seek, sought, store_plan}
+use Rattle.mon_run.specs.Plans.{made_number, named_read, next_forms, number_plan, one_read, part_plan, parts_plan}
+use Rattle.mon_run.specs.Plans.{reads_behind}
+use Rattle.mon_run.specs.Plans.{run_plan, schedule_end, schedule_plan, script_plan, seek_one, sought, store_plan}
 use Rattle.mon_run.specs.Steps.{Ask, End, Plan, Print, Step, Write, ending, is_too_long, next_read, plan, plan_behind}
 use Rattle.mon_run.specs.Steps.{read_plan, too_long_text, usage_text}
 use Rattle.mon_run.specs.declared.words.Verb.{Verb}
@@ -27,9 +28,10 @@ use Rattle.mon_script.specs.Blocks.{mark_of}
 use Rattle.run_theory.specs.Parts.{Alone, Beside, Part, all_lines, lines_of}
 use Rattle.run_traces.specs.LineDues.{is_refused, lines_status}
 use Rattle.run_traces.specs.LineTexts.{line_text}
-use Rattle.run_traces.specs.LineAsks.{file_of}
+use Rattle.run_traces.specs.LineAsks.{FileNames, files_of}
 use Rattle.run_traces.specs.RanLines.{RanLine, parts_of}
 use Rattle.run_traces.specs.declared.traces.LineTrace.{LineTrace}
+use Rattle.run_traces.specs.declared.line_files.LineFiles.{LineFiles}
 use Rattle.schedule_lines.specs.declared.calls.ScheduleFault.{ScheduleFault}
 use Rattle.weave_core.specs.Schedules.{Printed}
 
@@ -55,17 +57,24 @@ module _ (P : ℕ → Type 0) (not_long : P 8 → ⊥) (not_starved : P 6 → �
       let on = chosen (is_too_long content) name rest is in
       record { same = on.same; texts_are = on.texts_are }
 
-  named_on : (name : Option (List ℕ)) (content : List ℕ) (rest : Plan) → P (named_read name content rest).status
-      → GoesOn (named_read name content rest) [] rest
-  named_on None content rest is = record { same = refl; texts_are = refl }
-  named_on (Some name) content rest is = read_on name content rest is
+  one_on : (name : Option (List ℕ)) (content : List ℕ) (rest : Plan) → P (one_read name content rest).status
+      → GoesOn (one_read name content rest) [] rest
+  one_on None content rest is = record { same = refl; texts_are = refl }
+  one_on (Some name) content rest is = read_on name content rest is
 
-  lines_on : (forms : List LineForm) (contents : List (List ℕ)) (rest : Plan)
+  named_on : (names : FileNames) (content : LineFiles) (rest : Plan) → P (named_read names content rest).status
+      → GoesOn (named_read names content rest) [] rest
+  named_on names content rest is =
+      let first = one_on names.first content.first (one_read names.second content.second rest) is in
+      let second = one_on names.second content.second rest (subst P (sym first.same) is) in
+      record { same = second.same ∙ first.same; texts_are = first.texts_are ∙ second.texts_are }
+
+  lines_on : (forms : List LineForm) (contents : List LineFiles) (rest : Plan)
       → P (lines_read forms contents rest).status → GoesOn (lines_read forms contents rest) [] rest
   lines_on [] contents rest is = record { same = refl; texts_are = refl }
   lines_on (what ∷ forms) [] rest is = record { same = refl; texts_are = refl }
   lines_on (what ∷ forms) (content ∷ contents) rest is =
-      let first = named_on (file_of what) content (lines_read forms contents rest) is in
+      let first = named_on (files_of what) content (lines_read forms contents rest) is in
       let second = lines_on forms contents rest (subst P (sym first.same) is) in
       record { same = second.same ∙ first.same; texts_are = first.texts_are ∙ second.texts_are }
 
@@ -91,7 +100,7 @@ module _ (P : ℕ → Type 0) (not_long : P 8 → ⊥) (not_starved : P 6 → �
   part_on : (text : RanLine → List ℕ) (part : Part RanLine) (rest : Plan) → P (part_plan text part rest).status
       → GoesOn (part_plan text part rest) (flat_map text (lines_of part)) rest
   part_on text (Alone line) rest is =
-      let on = named_on (file_of line.what) line.content
+      let on = named_on (files_of line.what) line.content
       (plan_behind (End line.trace ∷ Print (text line) ∷ []) rest) is in
       record {
         same = on.same;
@@ -120,7 +129,7 @@ module _ (P : ℕ → Type 0) (not_long : P 8 → ⊥) (not_starved : P 6 → �
 
   -- where a file is to be read, one was
   sought_by : (name : Option (List ℕ)) (reads : Files) (rest : Files → Plan)
-      → ((more : Files) → P (rest more).status → ⊥) → P (seek name reads rest).status → ⊥
+      → ((more : Files) → P (rest more).status → ⊥) → P (seek_one name reads rest).status → ⊥
   sought_by None reads rest none is = none reads is
   sought_by (Some name) [] rest none is = not_starved is
   sought_by (Some name) (read ∷ reads) rest none is =
@@ -128,7 +137,9 @@ module _ (P : ℕ → Type 0) (not_long : P 8 → ⊥) (not_starved : P 6 → �
 
   never_sought : (forms : List LineForm) (reads : Files) → P (sought forms reads).status → ⊥
   never_sought [] reads is = not_starved is
-  never_sought (what ∷ forms) reads is = sought_by (file_of what) reads (sought forms) (never_sought forms) is
+  never_sought (what ∷ forms) reads is =
+      sought_by (files_of what).first reads (λ left. seek_one (files_of what).second left (sought forms))
+      (λ left. sought_by (files_of what).second left (sought forms) (never_sought forms)) is
 
   none_left : (status : ℕ) (lines : List ScriptLine) (reads : Files) → P (left_plan status lines reads).status
       → lines ≡ []

@@ -29,6 +29,7 @@ use Rattle.run_traces.specs.LineDues.{asked_part, asked_parts}
 use Rattle.run_traces.specs.LineTexts.{line_text}
 use Rattle.run_traces.specs.RanLines.{RanLine, parts_of, ran_lines}
 use Rattle.run_traces.specs.declared.traces.LineTrace.{LineTrace}
+use Rattle.run_traces.specs.declared.line_files.LineFiles.{LineFiles}
 
 abbrev Parts : Type 0
 Parts = List (Part RanLine)
@@ -44,12 +45,12 @@ asked_behind config known parts one other ran =
     (subst (AllRan config known) (append_assoc parts (asked_parts one) (asked_parts other)) ran)
 
 -- as many contents as lines
-held_count : (lines : List ScriptLine) {contents : List (List ℕ)} {given : Files}
+held_count : (lines : List ScriptLine) {contents : List LineFiles} {given : Files}
     → HaveGiven (forms_of lines) contents given → length contents ≡ length lines
 held_count lines have = have.count ∙ length-map lines (λ (line : ScriptLine). line.what)
 
 -- what lines say, and others
-lines_given : (lines more : List ScriptLine) {contents others : List (List ℕ)} {given behind : Files}
+lines_given : (lines more : List ScriptLine) {contents others : List LineFiles} {given behind : Files}
     → HaveGiven (forms_of lines) contents given → HaveGiven (forms_of more) others behind
     → HaveGiven (forms_of (lines ++ more)) (contents ++ others) (given ++ behind)
 lines_given lines more {contents} {others} {given} {behind} first second =
@@ -172,7 +173,7 @@ module _ {config : Config} {lines more : List ScriptLine} {from mid known : Hist
 
         both : lines_by config reads (lines ++ more) (first.traces ++ second.traces) ≡ one ++ other
         both =
-            ap (λ (contents : List (List ℕ)). ran_lines (lines ++ more) contents (first.traces ++ second.traces))
+            ap (λ (contents : List LineFiles). ran_lines (lines ++ more) contents (first.traces ++ second.traces))
             (ap (λ (forms : List LineForm). contents_of forms reads) (forms_both lines more)
             ∙ first.have.held (forms_of more) second.reads)
             ∙ ran_both lines more first.contents (contents_of (forms_of more) second.reads) first.traces second.traces
@@ -191,7 +192,7 @@ module _ {config : Config} {lines more : List ScriptLine} {from mid known : Hist
 -- ---- a part as lines
 
 module _ {config : Config} {part : Part RanLine} {traces : List LineTrace} {from known : Histories}
-    {before after : Progress} (lines : List ScriptLine) (contents : List (List ℕ)) (given : Files)
+    {before after : Progress} (lines : List ScriptLine) (contents : List LineFiles) (given : Files)
     (have : HaveGiven (forms_of lines) contents given) (count : length traces ≡ length lines)
     (is : IsPart (ran_lines lines contents traces) part) where
   part_ran : PartDone config part traces from known before after → (parts : Parts) → AllRan config from parts
@@ -256,7 +257,7 @@ module _ {config : Config} {part : Part RanLine} {traces : List LineTrace} {from
     where
       first : lines_by config given (lines ++ left) traces ≡ ran_lines lines contents traces
       first =
-          ap (λ (held : List (List ℕ)). ran_lines (lines ++ left) held traces)
+          ap (λ (held : List LineFiles). ran_lines (lines ++ left) held traces)
           (ap (λ (forms : List LineForm). contents_of forms given) (forms_both lines left)
           ∙ ap (contents_of (forms_of lines ++ forms_of left)) (sym (append-nil given))
           ∙ have.held (forms_of left) [])

@@ -16,13 +16,14 @@ use Rattle.run_theory.specs.Parts.{Alone, Beside, Part}
 use Rattle.run_traces.specs.RanLines.{RanLine, acts_by, block_behind, part_at, parts_from, parts_of, ran_lines}
 use Rattle.run_traces.specs.declared.traces.LineTrace.{LineTrace}
 use Rattle.run_traces.specs.declared.traces.LineTrace.TheVariants as came
+use Rattle.run_traces.specs.declared.line_files.LineFiles.{LineFiles}
 
 -- ---- lines that ran
 
-abbrev ran_line : ScriptLine → List ℕ → LineTrace → List RanLine → List RanLine
+abbrev ran_line : ScriptLine → LineFiles → LineTrace → List RanLine → List RanLine
 ran_line line content trace ran = record { what = line.what; content = content; trace = trace } ∷ ran
 
-pub ran_both : (lines more : List ScriptLine) (contents others : List (List ℕ)) (traces behind : List LineTrace)
+pub ran_both : (lines more : List ScriptLine) (contents others : List LineFiles) (traces behind : List LineTrace)
     → length contents ≡ length lines → length traces ≡ length lines
     → ran_lines (lines ++ more) (contents ++ others) (traces ++ behind)
     ≡ ran_lines lines contents traces ++ ran_lines more others behind
@@ -35,12 +36,12 @@ ran_both (line ∷ lines) more (content ∷ contents) others (trace ∷ traces) 
     ap (ran_line line content trace)
     (ran_both lines more contents others traces behind (omega (arith, held)) (omega (arith, same)))
 
-pub ran_none : (lines : List ScriptLine) (contents : List (List ℕ)) → ran_lines lines contents [] ≡ []
+pub ran_none : (lines : List ScriptLine) (contents : List LineFiles) → ran_lines lines contents [] ≡ []
 ran_none [] contents = refl
 ran_none (line ∷ lines) [] = refl
 ran_none (line ∷ lines) (content ∷ contents) = refl
 
-pub ran_first : (lines more : List ScriptLine) (contents others : List (List ℕ)) (traces : List LineTrace)
+pub ran_first : (lines more : List ScriptLine) (contents others : List LineFiles) (traces : List LineTrace)
     → length contents ≡ length lines → length traces ≡ length lines
     → ran_lines (lines ++ more) (contents ++ others) traces ≡ ran_lines lines contents traces
 ran_first lines more contents others traces held same =
@@ -50,7 +51,7 @@ ran_first lines more contents others traces held same =
     ∙ append-nil (ran_lines lines contents traces)
 
 -- what they say, what their files held, and what they came to
-pub ran_forms : (lines : List ScriptLine) (contents : List (List ℕ)) (traces : List LineTrace)
+pub ran_forms : (lines : List ScriptLine) (contents : List LineFiles) (traces : List LineTrace)
     → length contents ≡ length lines → length traces ≡ length lines
     → map (λ (line : RanLine). line.what) (ran_lines lines contents traces) ≡ forms_of lines
 ran_forms [] contents traces held same = refl
@@ -60,7 +61,7 @@ ran_forms (line ∷ lines) (content ∷ contents) (trace ∷ traces) held same =
     ap (λ (forms : List LineForm). line.what ∷ forms)
     (ran_forms lines contents traces (omega (arith, held)) (omega (arith, same)))
 
-pub ran_contents : (lines : List ScriptLine) (contents : List (List ℕ)) (traces : List LineTrace)
+pub ran_contents : (lines : List ScriptLine) (contents : List LineFiles) (traces : List LineTrace)
     → length contents ≡ length lines → length traces ≡ length lines
     → map (λ (line : RanLine). line.content) (ran_lines lines contents traces) ≡ contents
 ran_contents [] [] traces held same = refl
@@ -68,10 +69,10 @@ ran_contents [] (content ∷ contents) traces held same = absurd cc
 ran_contents (line ∷ lines) [] traces held same = absurd cc
 ran_contents (line ∷ lines) (content ∷ contents) [] held same = absurd cc
 ran_contents (line ∷ lines) (content ∷ contents) (trace ∷ traces) held same =
-    ap (λ (rest : List (List ℕ)). content ∷ rest)
+    ap (λ (rest : List LineFiles). content ∷ rest)
     (ran_contents lines contents traces (omega (arith, held)) (omega (arith, same)))
 
-pub ran_ends : (lines : List ScriptLine) (contents : List (List ℕ)) (traces : List LineTrace)
+pub ran_ends : (lines : List ScriptLine) (contents : List LineFiles) (traces : List LineTrace)
     → length contents ≡ length lines → length traces ≡ length lines
     → map (λ (line : RanLine). End line.trace) (ran_lines lines contents traces) ≡ map (λ trace. End trace) traces
 ran_ends [] contents [] held same = refl
@@ -182,7 +183,7 @@ block_part begin end lines opens closes acts = λ more.
     ∙ within [] lines (end ∷ more) acts
     ∙ closes_by lines end more (mark_of end.what) closes
 
-pub all_act : (lines : List ScriptLine) (contents : List (List ℕ)) (traces : List LineTrace)
+pub all_act : (lines : List ScriptLine) (contents : List LineFiles) (traces : List LineTrace)
     → AllByRecursion Acts lines → AllByRecursion ActsThere (ran_lines lines contents traces)
 all_act [] contents traces acts = tt
 all_act (line ∷ lines) [] traces acts = tt
@@ -253,7 +254,7 @@ ends_both [] others = refl
 ends_both (trace ∷ traces) others = ap (λ (steps : List Step). End trace ∷ steps) (ends_both traces others)
 
 -- where its lines print these texts
-pub block_ends : (text : RanLine → List ℕ) (lines : List ScriptLine) (contents : List (List ℕ))
+pub block_ends : (text : RanLine → List ℕ) (lines : List ScriptLine) (contents : List LineFiles)
     (traces : List LineTrace) (texts : List (List ℕ)) → length contents ≡ length lines → length traces ≡ length lines
     → map text (ran_lines lines contents traces) ≡ texts
     → block_steps text (ran_lines lines contents traces)

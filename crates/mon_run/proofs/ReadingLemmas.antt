@@ -7,9 +7,9 @@ use Rattle.mon_script.specs.declared.forms.LineForm.TheVariants as form
 use Rattle.mon_script.specs.declared.script.ScriptLine.{ScriptLine}
 use Rattle.mon_run.specs.Endings.{Did, Progress}
 use Rattle.mon_run.specs.Outside.{Files}
-use Rattle.mon_run.specs.Plans.{content_next, contents_of, forms_of, line_read, lines_read, named_read, reads_behind}
-use Rattle.mon_run.specs.Plans.{reads_next, seek, sought}
-use Rattle.mon_run.specs.Steps.{Ask, Plan, Print, Step, Write, is_too_long, plan_behind}
+use Rattle.mon_run.specs.Plans.{content_next, contents_of, forms_of, line_read, lines_read, named_read, one_behind}
+use Rattle.mon_run.specs.Plans.{one_next, one_read, reads_behind, reads_next, seek, seek_one, sought}
+use Rattle.mon_run.specs.Steps.{Ask, Plan, Print, Step, Write, is_too_long, next_read, plan_behind, read_plan}
 use Rattle.mon_run.specs.declared.stop.Stop.{Stop}
 use Rattle.mon_run.specs.declared.stop.Stop.TheVariants as stop
 use Rattle.mon_run.specs.within.Lines.{FileStops, FilesStop, HaveGiven, HaveRead, TextsStop, prints}
@@ -18,7 +18,9 @@ use Rattle.mon_run.proofs.EndLemmas.{causes_earlier}
 use Rattle.mon_run.proofs.RunLemmas.{cut_at}
 use Rattle.mon_run.proofs.StepLemmas.{did_by, did_none, did_print, did_then, none_sought, not_long, plan_twice, starved}
 use Rattle.mon_run.proofs.StepLemmas.{stops_behind}
-use Rattle.run_traces.specs.LineAsks.{file_of}
+use Rattle.run_traces.specs.LineAsks.{FileNames, files_of, unnamed}
+use Rattle.run_traces.specs.RanLines.{no_files, one_file}
+use Rattle.run_traces.specs.declared.line_files.LineFiles.{LineFiles}
 
 -- ---- parts of a plan, one behind the other
 
@@ -34,27 +36,65 @@ plans_ran {first} {second} one other = record {
 -- ---- what the reads of lines gave
 
 abbrev Contents : Type 0
-Contents = List (List ℕ)
+Contents = List LineFiles
 
--- what the read of a line's file gave
-abbrev given_for : Option (List ℕ) → List ℕ → Files
-given_for None content = []
-given_for (Some name) content = (name, content) ∷ []
+-- what the read of a file gave
+abbrev given_one : Option (List ℕ) → List ℕ → Files
+given_one None content = []
+given_one (Some name) content = (name, content) ∷ []
 
-next_content : (name : Option (List ℕ)) (content : List ℕ) (more : Files) (rest : Files → Contents)
-    → (name ≡ None → content ≡ []) → content_next name (given_for name content ++ more) rest ≡ content ∷ rest more
-next_content None content more rest none = ap (λ (c : List ℕ). c ∷ rest more) (sym (none refl))
-next_content (Some name) content more rest none = refl
+-- what those of a line's files gave
+abbrev given_for : FileNames → LineFiles → Files
+given_for names content = given_one names.first content.first ++ given_one names.second content.second
 
-next_behind : (name : Option (List ℕ)) (content : List ℕ) (more : Files) (rest : Files → Files)
-    → reads_next name (given_for name content ++ more) rest ≡ rest more
-next_behind None content more rest = refl
-next_behind (Some name) content more rest = refl
+-- a file that isn't named holds nothing
+pub record AreNamed (names : FileNames) (content : LineFiles) : Type 0 where
+  pub first : names.first ≡ None → content.first ≡ []
+  pub second : names.second ≡ None → content.second ≡ []
 
-next_seek : (name : Option (List ℕ)) (content : List ℕ) (more : Files) (rest : Files → Plan)
-    → seek name (given_for name content ++ more) rest ≡ named_read name content (rest more)
-next_seek None content more rest = refl
-next_seek (Some name) content more rest = refl
+first_next : (name : Option (List ℕ)) (content : List ℕ) (more : Files) (rest : List ℕ → Files → Contents)
+    → (name ≡ None → content ≡ []) → one_next name (given_one name content ++ more) rest ≡ rest content more
+first_next None content more rest none = ap (λ (c : List ℕ). rest c more) (sym (none refl))
+first_next (Some name) content more rest none = refl
+
+next_content : (names : FileNames) (content : LineFiles) (more : Files) (rest : Files → Contents) → AreNamed names content
+    → content_next names (given_for names content ++ more) rest ≡ content ∷ rest more
+next_content names content more rest none =
+    ap (λ (reads : Files). content_next names reads rest)
+    (append_assoc (given_one names.first content.first) (given_one names.second content.second) more)
+    ∙ first_next names.first content.first (given_one names.second content.second ++ more)
+    (λ one left. one_next names.second left (λ other behind. record { first = one; second = other } ∷ rest behind))
+    none.first
+    ∙ first_next names.second content.second more
+    (λ other behind. record { first = content.first; second = other } ∷ rest behind) none.second
+
+first_behind : (name : Option (List ℕ)) (content : List ℕ) (more : Files) (rest : Files → Files)
+    → one_behind name (given_one name content ++ more) rest ≡ rest more
+first_behind None content more rest = refl
+first_behind (Some name) content more rest = refl
+
+next_behind : (names : FileNames) (content : LineFiles) (more : Files) (rest : Files → Files)
+    → reads_next names (given_for names content ++ more) rest ≡ rest more
+next_behind names content more rest =
+    ap (λ (reads : Files). reads_next names reads rest)
+    (append_assoc (given_one names.first content.first) (given_one names.second content.second) more)
+    ∙ first_behind names.first content.first (given_one names.second content.second ++ more)
+    (λ left. one_behind names.second left rest)
+    ∙ first_behind names.second content.second more rest
+
+first_seek : (name : Option (List ℕ)) (content : List ℕ) (more : Files) (rest : Files → Plan)
+    → seek_one name (given_one name content ++ more) rest ≡ one_read name content (rest more)
+first_seek None content more rest = refl
+first_seek (Some name) content more rest = refl
+
+next_seek : (names : FileNames) (content : LineFiles) (more : Files) (rest : Files → Plan)
+    → seek names (given_for names content ++ more) rest ≡ named_read names content (rest more)
+next_seek names content more rest =
+    ap (λ (reads : Files). seek names reads rest)
+    (append_assoc (given_one names.first content.first) (given_one names.second content.second) more)
+    ∙ first_seek names.first content.first (given_one names.second content.second ++ more)
+    (λ left. seek_one names.second left rest)
+    ∙ ap (one_read names.first content.first) (first_seek names.second content.second more rest)
 
 -- of no line
 pub have_none : HaveGiven [] [] []
@@ -66,31 +106,39 @@ have_none = record {
 }
 
 -- of one
-pub have_one : (what : LineForm) (content : List ℕ) → (file_of what ≡ None → content ≡ [])
-    → HaveGiven (what ∷ []) (content ∷ []) (given_for (file_of what) content)
+pub have_one : (what : LineForm) (content : LineFiles) → AreNamed (files_of what) content
+    → HaveGiven (what ∷ []) (content ∷ []) (given_for (files_of what) content)
 have_one what content none = record {
   count = refl;
-  held = λ others more. next_content (file_of what) content more (contents_of others) none;
-  behind = λ more. next_behind (file_of what) content more (reads_behind []);
-  seeks = λ others more. next_seek (file_of what) content more (sought others);
+  held = λ others more. next_content (files_of what) content more (contents_of others) none;
+  behind = λ more. next_behind (files_of what) content more (reads_behind []);
+  seeks = λ others more. next_seek (files_of what) content more (sought others);
 }
 
 -- of one that names no file
-pub have_idle : (what : LineForm) → file_of what ≡ None → HaveGiven (what ∷ []) ([] ∷ []) []
-have_idle what none = subst (λ (name : Option (List ℕ)). HaveGiven (what ∷ []) ([] ∷ []) (given_for name [])) none
-    (have_one what [] (λ same. refl))
+pub have_idle : (what : LineForm) → files_of what ≡ unnamed → HaveGiven (what ∷ []) (no_files ∷ []) []
+have_idle what none =
+    subst (λ (names : FileNames). HaveGiven (what ∷ []) (no_files ∷ []) (given_for names no_files)) none
+    (have_one what no_files (record { first = λ same. refl; second = λ same. refl }))
 
-behind_by : (name : Option (List ℕ)) (reads : Files) (first rest whole : Files → Files)
-    → ((more : Files) → whole more ≡ rest (first more)) → reads_next name reads whole ≡ rest (reads_next name reads first)
-behind_by None reads first rest whole same = same reads
-behind_by (Some name) [] first rest whole same = same []
-behind_by (Some name) (read ∷ reads) first rest whole same = same reads
+one_by : (name : Option (List ℕ)) (reads : Files) (first rest whole : Files → Files)
+    → ((more : Files) → whole more ≡ rest (first more)) → one_behind name reads whole ≡ rest (one_behind name reads first)
+one_by None reads first rest whole same = same reads
+one_by (Some name) [] first rest whole same = same []
+one_by (Some name) (read ∷ reads) first rest whole same = same reads
+
+behind_by : (names : FileNames) (reads : Files) (first rest whole : Files → Files)
+    → ((more : Files) → whole more ≡ rest (first more))
+    → reads_next names reads whole ≡ rest (reads_next names reads first)
+behind_by names reads first rest whole same =
+    one_by names.first reads (λ left. one_behind names.second left first) rest
+    (λ left. one_behind names.second left whole) (λ left. one_by names.second left first rest whole same)
 
 pub behind_append : (forms others : List LineForm) (reads : Files)
     → reads_behind (forms ++ others) reads ≡ reads_behind others (reads_behind forms reads)
 behind_append [] others reads = refl
 behind_append (what ∷ forms) others reads =
-    behind_by (file_of what) reads (reads_behind forms) (reads_behind others) (reads_behind (forms ++ others))
+    behind_by (files_of what) reads (reads_behind forms) (reads_behind others) (reads_behind (forms ++ others))
     (behind_append forms others)
 
 reads_both : (forms others : List LineForm) (contents more : Contents) (rest : Plan) → length contents ≡ length forms
@@ -144,37 +192,79 @@ read_both {forms} {others} {contents} {more} {before} first second =
     }
 
 -- a feed's file
-pub feed_read : (what : LineForm) (name content kept : List ℕ) {before after : Progress} → what ≡ form.Feed name
-    → kept ≡ content → is_too_long content ≡ false → Did (Ask name content ∷ []) before after
-    → HaveRead (what ∷ []) (kept ∷ []) before after
-feed_read what name content kept {before} {after} is same short did =
-    subst (λ (w : LineForm). HaveRead (w ∷ []) (kept ∷ []) before after) (sym is)
-    (subst (λ (c : List ℕ). HaveRead (form.Feed name ∷ []) (c ∷ []) before after) (sym same)
+pub feed_read : (name content : List ℕ) (kept : LineFiles) {before after : Progress} → kept ≡ one_file content
+    → is_too_long content ≡ false → Did (Ask name content ∷ []) before after
+    → HaveRead (form.Feed name ∷ []) (kept ∷ []) before after
+feed_read name content kept {before} {after} same short did =
+    subst (λ (c : LineFiles). HaveRead (form.Feed name ∷ []) (c ∷ []) before after) (sym same)
     (record {
       given = (name, content) ∷ [];
       gave = did.gave;
-      have = have_one (form.Feed name) content (λ none. absurd cc);
+      have = have_one (form.Feed name) (one_file content)
+          (record { first = λ none. absurd cc; second = λ none. refl });
       read = record { steps = Ask name content ∷ []; same = λ rest. not_long name content rest short; did = did };
-    }))
+    })
 
-pub feed_stops : (what : LineForm) (name : List ℕ) (stopped : Stop) {before after : Progress} → what ≡ form.Feed name
-    → ReadStops name stopped before after → FileStops what stopped before after
-feed_stops what name stopped {before} {after} is stops =
-    subst (λ (w : LineForm). FileStops w stopped before after) (sym is) (λ others. stops (λ content. sought others))
+pub feed_stops : (name : List ℕ) (stopped : Stop) {before after : Progress} → ReadStops name stopped before after
+    → FileStops (form.Feed name) stopped before after
+feed_stops name stopped stops = λ others. stops (λ content. sought others)
+
+-- those of a pour
+module _ (first second one : List ℕ) (short : is_too_long one ≡ false) {before mid : Progress}
+    (did : Did (Ask first one ∷ []) before mid) where
+  pub pour_read : (other : List ℕ) (kept : LineFiles) {after : Progress} → kept ≡ record { first = one; second = other }
+      → is_too_long other ≡ false → Did (Ask second other ∷ []) mid after
+      → HaveRead (form.Pour first second ∷ []) (kept ∷ []) before after
+  pour_read other kept {after} same short_too then =
+      let both = did_then did then in
+      subst (λ (c : LineFiles). HaveRead (form.Pour first second ∷ []) (c ∷ []) before after) (sym same)
+      (record {
+        given = (first, one) ∷ (second, other) ∷ [];
+        gave = both.gave;
+        have = have_one (form.Pour first second) (record { first = one; second = other })
+            (record { first = λ none. absurd cc; second = λ none. absurd cc });
+        read = record {
+          steps = Ask first one ∷ Ask second other ∷ [];
+          same = λ rest. not_long first one (read_plan second other rest) short
+              ∙ ap (plan_behind (Ask first one ∷ [])) (not_long second other rest short_too);
+          did = both;
+        };
+      })
+
+  pub second_stops : (stopped : Stop) {after : Progress} → Counts before mid → ReadStops second stopped mid after
+      → FileStops (form.Pour first second) stopped before after
+  second_stops stopped {after} counts stops = λ others.
+      let halts = stops (λ content. sought others) in
+      let left = next_read halts.reads second (λ content. sought others) in
+      record {
+        reads = (first, one) ∷ halts.reads;
+        gave = halts.gave ∙ ap (λ (reads : Files). reads ++ halts.reads) did.gave
+            ∙ append_assoc before.folder.gave ((first, one) ∷ []) halts.reads;
+        halts = record {
+          stops = subst (λ (p : Plan). Stops p stopped before after) (sym (not_long first one left short))
+              (stops_behind left after stopped did halts.halts.stops);
+          causes = causes_earlier before mid after stopped counts halts.halts.causes;
+        };
+      }
+
+pub first_stops : (first second : List ℕ) (stopped : Stop) {before after : Progress}
+    → ReadStops first stopped before after → FileStops (form.Pour first second) stopped before after
+first_stops first second stopped stops =
+    λ others. stops (λ content left. seek_one (Some second) left (sought others))
 
 -- another line has none
-pub other_read : (what other : LineForm) (content : List ℕ) (p : Progress) → what ≡ other → file_of other ≡ None
-    → content ≡ [] → HaveRead (what ∷ []) (content ∷ []) p p
+pub other_read : (what other : LineForm) (content : LineFiles) (p : Progress) → what ≡ other → files_of other ≡ unnamed
+    → content ≡ no_files → HaveRead (what ∷ []) (content ∷ []) p p
 other_read what other content p is none empty =
     subst (λ (w : LineForm). HaveRead (w ∷ []) (content ∷ []) p p) (sym is)
-    (subst (λ (c : List ℕ). HaveRead (other ∷ []) (c ∷ []) p p) (sym empty)
+    (subst (λ (c : LineFiles). HaveRead (other ∷ []) (c ∷ []) p p) (sym empty)
     (record {
       given = [];
       gave = sym (append-nil p.folder.gave);
       have = have_idle other none;
       read = record {
         steps = [];
-        same = λ rest. ap (λ (name : Option (List ℕ)). named_read name [] rest) none;
+        same = λ rest. ap (λ (names : FileNames). named_read names no_files rest) none;
         did = did_none p;
       };
     }))
@@ -219,7 +309,7 @@ read_none lines p = record {
 }
 
 pub read_more : {lines left rest : List ScriptLine} {contents more : Contents} (line : ScriptLine)
-    (content : List ℕ) {before now : Progress} (after : Progress) → left ≡ line ∷ rest
+    (content : LineFiles) {before now : Progress} (after : Progress) → left ≡ line ∷ rest
     → ReadTo lines left contents before now → more ≡ contents ++ content ∷ []
     → HaveRead (line.what ∷ []) (content ∷ []) now after → ReadTo lines rest more before after
 read_more {lines} {left} {rest} {contents} {more} line content {before} {now} after is so_far added read = record {
@@ -270,7 +360,7 @@ reads_stop {lines} {left} {contents} line rest {before} {now} after stopped coun
 
 -- memory ran out between two
 pub reads_starved : {lines left : List ScriptLine} {contents : Contents} (line : ScriptLine) (rest : List ScriptLine)
-    {content : List ℕ} {before now after : Progress} → left ≡ line ∷ rest → ReadTo lines left contents before now
+    {content : LineFiles} {before now after : Progress} → left ≡ line ∷ rest → ReadTo lines left contents before now
     → HaveRead (line.what ∷ []) (content ∷ []) now after → FilesStop lines stop.OutOfMemory before after
 reads_starved {lines} {left} line rest {content} {before} {now} {after} is so_far read =
     subst (λ (f : List LineForm). HaltsBy (sought f) stop.OutOfMemory before after)

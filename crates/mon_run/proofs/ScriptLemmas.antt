@@ -36,10 +36,11 @@ use Rattle.part_runs.specs.PartsDone.{PartTells}
 use Rattle.run_theory.specs.Parts.{Alone, Beside, Part, lines_of}
 use Rattle.run_traces.specs.LineClaims.{HaveGrown}
 use Rattle.run_traces.specs.LineTexts.{line_text}
-use Rattle.run_traces.specs.LineAsks.{file_of}
-use Rattle.run_traces.specs.RanLines.{RanLine, ran_lines}
+use Rattle.run_traces.specs.LineAsks.{files_of, unnamed}
+use Rattle.run_traces.specs.RanLines.{RanLine, no_files, ran_lines}
 use Rattle.run_traces.specs.declared.traces.LineTrace.{LineTrace}
 use Rattle.run_traces.specs.declared.traces.LineTrace.TheVariants as came
+use Rattle.run_traces.specs.declared.line_files.LineFiles.{LineFiles}
 use Rattle.running_query.proofs.GoingLemmas.{same_fronts}
 
 -- ---- a part that ran, or was cut in its texts
@@ -96,7 +97,7 @@ early_read known stopped ends halts = record {
   halts = halts;
 }
 
-pub early_starved : {forms : List LineForm} {contents : List (List ℕ)} (from ended : Histories)
+pub early_starved : {forms : List LineForm} {contents : List LineFiles} (from ended : Histories)
     {before after : Progress} → after.ends ≡ before.ends → AreFronts from ended → HaveRead forms contents before after
     → StoppedEarly forms from ended stop.OutOfMemory before after
 early_starved {forms} from ended {before} {after} ends front read = record {
@@ -108,7 +109,7 @@ early_starved {forms} from ended {before} {after} ends front read = record {
 }
 
 -- behind steps that change nothing
-pub read_still : {forms : List LineForm} {contents : List (List ℕ)} {before mid after : Progress}
+pub read_still : {forms : List LineForm} {contents : List LineFiles} {before mid after : Progress}
     → HaveRead forms contents before mid → Did [] mid after → HaveRead forms contents before after
 read_still read did = record {
   given = read.given;
@@ -128,7 +129,7 @@ still_gave before given {mid} gave still = still ∙ append-nil mid ∙ gave
 
 -- ---- a line alone
 
-alone_same : (config : Config) (what : LineForm) (content : List ℕ) (trace : LineTrace) (text : List ℕ)
+alone_same : (config : Config) (what : LineForm) (content : LineFiles) (trace : LineTrace) (text : List ℕ)
     (later : Histories) {before after : Progress} (read : FileRead what content before after)
     → map (line_text config later) (lines_of (alone_in what content trace)) ≡ text ∷ [] → (rest : Plan)
     → part_plan (line_text config later) (alone_in what content trace) rest
@@ -141,7 +142,7 @@ alone_same config what content trace text later read prints_so rest =
     (sym (append_assoc read.read.steps (End trace ∷ []) (Print text ∷ [])))
     ∙ sym (plan_twice (read.read.steps ++ End trace ∷ []) (Print text ∷ []) rest)
 
-module _ {config : Config} {what : LineForm} {content : List ℕ} {trace : LineTrace} {text : List ℕ}
+module _ {config : Config} {what : LineForm} {content : LineFiles} {trace : LineTrace} {text : List ℕ}
     {know known : Knowledge} {before read ended : Progress} (has_read : FileRead what content before read)
     (did : PartTells config (Alone (record { what = what; content = content; trace = trace })) (text ∷ []) know known)
     (ends : Did (End trace ∷ []) read ended) (first : read.ends ≡ before.ends) where
@@ -193,7 +194,7 @@ alone_unread config what known stopped ends stops = record {
 }
 
 -- memory ran out
-pub alone_starved : (config : Config) (what : LineForm) {content : List ℕ} (from ended : Histories)
+pub alone_starved : (config : Config) (what : LineForm) {content : LineFiles} (from ended : Histories)
     {before after : Progress} → after.ends ≡ before.ends → AreFronts from ended → FileRead what content before after
     → AloneHalts config what from ended stop.OutOfMemory before after
 alone_starved config what from ended ends front read = record {
@@ -233,7 +234,7 @@ no_reads : (texts : List (List ℕ)) → flat_map given_in (prints texts) ≡ []
 no_reads [] = refl
 no_reads (text ∷ texts) = no_reads texts
 
-block_same : (config : Config) (lines : List ScriptLine) (contents : List (List ℕ)) (traces : List LineTrace)
+block_same : (config : Config) (lines : List ScriptLine) (contents : List LineFiles) (traces : List LineTrace)
     (texts : List (List ℕ)) (later : Histories) {before after : Progress}
     (read : HaveRead (forms_of lines) contents before after) → length contents ≡ length lines
     → length traces ≡ length lines
@@ -249,16 +250,16 @@ block_same config lines contents traces texts later read held count prints_so re
     ∙ ap (λ (steps : List Step). plan_behind steps rest) (sym (append_assoc read.read.steps ends (prints texts)))
     ∙ sym (plan_twice (read.read.steps ++ ends) (prints texts) rest)
 
-block_have : (lines : List ScriptLine) (contents : List (List ℕ)) (traces : List LineTrace) (given : Files)
+block_have : (lines : List ScriptLine) (contents : List LineFiles) (traces : List LineTrace) (given : Files)
     → length contents ≡ length lines → length traces ≡ length lines → HaveGiven (forms_of lines) contents given
     → HaveGiven (part_forms (block_in lines contents traces)) (part_contents (block_in lines contents traces)) given
 block_have lines contents traces given held count have =
     subst (λ (forms : List LineForm). HaveGiven forms (part_contents (block_in lines contents traces)) given)
     (sym (ran_forms lines contents traces held count))
-    (subst (λ (c : List (List ℕ)). HaveGiven (forms_of lines) c given)
+    (subst (λ (c : List LineFiles). HaveGiven (forms_of lines) c given)
     (sym (ran_contents lines contents traces held count)) have)
 
-module _ (config : Config) (lines : List ScriptLine) (contents : List (List ℕ)) (traces : List LineTrace)
+module _ (config : Config) (lines : List ScriptLine) (contents : List LineFiles) (traces : List LineTrace)
     (texts : List (List ℕ)) (know known : Knowledge) (before read ended : Progress)
     (has_read : FilesRead lines contents before read) (held : length contents ≡ length lines)
     (count : length traces ≡ length lines)
@@ -319,7 +320,7 @@ block_unread config lines known stopped ends stops = record {
   causes = stops.halts.causes;
 }
 
-pub block_starved : (config : Config) (lines : List ScriptLine) (contents : List (List ℕ)) (from ended : Histories)
+pub block_starved : (config : Config) (lines : List ScriptLine) (contents : List LineFiles) (from ended : Histories)
     {before after : Progress} → after.ends ≡ before.ends → AreFronts from ended
     → FilesRead lines contents before after → BlockHalts config lines from ended stop.OutOfMemory before after
 block_starved config lines contents from ended ends front read = record {
@@ -361,8 +362,8 @@ abbrev pub block_lines : ScriptLine → ScriptLine → List ScriptLine → List 
 block_lines line end lines = line ∷ (lines ++ end ∷ [])
 
 -- what their files held
-abbrev block_contents : List (List ℕ) → List (List ℕ)
-block_contents contents = [] ∷ (contents ++ [] ∷ [])
+abbrev block_contents : List LineFiles → List LineFiles
+block_contents contents = no_files ∷ (contents ++ no_files ∷ [])
 
 pub block_whole : (line : ScriptLine) (behind lines left : List ScriptLine) (is : IsBlock line behind lines left)
     → line ∷ behind ≡ block_lines line is.ends.end lines ++ left
@@ -382,22 +383,24 @@ pub block_count : (line end : ScriptLine) (traces : List LineTrace) (lines : Lis
 block_count line end traces lines count = ap (λ (n : ℕ). suc n) (counted end traces lines count)
 
 -- what begins a block, and what ends it, names no file
-opens_none : (what : LineForm) → mark_of what ≡ mark.Opens → file_of what ≡ None
+opens_none : (what : LineForm) → mark_of what ≡ mark.Opens → files_of what ≡ unnamed
 opens_none (form.Feed name) is = absurd cc
+opens_none (form.Pour first second) is = absurd cc
 opens_none (form.Ask asked) is = refl
 opens_none (form.Control control) is = refl
 opens_none (form.Standing line) is = refl
 opens_none (form.Block what) is = refl
 
-closes_none : (what : LineForm) → mark_of what ≡ mark.Closes → file_of what ≡ None
+closes_none : (what : LineForm) → mark_of what ≡ mark.Closes → files_of what ≡ unnamed
 closes_none (form.Feed name) is = absurd cc
+closes_none (form.Pour first second) is = absurd cc
 closes_none (form.Ask asked) is = refl
 closes_none (form.Control control) is = refl
 closes_none (form.Standing line) is = refl
 closes_none (form.Block what) is = refl
 
 -- what was read for the lines of a block was read for it with what begins it and what ends it
-block_given : (line : ScriptLine) (behind lines left : List ScriptLine) (contents : List (List ℕ)) (given : Files)
+block_given : (line : ScriptLine) (behind lines left : List ScriptLine) (contents : List LineFiles) (given : Files)
     (is : IsBlock line behind lines left) → HaveGiven (forms_of lines) contents given
     → HaveGiven (forms_of (block_lines line is.ends.end lines)) (block_contents contents) given
 block_given line behind lines left contents given is have =
@@ -409,19 +412,19 @@ block_given line behind lines left contents given is have =
     (have_both have (have_idle is.ends.end.what (closes_none is.ends.end.what is.ends.closes)))))
 
 -- what was read for a block is what was read for its lines
-block_lines_have : (lines : List ScriptLine) (contents : List (List ℕ)) (traces : List LineTrace) (given : Files)
+block_lines_have : (lines : List ScriptLine) (contents : List LineFiles) (traces : List LineTrace) (given : Files)
     → length contents ≡ length lines → length traces ≡ length lines
     → HaveGiven (part_forms (block_in lines contents traces)) (part_contents (block_in lines contents traces)) given
     → HaveGiven (forms_of lines) contents given
 block_lines_have lines contents traces given held count have =
     subst (λ (forms : List LineForm). HaveGiven forms contents given) (ran_forms lines contents traces held count)
-    (subst (λ (c : List (List ℕ)). HaveGiven (part_forms (block_in lines contents traces)) c given)
+    (subst (λ (c : List LineFiles). HaveGiven (part_forms (block_in lines contents traces)) c given)
     (ran_contents lines contents traces held count) have)
 
 abbrev idle_line : ScriptLine → RanLine
-idle_line line = record { what = line.what; content = []; trace = came.Done }
+idle_line line = record { what = line.what; content = no_files; trace = came.Done }
 
-block_is : (line : ScriptLine) (behind lines left : List ScriptLine) (contents : List (List ℕ))
+block_is : (line : ScriptLine) (behind lines left : List ScriptLine) (contents : List LineFiles)
     (traces : List LineTrace) (is : IsBlock line behind lines left) → length contents ≡ length lines
     → length traces ≡ length lines
     → IsPart (ran_lines (block_lines line is.ends.end lines) (block_contents contents) (block_traces traces))
@@ -429,7 +432,7 @@ block_is : (line : ScriptLine) (behind lines left : List ScriptLine) (contents :
 block_is line behind lines left contents traces is held count =
     subst (λ (ran : List RanLine). IsPart ran (block_in lines contents traces))
     (sym (ap (λ (ran : List RanLine). idle_line line ∷ ran)
-    (ran_both lines (is.ends.end ∷ []) contents ([] ∷ []) traces (came.Done ∷ []) held count)))
+    (ran_both lines (is.ends.end ∷ []) contents (no_files ∷ []) traces (came.Done ∷ []) held count)))
     (block_part (idle_line line) (idle_line is.ends.end) (ran_lines lines contents traces)
     is.opens is.ends.closes (all_act lines contents traces is.ends.acts))
 

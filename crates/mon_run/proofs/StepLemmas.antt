@@ -7,14 +7,14 @@ use Rattle.mon_script.specs.declared.forms.LineForm.{LineForm}
 use Rattle.mon_value.proofs.PlainLemmas.{all_append}
 use Rattle.mon_run.specs.Endings.{AreNoLines, CutShort, Did, Progress, Starved, end_in, given_in, read_in, text_of_step}
 use Rattle.mon_run.specs.Outside.{AreOf, Files, Told, content_of, written_then}
-use Rattle.mon_run.specs.Plans.{seek, sought}
+use Rattle.mon_run.specs.Plans.{seek_one, sought}
 use Rattle.mon_run.specs.Steps.{Ask, Miss, Plan, Print, Seek, Step, Write, ending, is_too_long, next_read, plan}
 use Rattle.mon_run.specs.Steps.{plan_behind, read_plan, too_long_text}
 use Rattle.mon_run.specs.declared.stop.Stop.{Stop}
 use Rattle.mon_run.specs.declared.stop.Stop.TheVariants as stop
 use Rattle.mon_run.proofs.SinkLemmas.{nothing_written, written_both}
 use Rattle.mon_run.specs.within.Stops.{Done, Stops, StopsAtRead, StopsBefore}
-use Rattle.run_traces.specs.LineAsks.{file_of}
+use Rattle.run_traces.specs.LineAsks.{files_of}
 use Rattle.run_traces.specs.declared.traces.LineTrace.{LineTrace}
 
 -- ---- steps behind steps
@@ -200,14 +200,16 @@ none_read name content rest none =
 
 -- the files of lines that are left
 none_sought_by : (name : Option (List ℕ)) (reads : Files) (rest : Files → Plan)
-    → ((more : Files) → AreNoLines (rest more).steps) → AreNoLines (seek name reads rest).steps
+    → ((more : Files) → AreNoLines (rest more).steps) → AreNoLines (seek_one name reads rest).steps
 none_sought_by None reads rest none = none reads
 none_sought_by (Some name) [] rest none = (refl, tt)
 none_sought_by (Some name) (read ∷ reads) rest none = none_read name read.1 (rest reads) (none reads)
 
 pub none_sought : (forms : List LineForm) (reads : Files) → AreNoLines (sought forms reads).steps
 none_sought [] reads = tt
-none_sought (what ∷ forms) reads = none_sought_by (file_of what) reads (sought forms) (none_sought forms)
+none_sought (what ∷ forms) reads =
+    none_sought_by (files_of what).first reads (λ left. seek_one (files_of what).second left (sought forms))
+    (λ left. none_sought_by (files_of what).second left (sought forms) (none_sought forms))
 
 -- ---- stops at a read
 

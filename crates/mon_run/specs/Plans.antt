@@ -12,10 +12,11 @@ use Rattle.mon_script.specs.declared.places.Mark.TheVariants as mark
 use Rattle.mon_script.specs.declared.script.ScriptLine.{ScriptLine}
 use Rattle.mon_value.specs.declared.histories.Histories.{Histories}
 use Rattle.run_theory.specs.Parts.{Alone, Beside, Part}
-use Rattle.run_traces.specs.LineAsks.{file_of}
+use Rattle.run_traces.specs.LineAsks.{FileNames, files_of}
 use Rattle.run_traces.specs.LineDues.{lines_status}
 use Rattle.run_traces.specs.LineTexts.{line_text}
 use Rattle.run_traces.specs.RanLines.{RanLine, parts_of, ran_lines}
+use Rattle.run_traces.specs.declared.line_files.LineFiles.{LineFiles}
 use Rattle.run_traces.specs.declared.traces.LineTrace.{LineTrace}
 use Rattle.run_traces.specs.declared.traces.LineTrace.TheVariants as a_trace
 use Rattle.mon_value.specs.Same.{same_text}
@@ -45,56 +46,70 @@ forms_of = map (λ line. line.what)
 
 -- ---- the files of lines that ran
 
-abbrev pub named_read : Option (List ℕ) → List ℕ → Plan → Plan
-named_read None content rest = rest
-named_read (Some name) content rest = read_plan name content rest
+abbrev pub one_read : Option (List ℕ) → List ℕ → Plan → Plan
+one_read None content rest = rest
+one_read (Some name) content rest = read_plan name content rest
 
--- the file that a line names, and which held this, is read before the rest
-abbrev pub line_read : LineForm → List ℕ → Plan → Plan
-line_read what = named_read (file_of what)
+-- the first file, and then the second
+abbrev pub named_read : FileNames → LineFiles → Plan → Plan
+named_read names content rest = one_read names.first content.first (one_read names.second content.second rest)
+
+-- the files that a line names, and which held this, are read before the rest
+abbrev pub line_read : LineForm → LineFiles → Plan → Plan
+line_read what = named_read (files_of what)
 
 -- the files of lines, in line order
-abbrev pub lines_read : List LineForm → List (List ℕ) → Plan → Plan
+abbrev pub lines_read : List LineForm → List LineFiles → Plan → Plan
 lines_read [] contents rest = rest
 lines_read (what ∷ forms) [] rest = rest
 lines_read (what ∷ forms) (content ∷ contents) rest = line_read what content (lines_read forms contents rest)
 
 -- ---- what reads gave, line by line
 
-abbrev pub content_next : Option (List ℕ) → Files → (Files → List (List ℕ)) → List (List ℕ)
-content_next None reads rest = [] ∷ rest reads
-content_next (Some name) [] rest = []
-content_next (Some name) (read ∷ reads) rest = read.1 ∷ rest reads
+abbrev pub one_next : Option (List ℕ) → Files → (List ℕ → Files → List LineFiles) → List LineFiles
+one_next None reads rest = rest [] reads
+one_next (Some name) [] rest = []
+one_next (Some name) (read ∷ reads) rest = rest read.1 reads
 
--- what the file of each line held: what the next of the reads gave, where the line names a file, as far as they go
-abbrev pub contents_of : List LineForm → Files → List (List ℕ)
+abbrev pub content_next : FileNames → Files → (Files → List LineFiles) → List LineFiles
+content_next names reads rest = one_next names.first reads
+    (λ one left. one_next names.second left (λ other behind. record { first = one; second = other } ∷ rest behind))
+
+-- what the files of each line held: what the next of the reads gave, where the line names files, as far as they go
+abbrev pub contents_of : List LineForm → Files → List LineFiles
 contents_of [] reads = []
-contents_of (what ∷ forms) reads = content_next (file_of what) reads (contents_of forms)
+contents_of (what ∷ forms) reads = content_next (files_of what) reads (contents_of forms)
 
 -- the reads behind the first
 abbrev pub behind_first : Files → Files
 behind_first [] = []
 behind_first (read ∷ reads) = reads
 
-abbrev pub reads_next : Option (List ℕ) → Files → (Files → Files) → Files
-reads_next None reads rest = rest reads
-reads_next (Some name) reads rest = rest (behind_first reads)
+abbrev pub one_behind : Option (List ℕ) → Files → (Files → Files) → Files
+one_behind None reads rest = rest reads
+one_behind (Some name) reads rest = rest (behind_first reads)
+
+abbrev pub reads_next : FileNames → Files → (Files → Files) → Files
+reads_next names reads rest = one_behind names.first reads (λ left. one_behind names.second left rest)
 
 -- the reads behind those of lines
 abbrev pub reads_behind : List LineForm → Files → Files
 reads_behind [] reads = reads
-reads_behind (what ∷ forms) reads = reads_next (file_of what) reads (reads_behind forms)
+reads_behind (what ∷ forms) reads = reads_next (files_of what) reads (reads_behind forms)
 
 -- ---- lines that are left
 
-abbrev pub seek : Option (List ℕ) → Files → (Files → Plan) → Plan
-seek None reads rest = rest reads
-seek (Some name) reads rest = next_read reads name (λ content. rest)
+abbrev pub seek_one : Option (List ℕ) → Files → (Files → Plan) → Plan
+seek_one None reads rest = rest reads
+seek_one (Some name) reads rest = next_read reads name (λ content. rest)
+
+abbrev pub seek : FileNames → Files → (Files → Plan) → Plan
+seek names reads rest = seek_one names.first reads (λ left. seek_one names.second left rest)
 
 -- the files of lines are read, in line order, and then memory runs out
 abbrev pub sought : List LineForm → Files → Plan
 sought [] reads = starved_plan
-sought (what ∷ forms) reads = seek (file_of what) reads (sought forms)
+sought (what ∷ forms) reads = seek (files_of what) reads (sought forms)
 
 -- what the lines of a block say, up to its end
 abbrev pub block_forms : List ScriptLine → List LineForm

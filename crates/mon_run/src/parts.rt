@@ -27,7 +27,7 @@ use mon_script::{LineForm, MOST_LINES_OF_BLOCK, ScriptLine};
 use mon_store::{Gate, Pass, Store};
 use mon_value::{ListOf, Text};
 use part_runs::{LineRans, run_alone, run_beside};
-use run_traces::LineTrace;
+use run_traces::{LineFiles, LineTrace};
 use standing::Standing;
 use std::sync::Wait;
 use std::thread::Threads;
@@ -70,7 +70,7 @@ impl<'f, 'o, 'l, F: Folder, O: Sink> Run<'f, 'o, 'l, F, O> {
     }
 
     // Runs a line alone, and writes its text.
-    fn alone<N: Names, R: Wait>(
+    fn alone<N: Names, R: Threads + Wait + Sync>(
         &mut self,
         rt: &R,
         store: &Store<N>,
@@ -95,7 +95,7 @@ impl<'f, 'o, 'l, F: Folder, O: Sink> Run<'f, 'o, 'l, F, O> {
         ensures stock { OnOk result (p.new.purse.stock ≡ p.old.purse.stock) }
     {
         let content = self.content(what)?;
-        let ran = run_alone(rt, self.alloc, store, p, standing, what, content.as_slice())?;
+        let ran = run_alone(rt, self.alloc, store, p, standing, what, &content)?;
         let LineRan { trace, text } = ran;
         self.end(trace)?;
         self.write(text.as_bytes())
@@ -162,7 +162,7 @@ impl<'f, 'o, 'l, F: Folder, O: Sink> Run<'f, 'o, 'l, F, O> {
     }
 
     // Reads the files of lines, in their order.
-    fn contents(&mut self, lines: &[ScriptLine]) -> Result<ListOf<ListOf<u8>>, Stop>
+    fn contents(&mut self, lines: &[ScriptLine]) -> Result<ListOf<LineFiles>, Stop>
         ensures continues { Continues F.state O.state self.old self.new }
         ensures log { self.new.log.now ≡ self.old.log.now }
         ensures count { IfOk result (λ contents. length contents ≡ length lines.now) }
@@ -178,22 +178,55 @@ impl<'f, 'o, 'l, F: Folder, O: Sink> Run<'f, 'o, 'l, F, O> {
         Ok(contents)
     }
 
-    // Reads the file of a line, if it names one.
-    fn content(&mut self, what: &LineForm) -> Result<ListOf<u8>, Stop>
+    // Reads the files of a line, if it names any.
+    fn content(&mut self, what: &LineForm) -> Result<LineFiles, Stop>
         ensures continues { Continues F.state O.state self.old self.new }
         ensures log { self.new.log.now ≡ self.old.log.now }
         ensures read { IfOk result (λ content. Between F.state O.state (FileRead what.now content) self.old self.new) }
         ensures stops { IfErr result (StopsBetween F.state O.state (FileStops what.now) self.old self.new) }
     {
         match what {
-            LineForm::Feed(name) => {
-                let content = self.read(name.as_str())?;
-                Ok(ListOf::from_vec(content))
+            LineForm::Feed(name) => self.one_file(name),
+            LineForm::Pour { first, second } => self.two_files(first, second),
+            LineForm::Ask(_) => Ok(LineFiles::none(self.alloc)),
+            LineForm::Control(_) => Ok(LineFiles::none(self.alloc)),
+            LineForm::Standing(_) => Ok(LineFiles::none(self.alloc)),
+            LineForm::Block(_) => Ok(LineFiles::none(self.alloc)),
+        }
+    }
+
+    // Reads the file of a feed.
+    fn one_file(&mut self, name: &Text) -> Result<LineFiles, Stop>
+        ensures continues { Continues F.state O.state self.old self.new }
+        ensures log { self.new.log.now ≡ self.old.log.now }
+        ensures read { IfOk result (λ content. Between F.state O.state (FileRead (LineForm.Feed name.now) content)
+            self.old self.new) }
+        ensures stops { IfErr result (StopsBetween F.state O.state (FileStops (LineForm.Feed name.now))
+            self.old self.new) }
+    {
+        let content = self.read(name.as_str())?;
+        Ok(LineFiles::one(self.alloc, ListOf::from_vec(content)))
+    }
+
+    // Reads the files of a pour, one after the other.
+    fn two_files(&mut self, first: &Text, second: &Text) -> Result<LineFiles, Stop>
+        ensures continues { Continues F.state O.state self.old self.new }
+        ensures log { self.new.log.now ≡ self.old.log.now }
+        ensures read { IfOk result (λ content. Between F.state O.state
+            (FileRead (LineForm.Pour first.now second.now) content) self.old self.new) }
+        ensures stops { IfErr result (StopsBetween F.state O.state (FileStops (LineForm.Pour first.now second.now))
+            self.old self.new) }
+    {
+        let one = self.read(first.as_str())?;
+        match self.read(second.as_str()) {
+            Ok(other) => Ok(LineFiles {
+                first: ListOf::from_vec(one),
+                second: ListOf::from_vec(other),
+            }),
+            Err(stop) => {
+                drop(one);
+                Err(stop)
             }
-            LineForm::Ask(_) => Ok(ListOf::new(self.alloc)),
-            LineForm::Control(_) => Ok(ListOf::new(self.alloc)),
-            LineForm::Standing(_) => Ok(ListOf::new(self.alloc)),
-            LineForm::Block(_) => Ok(ListOf::new(self.alloc)),
         }
     }
 

@@ -186,6 +186,7 @@ fn is_refused(trace: &LineTrace) -> bool
         LineTrace::Ticked(dues) => is_one_due_refused(dues.as_slice()),
         LineTrace::Refused(_) => true,
         LineTrace::Fed { .. } => false,
+        LineTrace::Poured { .. } => false,
         LineTrace::Asked { .. } => false,
         LineTrace::Controlled(_) => false,
         LineTrace::Done => false,

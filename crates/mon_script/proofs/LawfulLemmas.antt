@@ -6,10 +6,11 @@ use Rattle.std.specs.Option.{ok_or}
 use Rattle.std.specs.Prelude.{codes}
 use Rattle.std.specs.Str.{is_utf8}
 use Rattle.mon_script.specs.Controls.{control_of, control_word, IsLawfulControl}
-use Rattle.mon_script.specs.Forms.{Said, asked_at, asked_form, form_cut, form_of, how_named, plain_by}
+use Rattle.mon_script.specs.Forms.{Said, asked_at, asked_form, feed_form, file_name, form_cut, form_of, how_named}
+use Rattle.mon_script.specs.Forms.{plain_by, pour_form, poured}
 use Rattle.mon_script.specs.Forms.{question, question_of, said_by, stand_form, tick_form, timed}
 use Rattle.mon_script.specs.Lawful.{IsLawfulForm, IsLawfulLine}
-use Rattle.mon_script.specs.Lines.{cut_at, is_remark, is_file_name, moment_of, space}
+use Rattle.mon_script.specs.Lines.{cut_at, is_remark, moment_of, space}
 use Rattle.mon_script.specs.Blocks.{mark_of, stand_at}
 use Rattle.mon_script.specs.StandingLines.{IsLawfulStanding, stand_of, tick_of}
 use Rattle.mon_script.specs.Scripts.{line_read, lines_read, numbered, read_as}
@@ -104,10 +105,24 @@ module _ (zones : List ZoneSpec) where
       by_lawful (same_text word (codes "standing")) _ _ said (stand_lawful rest said)
       (plain_lawful word rest (control_word word) said) e
 
-  file_lawful : (name : List ℕ) (fits : Bool) (said : LineForm)
-      → cond fits (Ok (form.Feed name)) (fault_of kind.BadWord) ≡ Ok said → IsLawfulForm zones said
-  file_lawful name true said e = let same : form.Feed name ≡ said = cc in subst (IsLawfulForm zones) same tt
-  file_lawful name false said e = cc
+  abbrev IsName : List ℕ → Type 0
+  IsName name = Unit {0}
+
+  feed_lawful : (rest : List ℕ) (said : LineForm) → feed_form rest ≡ Ok said → IsLawfulForm zones said
+  feed_lawful rest said e =
+      part_lawful IsName form.Feed (file_name rest) said (λ name lawful. tt) (λ name is. tt) e
+
+  poured_lawful : (first : Result (List ℕ) ScriptKind) (other : List ℕ) (said : LineForm)
+      → first >>= (λ name. file_name other >>= (λ second. Ok (form.Pour name second))) ≡ Ok said
+      → IsLawfulForm zones said
+  poured_lawful (Err why) other said e = cc
+  poured_lawful (Ok name) other said e =
+      part_lawful IsName (form.Pour name) (file_name other) said (λ second lawful. tt) (λ second is. tt) e
+
+  pour_lawful : (cut : Option (List ℕ × List ℕ)) (said : LineForm)
+      → ok_or cut kind.BadWord >>= (λ words. poured words.0 words.1) ≡ Ok said → IsLawfulForm zones said
+  pour_lawful None said e = cc
+  pour_lawful (Some words) said e = poured_lawful (file_name words.0) words.1 said e
 
   abbrev said_form : LineForm → Said
   said_form what = Ok what
@@ -118,8 +133,9 @@ module _ (zones : List ZoneSpec) where
   cut_lawful : (line : List ℕ) (cut : Option (List ℕ × List ℕ)) (said : LineForm)
       → form_cut zones line cut ≡ Ok said → IsLawfulForm zones said
   cut_lawful line (Some words) said e =
-      by_lawful _ _ _ said (file_lawful words.1 (is_file_name words.1) said)
-      (said_lawful words.0 words.1 (how_named words.0) said) e
+      by_lawful _ _ _ said (feed_lawful words.1 said)
+      (by_lawful _ _ _ said (pour_lawful (cut_at space words.1) said)
+      (said_lawful words.0 words.1 (how_named words.0) said)) e
   cut_lawful line None said e =
       by_lawful _ _ _ said (mark_lawful (form.Block mark.Together) said tt)
       (by_lawful _ _ _ said (mark_lawful (form.Block mark.End) said tt) (bad_lawful said)) e

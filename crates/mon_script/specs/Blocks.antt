@@ -24,6 +24,7 @@ block_mark block.End = mark.Closes
 
 abbrev pub mark_of : LineForm → Mark
 mark_of (form.Feed name) = mark.Acts
+mark_of (form.Pour first second) = mark.Acts
 mark_of (form.Ask question) = mark.Acts
 mark_of (form.Control control) = mark.Acts
 mark_of (form.Standing line) = mark.Lone

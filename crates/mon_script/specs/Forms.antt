@@ -21,11 +21,28 @@ use Rattle.mon_script.specs.declared.questions.Question.{Question}
 abbrev pub Said : Type 0
 Said = Result LineForm ScriptKind
 
--- ---- feeds
+-- ---- files
 
--- a feed has the name of a file: a word that isn't empty, of UTF-8
+-- the name of a file: a word that isn't empty, of UTF-8
+abbrev pub file_name : List ℕ → Result (List ℕ) ScriptKind
+file_name name = if is_file_name name then Ok name else Err kind.BadWord
+
 abbrev pub feed_form : List ℕ → Said
-feed_form name = if is_file_name name then Ok (form.Feed name) else Err kind.BadWord
+feed_form rest = do
+  name ← file_name rest
+  Ok (form.Feed name)
+
+-- two names, with a space between
+abbrev pub poured : List ℕ → List ℕ → Said
+poured one other = do
+  first ← file_name one
+  second ← file_name other
+  Ok (form.Pour first second)
+
+abbrev pub pour_form : List ℕ → Said
+pour_form rest = do
+  words ← ok_or (cut_at space rest) kind.BadWord
+  poured words.0 words.1
 
 -- ---- questions
 
@@ -87,7 +104,7 @@ plain_by zones word rest None = tick_or_none word rest
 abbrev pub plain_form : List ZoneSpec → List ℕ → List ℕ → Said
 plain_form zones word rest = plain_by zones word rest (control_word word)
 
--- what the rest says behind a word that neither feeds nor asks
+-- what the rest says behind a word that asks nothing and names no file
 abbrev pub other_form : List ZoneSpec → List ℕ → List ℕ → Said
 other_form zones word rest =
     if same_text word (codes "standing") then stand_form rest else plain_form zones word rest
@@ -100,7 +117,8 @@ said_by zones word rest None = other_form zones word rest
 -- what the first word and the rest of a line say
 abbrev pub form_by : List ZoneSpec → List ℕ → List ℕ → Said
 form_by zones word rest =
-    if same_text word (codes "feed") then feed_form rest else said_by zones word rest (how_named word)
+    if same_text word (codes "feed") then feed_form rest
+    else if same_text word (codes "pour") then pour_form rest else said_by zones word rest (how_named word)
 
 -- a word alone opens a block or closes it
 abbrev pub lone_form : List ℕ → Said

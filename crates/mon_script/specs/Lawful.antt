@@ -10,6 +10,7 @@ use Rattle.mon_script.specs.declared.script.ScriptLine.{ScriptLine}
 -- the moment of a question is no less than 0, and a control and what stands alone are lawful
 abbrev pub IsLawfulForm : List ZoneSpec → LineForm → Type 0
 IsLawfulForm zones (form.Feed name) = Unit {0}
+IsLawfulForm zones (form.Pour first second) = Unit {0}
 IsLawfulForm zones (form.Ask question) = pos 0 ≤ℤ question.moment
 IsLawfulForm zones (form.Control control) = IsLawfulControl zones control
 IsLawfulForm zones (form.Standing line) = IsLawfulStanding line

@@ -17,6 +17,8 @@ use std::alloc::Global;
 pub enum LineForm {
     /// Feed the records of a file.
     Feed(Text),
+    /// Pour the records of two files, each in its order, through one queue.
+    Pour { first: Text, second: Text },
     /// Ask a text.
     Ask(Question),
     /// Switch a leaf, or open a replica of a range.
@@ -75,6 +77,9 @@ fn form_by(
     if word == b"feed".as_slice() {
         return feed_form(alloc, rest);
     }
+    if word == b"pour".as_slice() {
+        return pour_form(alloc, rest);
+    }
     match how_named(word) {
         Some(how) => asked_form(alloc, how, rest),
         None => other_form(alloc, topology, word, rest),
@@ -85,11 +90,41 @@ fn form_by(
 fn feed_form(alloc: Global, name: &[u8]) -> Result<LineForm, Refusal<ScriptKind>>
     ensures form { Gives result (spec.feed_form name.now) }
 {
+    Ok(LineForm::Feed(file_name(alloc, name)?))
+}
+
+// A pour of two files.
+fn pour_form(alloc: Global, names: &[u8]) -> Result<LineForm, Refusal<ScriptKind>>
+    ensures form { Gives result (spec.pour_form names.now) }
+{
+    match cut_at(names, b' ') {
+        Some((first, second)) => poured(alloc, first, second),
+        None => Err(Refusal::Fault(ScriptKind::BadWord)),
+    }
+}
+
+fn poured(alloc: Global, first: &[u8], second: &[u8]) -> Result<LineForm, Refusal<ScriptKind>>
+    ensures form { Gives result (spec.poured first.now second.now) }
+{
+    let first = file_name(alloc, first)?;
+    match file_name(alloc, second) {
+        Ok(second) => Ok(LineForm::Pour { first, second }),
+        Err(fault) => {
+            drop(first);
+            Err(fault)
+        }
+    }
+}
+
+// The name of a file.
+fn file_name(alloc: Global, name: &[u8]) -> Result<Text, Refusal<ScriptKind>>
+    ensures name { Gives result (spec.file_name name.now) }
+{
     if name.is_empty() || name.contains(&b' ') {
         return Err(Refusal::Fault(ScriptKind::BadWord));
     }
     match Text::from_utf8(alloc, name)? {
-        Some(name) => Ok(LineForm::Feed(name)),
+        Some(name) => Ok(name),
         None => Err(Refusal::Fault(ScriptKind::BadWord)),
     }
 }
@@ -101,7 +136,7 @@ fn asked_form(alloc: Global, how: How, rest: &[u8]) -> Result<LineForm, Refusal<
     Ok(LineForm::Ask(question_of(alloc, how, rest)?))
 }
 
-// What a line says that neither feeds nor asks.
+// What a line says that names no file and doesn't ask.
 fn other_form(
     alloc: Global,
     topology: &Topology,

@@ -32,6 +32,7 @@ pub fn mark_of(form: &LineForm) -> Mark
 {
     match form {
         LineForm::Feed(_) => Mark::Acts,
+        LineForm::Pour { .. } => Mark::Acts,
         LineForm::Ask(_) => Mark::Acts,
         LineForm::Control(_) => Mark::Acts,
         LineForm::Standing(_) => Mark::Lone,

@@ -21,6 +21,7 @@ use Rattle.run_theory.specs.Parts.{Alone}
 use Rattle.run_theory.proofs.Marks.{all_as}
 use Rattle.run_traces.specs.LineClaims.{HasWritten}
 use Rattle.run_traces.specs.RanLines.{RanLine}
+use Rattle.run_traces.specs.declared.line_files.LineFiles.{LineFiles}
 use Rattle.mon_script.specs.declared.forms.LineForm.{LineForm}
 use Rattle.part_runs.specs.PartsDone.{PartDid}
 use Rattle.part_runs.proofs.ListLemmas.{all_mapped, first_of}
@@ -133,7 +134,7 @@ module _ (setting : Setting) (config : Config) (line : RanLine) (text : List ℕ
 
 -- ---- what a call answers
 
-module _ {E : Type 0} (setting : Setting) (config : Config) (what : LineForm) (content : List ℕ) (before after : Knowledge)
+module _ {E : Type 0} (setting : Setting) (config : Config) (what : LineForm) (content : LineFiles) (before after : Knowledge)
     (begun : IsPass setting before) (ended : IsPass setting after) (borne_out : IsPurseBorneOut after.seen after.purse)
     (every : HasEveryNumber before.purse) where
   pub answer_did : (answer : Result LineRan E)
@@ -143,7 +144,7 @@ module _ {E : Type 0} (setting : Setting) (config : Config) (what : LineForm) (c
       ended wrote borne_out every
   answer_did (Err e) wrote = tt
 
-pub answer_stock : {E : Type 0} (config : Config) (what : LineForm) (content : List ℕ) (before after : Knowledge)
+pub answer_stock : {E : Type 0} (config : Config) (what : LineForm) (content : LineFiles) (before after : Knowledge)
     (answer : Result LineRan E)
     → IfOk answer (λ ran. LineWrote config (ran_line what content ran.trace) ran.text before after)
     → OnOk answer (after.purse.stock ≡ before.purse.stock)

@@ -28,6 +28,7 @@ use Rattle.run_traces.specs.LineClaims.{Finds, HaveGrown, Makes}
 use Rattle.run_traces.specs.LineTexts.{line_text}
 use Rattle.run_traces.specs.RanLines.{RanLine, ran_lines}
 use Rattle.run_traces.specs.declared.traces.LineTrace.{LineTrace}
+use Rattle.run_traces.specs.declared.line_files.LineFiles.{LineFiles}
 use Rattle.mon_script.specs.declared.forms.LineForm.{LineForm}
 use Rattle.mon_script.specs.declared.script.ScriptLine.{ScriptLine}
 use Rattle.part_runs.specs.Courses.{BlockRan, EachHasRun, HasRun, HaveMet, Way, after_begun, begun, ended_in}
@@ -137,7 +138,7 @@ module _ (later : (config : Config) (seen more : Histories) (from : History → 
     → line_text config more line ≡ line_text config seen line)
     (setting : Setting) (config : Config) (last : Knowledge) (ended : IsPass setting last)
     (held : AreHeld setting.held setting.zones setting.points last.seen) where
-  module _ (know : Knowledge) (what : LineForm) (content : List ℕ) (way : Way) (ran : LineRan)
+  module _ (know : Knowledge) (what : LineForm) (content : LineFiles) (way : Way) (ran : LineRan)
       (run : HasRun setting config what content (record { know = numbered_knowledge know; done = None }) way)
       (is : way.done ≡ Some ran) (fronts : AreFronts way.know.seen last.seen)
       (keeps : (kept : Kept) → Contains (kept_in way.know.purse) kept → Contains (kept_in last.purse) kept) where
@@ -195,7 +196,7 @@ module _ (later : (config : Config) (seen more : Histories) (from : History → 
 
   -- ---- what all lines did
 
-  record LinesDid (know : Knowledge) (lines : List ScriptLine) (contents : List (List ℕ)) (ways : List Way)
+  record LinesDid (know : Knowledge) (lines : List ScriptLine) (contents : List LineFiles) (ways : List Way)
       (rans : List LineRan) : Type 0 where
     each : EachWrote entries book_entry_pass (Makes config) (Finds config) HaveGrown know.seen last.seen
         (numbers_on know.purse.stock.from (length lines)) (ran_lines lines contents (map trace_of rans))
@@ -203,7 +204,7 @@ module _ (later : (config : Config) (seen more : Histories) (from : History → 
     prints : map text_of rans ≡ map (line_text config last.seen) (ran_lines lines contents (map trace_of rans))
     times : (n : ℕ) → times_in n ways ≡ times_in n (begun (length lines) know)
 
-  lines_did : (know : Knowledge) (lines : List ScriptLine) (contents : List (List ℕ)) (ways : List Way)
+  lines_did : (know : Knowledge) (lines : List ScriptLine) (contents : List LineFiles) (ways : List Way)
       (rans : List LineRan) → length contents ≡ length lines → length ways ≡ length lines
       → EachHasRun setting config lines contents (begun (length lines) know) ways → AreDone ways rans
       → AllByRecursion (λ (way : Way). AreFronts way.know.seen last.seen) ways
@@ -245,7 +246,7 @@ module _ (later : (config : Config) (seen more : Histories) (from : History → 
       → times_number n (with_stock_handed purse) + times_number n (first_handed purse) ≡ times_number n purse)
       (both : (n : ℕ) (purse other : Purse)
       → times_number n (met_purse purse other) ≡ times_number n purse + times_number n other)
-      (know : Knowledge) (lines : List ScriptLine) (contents : List (List ℕ)) (ways : List Way)
+      (know : Knowledge) (lines : List ScriptLine) (contents : List LineFiles) (ways : List Way)
       (begun_pass : IsPass setting know) (begun_held : AreHeld setting.held setting.zones setting.points know.seen)
       (borne_out : IsPurseBorneOut last.seen last.purse)
       (met : HaveMet ways (after_begun (length lines) know) last) where
@@ -309,7 +310,7 @@ module _ (later : (config : Config) (seen more : Histories) (from : History → 
 
 -- ---- what calls answer
 
-pub block_ran : (setting : Setting) (config : Config) (lines : List ScriptLine) (contents : List (List ℕ))
+pub block_ran : (setting : Setting) (config : Config) (lines : List ScriptLine) (contents : List LineFiles)
     (none rans : List LineRan) (before mid after : Knowledge) (first ways : List Way)
     → first ≡ begun (length lines) before → mid ≡ after_begun (length lines) before → length ways ≡ length lines
     → EachHasRun setting config lines contents first ways → HaveMet ways mid after → none ≡ []

@@ -17,18 +17,19 @@ use Rattle.mon_script.specs.declared.script.ScriptLine.{ScriptLine}
 use Rattle.part_runs.specs.Courses.{EachHasRun, HasRun, HaveMet, Way, after_begun, begun}
 use Rattle.part_runs.specs.PartsDone.{CanSplit}
 use Rattle.part_runs.proofs.NumberLemmas.{can_split_on, can_split_one}
+use Rattle.run_traces.specs.declared.line_files.LineFiles.{LineFiles}
 
 if_kept : {T E : Type 0} (P : T → Type 0) (answer : Result T E) → IfOk answer P → IfSome (result_ok answer) P
 if_kept P (Ok x) holds = holds
 if_kept P (Err e) holds = tt
 
-module _ (config : Config) (what : LineForm) (content : List ℕ) (before : Knowledge) where
+module _ (config : Config) (what : LineForm) (content : LineFiles) (before : Knowledge) where
   -- what a line came to is what it wrote
   abbrev HasWrote : Knowledge → LineRan → Type 0
   HasWrote after ran = LineWrote config (ran_line what content ran.trace) ran.text before after
 
 -- a line has run, by what its caller knew, what it knows then and what it answered
-pub has_run : {E : Type 0} (setting : Setting) (config : Config) (what : LineForm) (content : List ℕ)
+pub has_run : {E : Type 0} (setting : Setting) (config : Config) (what : LineForm) (content : LineFiles)
     (before after : Way) (first know : Knowledge) (answer : Result LineRan E) → IsPass setting first
     → IfOk answer (HasWrote config what content first know) → AreFronts first.seen know.seen → IsPass setting know
     → AreHeld setting.held setting.zones setting.points know.seen → before.know ≡ first → after.know ≡ know
@@ -96,10 +97,10 @@ one_more_begun count line courses more way first know next less so more_is is ne
 
 -- ---- as lines run
 
-pub each_has_run : (setting : Setting) (config : Config) (lines : List ScriptLine) (contents : List (List ℕ))
+pub each_has_run : (setting : Setting) (config : Config) (lines : List ScriptLine) (contents : List LineFiles)
     (before after : List Way) → length contents ≡ length lines → length before ≡ length lines
     → length after ≡ length before
-    → ((k : ℕ) (line : ScriptLine) (content : List ℕ) (d : Way) → slice_get lines k ≡ Some line
+    → ((k : ℕ) (line : ScriptLine) (content : LineFiles) (d : Way) → slice_get lines k ≡ Some line
     → slice_get contents k ≡ Some content → k < length before
     → HasRun setting config line.what content (get_or before k d) (get_or after k d))
     → EachHasRun setting config lines contents before after

@@ -22,6 +22,7 @@ use Rattle.run_traces.specs.LineDues.{IsDueBy, due_outcome, due_told}
 use Rattle.run_traces.specs.declared.traces.DueTrace.{DueTrace}
 use Rattle.run_traces.specs.declared.traces.LineFault.TheVariants as why
 use Rattle.run_traces.specs.declared.traces.LineTrace.TheVariants as came
+use Rattle.run_traces.specs.declared.line_files.LineFiles.{LineFiles}
 use Rattle.standing.specs.DueLists.{add_fault, due_answer, StandingState, at_moment}
 use Rattle.standing.specs.declared.dues.Due.{Due}
 use Rattle.standing.specs.declared.faults.DueFault.{DueFault}
@@ -30,13 +31,13 @@ module _ (go_on : GoOn) (stay : Stay) (setting : Setting) (config : Config) (kno
     (begun : IsPass setting know) (borne_out : IsPurseBorneOut know.seen know.purse)
     (every : HasEveryNumber know.purse) where
   -- a line that touches nothing tells what it wrote
-  still_tells : (what : LineForm) (content : List ℕ) (ran : LineRan)
+  still_tells : (what : LineForm) (content : LineFiles) (ran : LineRan)
       → LineWrote config (ran_line what content ran.trace) ran.text know know
       → PartTells config (Alone (ran_line what content ran.trace)) (ran.text ∷ []) know know
   still_tells what content ran wrote = alone_tells go_on stay
       (part_did setting config (ran_line what content ran.trace) ran.text know know begun begun wrote borne_out every)
 
-  module _ (state : StandingState) (name : List ℕ) (period : ℤ) (text content : List ℕ) where
+  module _ (state : StandingState) (name : List ℕ) (period : ℤ) (text : List ℕ) (content : LineFiles) where
     abbrev told : LineRan
     told = standing_ran config.topology name (add_fault config.schemas state.queries name text)
 
@@ -68,7 +69,7 @@ module _ (go_on : GoOn) (stay : Stay) (setting : Setting) (config : Config) (kno
     stand_answers (Err fault) stands is stood = tt
 
   -- a moment isn't taken
-  pub undue_did : (state stands : StandingState) (moment : ℤ) (content : List ℕ) (fault : DueFault) (ran : LineRan)
+  pub undue_did : (state stands : StandingState) (moment : ℤ) (content : LineFiles) (fault : DueFault) (ran : LineRan)
       → ran ≡ refused_for config.topology (why.Due fault)
       → due_answer state.last moment state.queries ≡ Err fault → stands ≡ state
       → AloneDid config (form.Standing (line.Tick moment)) content ran know know state stands
@@ -81,7 +82,7 @@ module _ (go_on : GoOn) (stay : Stay) (setting : Setting) (config : Config) (kno
       })
 
   pub undue_answers : {E : Type 0} (answer : Result LineRan E) (state stands : StandingState) (moment : ℤ)
-      (content : List ℕ) (fault : DueFault)
+      (content : LineFiles) (fault : DueFault)
       → IfOk answer (λ ran. ran ≡ refused_for config.topology (why.Due fault))
       → due_answer state.last moment state.queries ≡ Err fault → stands ≡ state
       → IfOk answer (λ ran. AloneDid config (form.Standing (line.Tick moment)) content ran know know state stands)
@@ -90,7 +91,7 @@ module _ (go_on : GoOn) (stay : Stay) (setting : Setting) (config : Config) (kno
   undue_answers (Err failed) state stands moment content fault is due same = tt
 
 -- the queries that are due were asked
-module _ (config : Config) (before after : Knowledge) (state stands : StandingState) (moment : ℤ) (content : List ℕ)
+module _ (config : Config) (before after : Knowledge) (state stands : StandingState) (moment : ℤ) (content : LineFiles)
     (dues : List Due) (answer : due_answer state.last moment state.queries ≡ Ok dues)
     (stood : stands ≡ at_moment state moment) where
   due_by : (ran : LineRan) (traces : List DueTrace) → ran.trace ≡ came.Ticked traces

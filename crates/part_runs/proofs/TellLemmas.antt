@@ -25,6 +25,7 @@ use Rattle.run_traces.specs.LineTexts.{line_text}
 use Rattle.run_traces.specs.RanLines.{RanLine, ran_lines}
 use Rattle.run_traces.specs.declared.traces.LineTrace.{LineTrace}
 use Rattle.run_traces.specs.declared.traces.LineTrace.TheVariants as came
+use Rattle.run_traces.specs.declared.line_files.LineFiles.{LineFiles}
 use Rattle.standing.specs.DueLists.{StandingState}
 
 -- ---- the laws of runs
@@ -62,6 +63,7 @@ module _ (config : Config) (seen : Histories) (from to : History → ℕ) (numbe
       → (is_ticked trace ≡ false)
       × (map (λ (one : RanLine). Alone one) (asked_by line trace) ≡ Alone line ∷ [])
   plain_by (came.Fed pass accepted refused) found = (refl, refl)
+  plain_by (came.Poured pass ends) found = (refl, refl)
   plain_by (came.Asked moment trace) found = (refl, refl)
   plain_by (came.Ticked dues) found = absurd found
   plain_by (came.Controlled done) found = (refl, refl)
@@ -100,7 +102,7 @@ module _ (config : Config) (before after : Histories) where
   alone_plain line wrote = one_plain line wrote.numbers wrote.each
 
 -- nor is any of those that ran beside each other
-pub beside_plain : (lines : List ScriptLine) (contents : List (List ℕ)) (rans : List LineRan)
+pub beside_plain : (lines : List ScriptLine) (contents : List LineFiles) (rans : List LineRan)
     → length contents ≡ length lines → length rans ≡ length lines
     → AllByRecursion (λ (line : RanLine). is_ticked line.trace ≡ false)
     (ran_lines lines contents (map (λ (ran : LineRan). ran.trace) rans))
@@ -139,6 +141,7 @@ pub acting_due : (schemas : SchemaLists) (state : StandingState) (what : LineFor
     → mark_of what ≡ mark.Acts → is_ticked trace ≡ false
     → IsDueBy schemas state what trace × (state ≡ stands_behind state what trace)
 acting_due schemas state (form.Feed name) trace acts plain = (plain, refl)
+acting_due schemas state (form.Pour first second) trace acts plain = (plain, refl)
 acting_due schemas state (form.Ask asked) trace acts plain = (plain, refl)
 acting_due schemas state (form.Control control) trace acts plain = (plain, refl)
 acting_due schemas state (form.Standing line) trace acts plain = absurd cc
@@ -147,7 +150,7 @@ acting_due schemas state (form.Block block.End) trace acts plain = absurd cc
 
 -- ---- what calls answer
 
-module _ {E : Type 0} (config : Config) (what : LineForm) (content : List ℕ) (know known : Knowledge) where
+module _ {E : Type 0} (config : Config) (what : LineForm) (content : LineFiles) (know known : Knowledge) where
   pub answer_tells : GoOn → Stay → (answer : Result LineRan E)
       → IfOk answer (λ ran. PartDid config (Alone (ran_line what content ran.trace)) (ran.text ∷ []) know known)
       → IfOk answer (λ ran. PartTells config (Alone (ran_line what content ran.trace)) (ran.text ∷ []) know known)

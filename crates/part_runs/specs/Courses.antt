@@ -11,6 +11,7 @@ use Rattle.mon_topo.specs.HeldHistories.{AreHeld}
 use Rattle.mon_topo.specs.Settings.{Setting}
 use Rattle.mon_script.specs.declared.forms.LineForm.{LineForm}
 use Rattle.mon_script.specs.declared.script.ScriptLine.{ScriptLine}
+use Rattle.run_traces.specs.declared.line_files.LineFiles.{LineFiles}
 
 -- what the caller of a line knows, and what the line came to, once it has run and memory was enough
 pub record Way : Type 0 where
@@ -34,7 +35,7 @@ after_begun (suc count) know = after_begun count (after_numbering know)
 
 module _ (setting : Setting) (config : Config) where
   -- a line of a block has run
-  pub record HasRun (what : LineForm) (content : List ℕ) (before after : Way) : Type 0 where
+  pub record HasRun (what : LineForm) (content : LineFiles) (before after : Way) : Type 0 where
     pub began : IsPass setting before.know
     pub wrote : IfSome after.done (λ ran. LineWrote config (ran_line what content ran.trace) ran.text before.know
         after.know)
@@ -43,12 +44,12 @@ module _ (setting : Setting) (config : Config) where
     pub held : AreHeld setting.held setting.zones setting.points after.know.seen
 
   -- the line of a place has
-  abbrev pub HasRunAt : List ScriptLine → List (List ℕ) → ℕ → Way → Way → Type 0
-  HasRunAt lines contents place before after = (line : ScriptLine) (content : List ℕ)
+  abbrev pub HasRunAt : List ScriptLine → List LineFiles → ℕ → Way → Way → Type 0
+  HasRunAt lines contents place before after = (line : ScriptLine) (content : LineFiles)
       → slice_get lines place ≡ Some line → slice_get contents place ≡ Some content
       → HasRun line.what content before after
 
-  abbrev pub EachHasRun : List ScriptLine → List (List ℕ) → List Way → List Way → Type 0
+  abbrev pub EachHasRun : List ScriptLine → List LineFiles → List Way → List Way → Type 0
   EachHasRun [] contents before after = Unit {0}
   EachHasRun (line ∷ lines) [] before after = ⊥
   EachHasRun (line ∷ lines) (content ∷ contents) [] after = ⊥
@@ -73,7 +74,7 @@ ended_in (way ∷ ways) = option_to_list way.done ++ ended_in ways
 -- ---- a block
 
 -- The lines of a block ran under callers that were split off the script's, which met them then
-pub record BlockRan (setting : Setting) (config : Config) (lines : List ScriptLine) (contents : List (List ℕ))
+pub record BlockRan (setting : Setting) (config : Config) (lines : List ScriptLine) (contents : List LineFiles)
     (rans : List LineRan) (before after : Knowledge) : Type 0 where
   pub ways : List Way
   pub count : length ways ≡ length lines

@@ -15,6 +15,7 @@ use Rattle.run_traces.specs.LineClaims.{AllRan, HasWritten, HaveGrown}
 use Rattle.run_traces.specs.LineDues.{IsDueBy, asked_part, stands_behind}
 use Rattle.run_traces.specs.LineTexts.{line_text}
 use Rattle.run_traces.specs.RanLines.{RanLine}
+use Rattle.run_traces.specs.declared.line_files.LineFiles.{LineFiles}
 use Rattle.standing.specs.DueLists.{StandingState}
 
 -- a line may stand in a block
@@ -44,7 +45,7 @@ pub record PartTells (config : Config) (part : Part RanLine) (texts : List (List
   pub every : HasEveryNumber after.purse
 
 -- A line alone did so, and did with the queries that stand what is to be done with them
-pub record AloneDid (config : Config) (what : LineForm) (content : List ℕ) (ran : LineRan) (before after : Knowledge)
+pub record AloneDid (config : Config) (what : LineForm) (content : LineFiles) (ran : LineRan) (before after : Knowledge)
     (state stands : StandingState) : Type 0 where
   pub tells : PartTells config (Alone (ran_line what content ran.trace)) (ran.text ∷ []) before after
   pub due : IsDueBy config.schemas state what ran.trace

@@ -18,21 +18,22 @@ use line_runs::{LineRan, add_standing, run_line};
 use mon_script::{BlockMark, LineForm, Mark, StandingLine, mark_of};
 use mon_store::{Pass, Store};
 use mon_value::{OutOfMemory, Text};
-use run_traces::{runs_go_on, texts_stay};
+use run_traces::{LineFiles, runs_go_on, texts_stay};
 use standing::Standing;
 use std::alloc::Global;
 use std::sync::Wait;
+use std::thread::Threads;
 
-/// Runs a line under the script's caller, which knows the queries that stand. Where memory runs out, rows of a feed may
-/// have been written, a leaf may have been switched or recovered, and a query may stand.
-pub fn run_alone<N: Names, R: Wait>(
+/// Runs a line under the script's caller, which knows the queries that stand. Where memory runs out, rows of a feed or a pour
+/// may have been written, a leaf may have been switched or recovered, and a query may stand.
+pub fn run_alone<N: Names, R: Threads + Wait + Sync>(
     rt: &R,
     alloc: Global,
     store: &Store<N>,
     p: &mut Pass<N>,
     standing: &mut Standing,
     what: &LineForm,
-    content: &[u8],
+    content: &LineFiles,
 ) -> Result<LineRan, OutOfMemory>
     requires lawful { IsLawfulForm store.now.topology what.now }
     requires acts { acts_by (mark_of what.now) ≡ true }
@@ -50,13 +51,13 @@ pub fn run_alone<N: Names, R: Wait>(
 }
 
 // A line that may stand in a block.
-fn acting<N: Names, R: Wait>(
+fn acting<N: Names, R: Threads + Wait + Sync>(
     rt: &R,
     alloc: Global,
     store: &Store<N>,
     p: &mut Pass<N>,
     what: &LineForm,
-    content: &[u8],
+    content: &LineFiles,
 ) -> Result<LineRan, OutOfMemory>
     requires lawful { IsLawfulForm store.now.topology what.now }
     requires acts { mark_of what.now ≡ Acts }
@@ -83,7 +84,7 @@ fn lone<N: Names, R: Wait>(
     p: &mut Pass<N>,
     standing: &mut Standing,
     what: &LineForm,
-    content: &[u8],
+    content: &LineFiles,
 ) -> Result<LineRan, OutOfMemory>
     requires lawful { IsLawfulForm store.now.topology what.now }
     requires lone { mark_of what.now ≡ Lone }
@@ -95,6 +96,7 @@ fn lone<N: Names, R: Wait>(
     match what {
         LineForm::Standing(line) => { stand_or_tick(rt, alloc, store, p, standing, line, content) }
         LineForm::Feed(_) => unreachable!(),
+        LineForm::Pour { .. } => unreachable!(),
         LineForm::Ask(_) => unreachable!(),
         LineForm::Control(_) => unreachable!(),
         LineForm::Block(BlockMark::Together) => unreachable!(),
@@ -110,7 +112,7 @@ fn stand_or_tick<N: Names, R: Wait>(
     p: &mut Pass<N>,
     standing: &mut Standing,
     line: &StandingLine,
-    content: &[u8],
+    content: &LineFiles,
 ) -> Result<LineRan, OutOfMemory>
     requires lawful { IsLawfulStanding line.now }
     requires every { HasEveryNumber p.old.purse }
@@ -136,7 +138,7 @@ fn stand<N: Names>(
     name: &Text,
     period: i64,
     text: &Text,
-    content: &[u8],
+    content: &LineFiles,
 ) -> Result<LineRan, OutOfMemory>
     requires period { pos 1 ≤ℤ period }
     requires every { HasEveryNumber p.old.purse }

@@ -18,7 +18,7 @@ use line_runs::LineRan;
 use mon_script::{MOST_LINES_OF_BLOCK, ScriptLine};
 use mon_store::{Gate, Pass, Store};
 use mon_value::{ListOf, OutOfMemory};
-use run_traces::{finds_stay, runs_go_on, texts_stay};
+use run_traces::{LineFiles, finds_stay, runs_go_on, texts_stay};
 use std::alloc::{AllocError, Global};
 use std::sync::Wait;
 use std::thread::Threads;
@@ -35,7 +35,7 @@ pub fn run_beside<N: Names + Send + Sync, R: Threads + Wait + Sync, G: Gate + Sy
     gate: &G,
     p: &mut Pass<N>,
     lines: &[ScriptLine],
-    contents: &[ListOf<u8>],
+    contents: &[LineFiles],
 ) -> Result<LineRans, OutOfMemory>
     requires lawful { AllByRecursion (IsLawfulLine store.now.topology) lines.now }
     requires acts { AllByRecursion ActsThere lines.now }
@@ -75,7 +75,7 @@ fn run_courses<N: Names + Send + Sync, R: Threads + Wait + Sync, G: Gate + Sync>
     gate: &G,
     p: &mut Pass<N>,
     lines: &[ScriptLine],
-    contents: &[ListOf<u8>],
+    contents: &[LineFiles],
     rans: &mut Vec<LineRan>,
 ) -> Result<(), OutOfMemory>
     requires lawful { AllByRecursion (IsLawfulLine store.now.topology) lines.now }

@@ -11,7 +11,8 @@ use know::Names;
 use line_runs::{LineRan, run_line};
 use mon_script::{MOST_LINES_OF_BLOCK, ScriptLine};
 use mon_store::{Gate, Pass, Store};
-use mon_value::{ListOf, OutOfMemory, Refusal};
+use mon_value::{OutOfMemory, Refusal};
+use run_traces::LineFiles;
 use std::alloc::{AllocError, Global};
 use std::marker::Model;
 use std::sync::Wait;
@@ -89,7 +90,7 @@ pub(crate) fn run_all<N: Names + Send + Sync, R: Threads + Wait + Sync, G: Gate 
     store: &Store<N>,
     gate: &G,
     lines: &[ScriptLine],
-    contents: &[ListOf<u8>],
+    contents: &[LineFiles],
     courses: &mut Vec<Course<N>>,
 )
     requires lawful { AllByRecursion (IsLawfulLine store.now.topology) lines.now }
@@ -117,7 +118,7 @@ fn run_each<N: Names + Send + Sync, R: Threads + Wait + Sync, G: Gate + Sync>(
     store: &Store<N>,
     gate: &G,
     lines: &[ScriptLine],
-    contents: &[ListOf<u8>],
+    contents: &[LineFiles],
     courses: &mut [Course<N>],
 )
     requires lawful { AllByRecursion (IsLawfulLine store.now.topology) lines.now }
@@ -140,13 +141,13 @@ fn run_each<N: Names + Send + Sync, R: Threads + Wait + Sync, G: Gate + Sync>(
 }
 
 // Runs the line at a place of a block.
-fn run_at<N: Names, R: Wait, G: Gate>(
+fn run_at<N: Names, R: Threads + Wait + Sync, G: Gate>(
     rt: &R,
     alloc: Global,
     store: &Store<N>,
     gate: &G,
     lines: &[ScriptLine],
-    contents: &[ListOf<u8>],
+    contents: &[LineFiles],
     place: usize,
     course: &mut Course<N>,
 )
@@ -162,19 +163,19 @@ fn run_at<N: Names, R: Wait, G: Gate>(
         store,
         gate,
         &lines[place],
-        contents[place].as_slice(),
+        &contents[place],
         course,
     );
 }
 
 // Runs a line between its arrival at the gate and its leave.
-fn run_course<N: Names, R: Wait, G: Gate>(
+fn run_course<N: Names, R: Threads + Wait + Sync, G: Gate>(
     rt: &R,
     alloc: Global,
     store: &Store<N>,
     gate: &G,
     line: &ScriptLine,
-    content: &[u8],
+    content: &LineFiles,
     course: &mut Course<N>,
 )
     requires lawful { IsLawfulForm store.now.topology line.now.what }

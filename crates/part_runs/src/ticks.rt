@@ -10,6 +10,7 @@ ghost use Rattle.run_theory.specs.Parts.{Alone};
 ghost use Rattle.run_traces.specs.LineDues.{end_trace};
 ghost use Rattle.run_traces.specs.LineAsks.{query_form};
 ghost use Rattle.run_traces.specs.LineForms.{IsAnswered};
+ghost use Rattle.run_traces.specs.RanLines.{no_files};
 ghost use Rattle.run_traces.specs.LineTexts as line;
 ghost use Rattle.run_traces.specs.declared.traces.DueTrace.{DueTrace as Asked};
 ghost use Rattle.run_traces.specs.declared.traces.LineTrace.TheVariants.{Ticked};
@@ -20,7 +21,7 @@ use line_runs::{LineRan, due_heading, refuse_tick, run_query};
 use mon_script::{LineForm, StandingLine};
 use mon_store::{Pass, Store};
 use mon_value::{ListOf, OutOfMemory, Refusal, Text};
-use run_traces::{DueEnd, DueTrace, LineTrace, runs_go_on, texts_stay};
+use run_traces::{DueEnd, DueTrace, LineFiles, LineTrace, runs_go_on, texts_stay};
 use standing::{Due, Dues, Standing};
 use std::alloc::{AllocError, Global};
 use std::sync::Wait;
@@ -34,7 +35,7 @@ pub(crate) fn tick<N: Names, R: Wait>(
     p: &mut Pass<N>,
     standing: &mut Standing,
     moment: i64,
-    content: &[u8],
+    content: &LineFiles,
 ) -> Result<LineRan, OutOfMemory>
     requires moment { pos 0 ≤ℤ moment }
     requires every { HasEveryNumber p.old.purse }
@@ -137,7 +138,7 @@ fn query_due<N: Names, R: Wait>(
     requires moment { HasMoment due.now }
     requires every { HasEveryNumber p.old.purse }
     ensures tells { IfOk result (λ ran. PartTells store.now
-        (Alone (ran_line (query_form due.now.at due.now.text) [] ran.trace)) (ran.text ∷ []) p.old p.new) }
+        (Alone (ran_line (query_form due.now.at due.now.text) no_files ran.trace)) (ran.text ∷ []) p.old p.new) }
     ensures answered { IfOk result (λ ran. IsAnswered due.now.at ran.trace) }
     ensures stock { OnOk result (p.new.purse.stock ≡ p.old.purse.stock) }
     ensures fronts { AreFronts p.old.seen p.new.seen }
@@ -199,6 +200,7 @@ fn due_trace(due: Due, trace: LineTrace) -> DueTrace
             end: DueEnd::Refused(fault),
         },
         LineTrace::Fed { .. } => unreachable!(),
+        LineTrace::Poured { .. } => unreachable!(),
         LineTrace::Ticked(_) => unreachable!(),
         LineTrace::Controlled(_) => unreachable!(),
         LineTrace::Done => unreachable!(),

@@ -21,12 +21,13 @@ use Rattle.mon_value.specs.Same.{same_text}
 use Rattle.mon_run.specs.Plans.{Came, Command, block_steps, came, command, command_of, command_plan, config_plan, file_plan}
 use Rattle.mon_run.specs.Plans.{forms_of, left_plan, lines_by, lines_read, made_number, named_read, next_forms}
 use Rattle.mon_run.specs.Plans.{number_plan, part_plan, parts_plan, reads_behind, run_plan, schedule_end, schedule_plan}
-use Rattle.mon_run.specs.Plans.{script_plan, seek, sought, store_plan, verb_named}
+use Rattle.mon_run.specs.Plans.{one_read as named_one, script_plan, seek_one, sought, store_plan, verb_named}
 use Rattle.mon_run.specs.Steps.{Ask, End, Miss, Plan, Print, Step, Write, ending, is_too_long, plan_behind}
 use Rattle.mon_run.specs.Steps.{read_plan, read_text, too_long_text}
 use Rattle.mon_run.specs.declared.outside.folder.Asked.{Asked}
 use Rattle.run_theory.specs.Parts.{Alone, Beside, Part}
-use Rattle.run_traces.specs.LineAsks.{file_of}
+use Rattle.run_traces.specs.LineAsks.{FileNames, files_of}
+use Rattle.run_traces.specs.declared.line_files.LineFiles.{LineFiles}
 use Rattle.run_traces.specs.LineDues.{is_refused, lines_status}
 use Rattle.run_traces.specs.LineTexts.{line_text}
 use Rattle.run_traces.specs.RanLines.{RanLine, parts_of}
@@ -75,20 +76,26 @@ read_by false name content rest long ends = behind (Ask name content ∷ []) res
 one_read : (name content : List ℕ) (rest : Plan) → Ends rest → Ends (read_plan name content rest)
 one_read name content rest ends = read_by (is_too_long content) name content rest refl ends
 
-one_named : (name : Option (List ℕ)) (content : List ℕ) (rest : Plan) → Ends rest → Ends (named_read name content rest)
+one_named : (name : Option (List ℕ)) (content : List ℕ) (rest : Plan) → Ends rest
+    → Ends (named_one name content rest)
 one_named None content rest ends = ends
 one_named (Some name) content rest ends = one_read name content rest ends
 
-all_read : (forms : List LineForm) (contents : List (List ℕ)) (rest : Plan) → Ends rest
+both_named : (names : FileNames) (content : LineFiles) (rest : Plan) → Ends rest → Ends (named_read names content rest)
+both_named names content rest ends =
+    one_named names.first content.first (named_one names.second content.second rest)
+    (one_named names.second content.second rest ends)
+
+all_read : (forms : List LineForm) (contents : List LineFiles) (rest : Plan) → Ends rest
     → Ends (lines_read forms contents rest)
 all_read [] contents rest ends = ends
 all_read (what ∷ forms) [] rest ends = ends
 all_read (what ∷ forms) (content ∷ contents) rest ends =
-    one_named (file_of what) content (lines_read forms contents rest) (all_read forms contents rest ends)
+    both_named (files_of what) content (lines_read forms contents rest) (all_read forms contents rest ends)
 
 one_part : (text : RanLine → List ℕ) (part : Part RanLine) (rest : Plan) → Ends rest → Ends (part_plan text part rest)
 one_part text (Alone line) rest ends =
-    one_named (file_of line.what) line.content (plan_behind (End line.trace ∷ Print (text line) ∷ []) rest)
+    both_named (files_of line.what) line.content (plan_behind (End line.trace ∷ Print (text line) ∷ []) rest)
     (behind (End line.trace ∷ Print (text line) ∷ []) rest ends)
 one_part text (Beside lines) rest ends =
     all_read (map (λ line. line.what) lines) (map (λ line. line.content) lines)
@@ -101,14 +108,16 @@ all_parts text (part ∷ parts) rest ends =
     one_part text part (parts_plan text parts rest) (all_parts text parts rest ends)
 
 one_sought : (name : Option (List ℕ)) (reads : Files) (rest : Files → Plan) → ((more : Files) → Ends (rest more))
-    → Ends (seek name reads rest)
+    → Ends (seek_one name reads rest)
 one_sought None reads rest ends = ends reads
 one_sought (Some name) [] rest ends = inl refl
 one_sought (Some name) (read ∷ reads) rest ends = one_read name read.1 (rest reads) (ends reads)
 
 all_sought : (forms : List LineForm) (reads : Files) → Ends (sought forms reads)
 all_sought [] reads = inl refl
-all_sought (what ∷ forms) reads = one_sought (file_of what) reads (sought forms) (all_sought forms)
+all_sought (what ∷ forms) reads =
+    one_sought (files_of what).first reads (λ left. seek_one (files_of what).second left (sought forms))
+    (λ left. one_sought (files_of what).second left (sought forms) (all_sought forms))
 
 left : (status : ℕ) (lines : List ScriptLine) (reads : Files) → is_calm status ≡ true
     → Ends (left_plan status lines reads)

@@ -36,11 +36,14 @@ use Rattle.range_cell.specs.declared.answers.WriteFault.TheVariants as unwritten
 use Rattle.run_theory.specs.InPlace as theory
 use Rattle.run_theory.specs.Parts.{RanBefore, RanBehind}
 use Rattle.run_theory.proofs.Lists.{first_place_behind, last_end_within}
-use Rattle.run_traces.specs.LineCauses.{HasCause, HasNoSource, HasNoTarget, HasNoneUp, HasRowCause, HasSwitchedEnough}
+use Rattle.run_traces.specs.LineCauses.{FileIsCaused, HasCause, HasNoSource, HasNoTarget, HasNoneUp, HasRowCause}
+use Rattle.run_traces.specs.LineCauses.{HasSwitchedEnough}
 use Rattle.run_traces.specs.LineCauses.{IsCaused, IsDenied, IsLeftWithout, IsOverLimit, IsRefusedByRange, IsUnwritten, LineIsCaused}
 use Rattle.run_traces.specs.LineCauses.{ControlCause, QuestionCause, RecoveryCause, StandingCause, SwitchCause, WasAlready}
 use Rattle.run_traces.specs.LineCauses.{RowHasCause, RowIsTaken, RowsAreTaken, RowsHaveCauses, WereMissed, fed, rows_before}
-use Rattle.run_traces.specs.LineClaims.{AllTakenFound, FoundAmid, HasFound, Makes, RowFound, RowsFound, TakenFound, marked}
+use Rattle.run_traces.specs.LineClaims.{AllTakenFound, FileFound, FoundAmid, HasFound, Makes, PourFound, RowFound}
+use Rattle.run_traces.specs.LineClaims.{RowsFound, TakenFound, marked}
+use Rattle.run_traces.specs.LineFeeds.{IsTold, PourIsTold}
 use Rattle.run_traces.specs.LineSwitches.{first_length, high, highs, is_entry_of, is_fed, is_row, is_traced, low, lows}
 use Rattle.run_traces.specs.LineAsks.{moment_of, text_of}
 use Rattle.run_traces.specs.RanLines.{RanLine}
@@ -54,9 +57,10 @@ use Rattle.run_traces.specs.declared.traces.QuestionFault.{QuestionFault}
 use Rattle.run_traces.specs.declared.traces.QuestionFault.TheVariants as unanswered
 use Rattle.run_traces.specs.declared.traces.RecoveryFault.{RecoveryFault}
 use Rattle.run_traces.specs.declared.traces.RecoveryFault.TheVariants as unopened
-use Rattle.run_traces.specs.declared.traces.RowRefusal.{RowRefusal}
-use Rattle.run_traces.specs.declared.traces.RowRefused.{RowRefused}
-use Rattle.run_traces.specs.declared.traces.RowRefused.TheVariants as refused
+use Rattle.ingest_queue.specs.declared.ends.Poured.{Poured}
+use Rattle.ingest_queue.specs.declared.refusals.RowRefusal.{RowRefusal}
+use Rattle.ingest_queue.specs.declared.refusals.RowRefused.{RowRefused}
+use Rattle.ingest_queue.specs.declared.refusals.RowRefused.TheVariants as refused
 use Rattle.run_traces.specs.declared.traces.SwitchFault.{SwitchFault}
 use Rattle.run_traces.specs.declared.traces.SwitchFault.TheVariants as unswitched
 use Rattle.standing.specs.declared.faults.StandingFault.{StandingFault}
@@ -70,6 +74,7 @@ use Rattle.write_core.specs.declared.refusals.Refused.{Refused}
 use Rattle.write_core.specs.declared.refusals.Refused.TheVariants as ranged
 use Rattle.run_traces.proofs.ListFacts.{all_as, all_at, any_at, or_either}
 use Rattle.run_traces.proofs.RunFacts.{InPlace, There, book_length, greater_by, range_length, wider}
+use Rattle.run_traces.proofs.Woven.{any_of_one, any_of_other}
 
 -- ---- lists
 
@@ -356,165 +361,193 @@ module _ (widen : (typed : TypedTree) (moment : ℤ) (from to earlier later : Le
   -- ---- records in their places
 
   module _ (ended : Histories) (seen later : List RanLine) (line : RanLine)
-      (place : InPlace config ended seen later line) (pass : ℕ)
-      (accepted : List Row) (refusals : List RowRefusal) (is : line.trace ≡ came.Fed pass accepted refusals) where
-    -- an entry of the feed stands where it ran
-    there : (h : History) (k : ℕ) (e : BookEntry) → slice_get (entries ended h) k ≡ Some e
-        → is_fed pass accepted e ≡ true → (place.from h ≤ k) × (k < place.to h)
-    there h k e at fed_is = place.ran.found.1 h k e at (ap (λ (trace : LineTrace). is_traced line.what trace h k e) is ∙ fed_is)
+      (place : InPlace config ended seen later line) (pass : ℕ) (accepted : List Row)
+      (own : (h : History) (k : ℕ) (e : BookEntry) → is_fed pass accepted e ≡ true → is_entry_of line h k e ≡ true)
+    where
+      -- an entry of what was accepted of a file stands where the line ran
+      there : (h : History) (k : ℕ) (e : BookEntry) → slice_get (entries ended h) k ≡ Some e
+          → is_fed pass accepted e ≡ true → (place.from h ≤ k) × (k < place.to h)
+      there h k e at fed_is = place.ran.found.1 h k e at (own h k e fed_is)
 
-    -- something was found behind some of its rows and before others
-    module _ (front rest : List Row)
-        (of_front : (w : Row) → list_any (is_row w) front ≡ true → list_any (is_row w) accepted ≡ true)
-        (of_rest : (w : Row) → list_any (is_row w) rest ≡ true → list_any (is_row w) accepted ≡ true)
-        (Is : Lengths → Lengths → Type 0) (found : FoundAmid config ended place.from place.to pass front rest Is) where
-      stands_before : (h : History) (k : ℕ) (e : BookEntry) → slice_get (entries ended h) k ≡ Some e
-          → list_any (λ other. is_entry_of other h k e) (seen ++ fed line pass front ∷ []) ≡ true → k < found.since h
-      stands_before h k e at any = any_split (λ (other : RanLine). is_entry_of other h k e) seen
-          (fed line pass front ∷ []) (k < found.since h) any
-          (λ some. any_at (λ (other : RanLine). is_entry_of other h k e) seen (k < found.since h) some
-          (λ j other stands its.
-          let before = all_at (RanBefore entries book_entry_pass (Makes config) (There config ended) ended
-          place.from) seen
-          j other place.before stands in
-          let p = before.ran.found.1 h k e at its in let b = before.below h in let l = found.low h in omega arith))
-          (λ own. or_either (is_fed pass front e) false (k < found.since h) own
-          (λ mine.
-          let p = there h k e at (fed_more pass front accepted of_front e mine) in
-          found.before h k (e, at, p.0, p.1, mine))
-          (λ never. absurd (false≢true never)))
+      -- something was found behind some of its rows and before others
+      module _ (front rest : List Row)
+          (of_front : (w : Row) → list_any (is_row w) front ≡ true → list_any (is_row w) accepted ≡ true)
+          (of_rest : (w : Row) → list_any (is_row w) rest ≡ true → list_any (is_row w) accepted ≡ true)
+          (Is : Lengths → Lengths → Type 0) (found : FoundAmid config ended place.from place.to pass front rest Is) where
+        stands_before : (h : History) (k : ℕ) (e : BookEntry) → slice_get (entries ended h) k ≡ Some e
+            → list_any (λ other. is_entry_of other h k e) (seen ++ fed line pass front ∷ []) ≡ true → k < found.since h
+        stands_before h k e at any = any_split (λ (other : RanLine). is_entry_of other h k e) seen
+            (fed line pass front ∷ []) (k < found.since h) any
+            (λ some. any_at (λ (other : RanLine). is_entry_of other h k e) seen (k < found.since h) some
+            (λ j other stands its.
+            let before = all_at (RanBefore entries book_entry_pass (Makes config) (There config ended) ended
+            place.from) seen
+            j other place.before stands in
+            let p = before.ran.found.1 h k e at its in let b = before.below h in let l = found.low h in omega arith))
+            (λ own. or_either (is_fed pass front e) false (k < found.since h) own
+            (λ mine.
+            let p = there h k e at (fed_more pass front accepted of_front e mine) in
+            found.before h k (e, at, p.0, p.1, mine))
+            (λ never. absurd (false≢true never)))
 
-      stands_behind : (h : History) (k : ℕ) (e : BookEntry) → slice_get (entries ended h) k ≡ Some e
-          → list_any (λ other. is_entry_of other h k e) (fed line pass rest ∷ later) ≡ true → found.until h ≤ k
-      stands_behind h k e at any = or_either (is_fed pass rest e)
-          (list_any (λ (other : RanLine). is_entry_of other h k e) later) (found.until h ≤ k) any
-          (λ mine.
-          let p = there h k e at (fed_more pass rest accepted of_rest e mine) in
-          found.behind h k (e, at, p.0, p.1, mine))
-          (λ some. any_at (λ (other : RanLine). is_entry_of other h k e) later (found.until h ≤ k) some
-          (λ j other stands its.
-          let behind = all_at (RanBehind entries book_entry_pass (Makes config) (There config ended) ended place.to)
-          later j
-          other place.behind stands in
-          let p = behind.ran.found.1 h k e at its in let b = behind.below h in let l = found.high h in omega arith))
+        stands_behind : (h : History) (k : ℕ) (e : BookEntry) → slice_get (entries ended h) k ≡ Some e
+            → list_any (λ other. is_entry_of other h k e) (fed line pass rest ∷ later) ≡ true → found.until h ≤ k
+        stands_behind h k e at any = or_either (is_fed pass rest e)
+            (list_any (λ (other : RanLine). is_entry_of other h k e) later) (found.until h ≤ k) any
+            (λ mine.
+            let p = there h k e at (fed_more pass rest accepted of_rest e mine) in
+            found.behind h k (e, at, p.0, p.1, mine))
+            (λ some. any_at (λ (other : RanLine). is_entry_of other h k e) later (found.until h ≤ k) some
+            (λ j other stands its.
+            let behind = all_at (RanBehind entries book_entry_pass (Makes config) (There config ended) ended place.to)
+            later j
+            other place.behind stands in
+            let p = behind.ran.found.1 h k e at its in let b = behind.below h in let l = found.high h in omega arith))
 
-      since_low : (h : History) → low config.topology ended (seen ++ fed line pass front ∷ []) h ≤ found.since h
-      since_low h = greater_by (first_length config.topology ended h)
-          (theory.low is_entry_of (entries ended) (seen ++ fed line pass front ∷ []) h) (found.since h)
-          (nat_le (first_length config.topology ended h)
-          (theory.low is_entry_of (entries ended) (seen ++ fed line pass front ∷ []) h))
-          (let a = place.begun h in let b = found.low h in omega arith)
-          (last_end_within (λ k e. list_any (λ other. is_entry_of other h k e) (seen ++ fed line pass front ∷ []))
-          (entries ended h) (found.since h) (stands_before h))
+        since_low : (h : History) → low config.topology ended (seen ++ fed line pass front ∷ []) h ≤ found.since h
+        since_low h = greater_by (first_length config.topology ended h)
+            (theory.low is_entry_of (entries ended) (seen ++ fed line pass front ∷ []) h) (found.since h)
+            (nat_le (first_length config.topology ended h)
+            (theory.low is_entry_of (entries ended) (seen ++ fed line pass front ∷ []) h))
+            (let a = place.begun h in let b = found.low h in omega arith)
+            (last_end_within (λ k e. list_any (λ other. is_entry_of other h k e) (seen ++ fed line pass front ∷ []))
+            (entries ended h) (found.since h) (stands_before h))
 
-      until_within : (h : History) → found.until h ≤ length (entries ended h)
-      until_within h = let a = found.high h in let b = place.within h in omega arith
+        until_within : (h : History) → found.until h ≤ length (entries ended h)
+        until_within h = let a = found.high h in let b = place.within h in omega arith
 
-      until_high : (h : History) → found.until h ≤ high config.topology ended (fed line pass rest ∷ later) h
-      until_high h = first_place_behind
-          (λ k e. list_any (λ other. is_entry_of other h k e) (fed line pass rest ∷ later)) (entries ended h)
-          (found.until h) (until_within h) (stands_behind h)
+        until_high : (h : History) → found.until h ≤ high config.topology ended (fed line pass rest ∷ later) h
+        until_high h = first_place_behind
+            (λ k e. list_any (λ other. is_entry_of other h k e) (fed line pass rest ∷ later)) (entries ended h)
+            (found.until h) (until_within h) (stands_behind h)
 
-      row_place : AreWider (marked found.since) (marked found.until)
-          (lows config.topology ended (seen ++ fed line pass front ∷ []))
-          (highs config.topology ended (fed line pass rest ∷ later)) ended ended
-      row_place = record {
-        sooner = record {
-          leaves = λ leaf. since_low (of.Leaf leaf);
-          ranges = λ range. since_low (of.Range range);
-        };
-        later = record {
-          leaves = λ leaf. until_high (of.Leaf leaf);
-          ranges = λ range. until_high (of.Range range);
-        };
-        begun = record {
-          leaves = λ leaf.
-              let a = found.forth (of.Leaf leaf) in let b = until_within (of.Leaf leaf) in
-              let e = book_length ended leaf in omega arith;
-          ranges = λ range.
-              let a = found.forth (of.Range range) in let b = until_within (of.Range range) in
-              let e = range_length ended range in omega arith;
-        };
-        within = record {
-          leaves = λ leaf. let b = until_within (of.Leaf leaf) in let e = book_length ended leaf in omega arith;
-          ranges = λ range. let b = until_within (of.Range range) in let e = range_length ended range in omega arith;
-        };
-        grown = record {
-          leaves = λ leaf. take_all (length (leaf_history ended leaf)) (leaf_history ended leaf) (omega arith);
-          ranges = λ range. take_all (length (range_history ended range)) (range_history ended range) (omega arith);
-        };
-        leaves = refl;
-        ranges = refl;
-      }
-
-    row_cause : (reads : List RowRead) (others : ℕ) (refusal : RowRefusal)
-        → RowFound config ended place.from place.to reads pass accepted others refusal
-        → RowHasCause config ended seen later line pass reads accepted others refusal
-    row_cause reads others refusal found =
-        let n = rows_before others refusal in
-        let front = take n accepted in
-        let rest = drop n accepted in
-        let amid = found.amid in
-        record {
-          read = found.read;
-          read_is = found.read_is;
-          cause = row_wider ended ended (marked amid.since) (marked amid.until)
-              (lows config.topology ended (seen ++ fed line pass front ∷ []))
-              (highs config.topology ended (fed line pass rest ∷ later))
-              (row_place front rest (λ w. any_front (is_row w) n accepted) (λ w. any_rest (is_row w) n accepted)
-              (λ since until. HasRowCause config ended since until found.read refusal.fault) amid)
-              found.read refusal.fault amid.is;
+        row_place : AreWider (marked found.since) (marked found.until)
+            (lows config.topology ended (seen ++ fed line pass front ∷ []))
+            (highs config.topology ended (fed line pass rest ∷ later)) ended ended
+        row_place = record {
+          sooner = record {
+            leaves = λ leaf. since_low (of.Leaf leaf);
+            ranges = λ range. since_low (of.Range range);
+          };
+          later = record {
+            leaves = λ leaf. until_high (of.Leaf leaf);
+            ranges = λ range. until_high (of.Range range);
+          };
+          begun = record {
+            leaves = λ leaf.
+                let a = found.forth (of.Leaf leaf) in let b = until_within (of.Leaf leaf) in
+                let e = book_length ended leaf in omega arith;
+            ranges = λ range.
+                let a = found.forth (of.Range range) in let b = until_within (of.Range range) in
+                let e = range_length ended range in omega arith;
+          };
+          within = record {
+            leaves = λ leaf. let b = until_within (of.Leaf leaf) in let e = book_length ended leaf in omega arith;
+            ranges = λ range. let b = until_within (of.Range range) in let e = range_length ended range in omega arith;
+          };
+          grown = record {
+            leaves = λ leaf. take_all (length (leaf_history ended leaf)) (leaf_history ended leaf) (omega arith);
+            ranges = λ range. take_all (length (range_history ended range)) (range_history ended range) (omega arith);
+          };
+          leaves = refl;
+          ranges = refl;
         }
 
-    row_taken : (at : ℕ) (row : Row) → TakenFound config ended place.from place.to pass accepted at row
-        → RowIsTaken config ended seen later line pass accepted at row
-    row_taken at row found =
-        let front = take at accepted in
-        let rest = drop (at + 1) accepted in
-        let amid = found.amid in
-        record {
-          range = found.range;
-          ack = found.ack;
-          told = found.told;
-          missed = all_as _ _ (λ miss is. find (marked amid.since) (marked amid.until)
-              (lows config.topology ended (seen ++ fed line pass front ∷ []))
-              (highs config.topology ended (fed line pass rest ∷ later)) ended ended
-              (record { leaf = miss.leaf; cut = miss.cut })
-              (row_place front rest (λ w. any_front (is_row w) at accepted) (λ w. any_rest (is_row w) (at + 1) accepted)
-              (λ since until. WereMissed ended since until found.ack) amid) is) found.ack.missed amid.is;
-        }
+      row_cause : (reads : List RowRead) (others : ℕ) (refusal : RowRefusal)
+          → RowFound config ended place.from place.to reads pass accepted others refusal
+          → RowHasCause config ended seen later line pass reads accepted others refusal
+      row_cause reads others refusal found =
+          let n = rows_before others refusal in
+          let front = take n accepted in
+          let rest = drop n accepted in
+          let amid = found.amid in
+          record {
+            read = found.read;
+            read_is = found.read_is;
+            cause = row_wider ended ended (marked amid.since) (marked amid.until)
+                (lows config.topology ended (seen ++ fed line pass front ∷ []))
+                (highs config.topology ended (fed line pass rest ∷ later))
+                (row_place front rest (λ w. any_front (is_row w) n accepted) (λ w. any_rest (is_row w) n accepted)
+                (λ since until. HasRowCause config ended since until found.read refusal.fault) amid)
+                found.read refusal.fault amid.is;
+          }
 
-    rows_taken : (at : ℕ) (some : List Row)
-        → AllTakenFound config ended place.from place.to pass accepted at some
-        → RowsAreTaken config ended seen later line pass accepted at some
-    rows_taken at [] found = tt
-    rows_taken at (row ∷ some) found = (row_taken at row found.0, rows_taken (at + 1) some found.1)
+      row_taken : (at : ℕ) (row : Row) → TakenFound config ended place.from place.to pass accepted at row
+          → RowIsTaken config ended seen later line pass accepted at row
+      row_taken at row found =
+          let front = take at accepted in
+          let rest = drop (at + 1) accepted in
+          let amid = found.amid in
+          record {
+            range = found.range;
+            ack = found.ack;
+            told = found.told;
+            missed = all_as _ _ (λ miss is. find (marked amid.since) (marked amid.until)
+                (lows config.topology ended (seen ++ fed line pass front ∷ []))
+                (highs config.topology ended (fed line pass rest ∷ later)) ended ended
+                (record { leaf = miss.leaf; cut = miss.cut })
+                (row_place front rest (λ w. any_front (is_row w) at accepted) (λ w. any_rest (is_row w) (at + 1) accepted)
+                (λ since until. WereMissed ended since until found.ack) amid) is) found.ack.missed amid.is;
+          }
 
-    rows_caused : (reads : List RowRead) (others : ℕ) (some : List RowRefusal)
-        → RowsFound config ended place.from place.to reads pass accepted others some
-        → RowsHaveCauses config ended seen later line pass reads accepted others some
-    rows_caused reads others [] found = tt
-    rows_caused reads others (refusal ∷ some) found =
-        (row_cause reads others refusal found.0, rows_caused reads (others + 1) some found.1)
+      rows_taken : (at : ℕ) (some : List Row)
+          → AllTakenFound config ended place.from place.to pass accepted at some
+          → RowsAreTaken config ended seen later line pass accepted at some
+      rows_taken at [] found = tt
+      rows_taken at (row ∷ some) found = (row_taken at row found.0, rows_taken (at + 1) some found.1)
+
+      rows_caused : (reads : List RowRead) (others : ℕ) (some : List RowRefusal)
+          → RowsFound config ended place.from place.to reads pass accepted others some
+          → RowsHaveCauses config ended seen later line pass reads accepted others some
+      rows_caused reads others [] found = tt
+      rows_caused reads others (refusal ∷ some) found =
+          (row_cause reads others refusal found.0, rows_caused reads (others + 1) some found.1)
+
+      pub file_caused : (content : List ℕ) (refusals : List RowRefusal)
+          → FileFound config ended place.from place.to content pass accepted refusals
+          → FileIsCaused config ended seen later line pass content accepted refusals
+      file_caused content refusals found = (
+        rows_caused (reads_of config.schemas content) 0 refusals found.refused,
+        rows_taken 0 accepted found.taken,
+      )
 
   -- ---- lines
 
   module _ (ended : Histories) (seen later : List RanLine) (line : RanLine)
       (place : InPlace config ended seen later line) where
-    caused_by : (trace : LineTrace) → line.trace ≡ trace → HasFound config ended place.from place.to place.number line trace
-        → IsCaused config ended seen later line trace
-    caused_by (came.Fed pass rows refusals) is found = (
-      rows_caused ended seen later line place pass rows refusals is (reads_of config.schemas line.content) 0 refusals
-          found.refused,
-      rows_taken ended seen later line place pass rows refusals is 0 rows found.taken,
+    -- whose an entry is, by what the line came to
+    owned : (trace : LineTrace) → line.trace ≡ trace → (h : History) (k : ℕ) (e : BookEntry)
+        → is_traced line.what trace h k e ≡ true → is_entry_of line h k e ≡ true
+    owned trace is h k e mine = ap (λ (t : LineTrace). is_traced line.what t h k e) is ∙ mine
+
+    -- of a pour, that of either file
+    poured_caused : (pass : ℕ) (ends : Poured) → line.trace ≡ came.Poured pass ends
+        → PourIsTold config line.content ends → PourFound config ended place.from place.to line.content pass ends
+        → IsCaused config ended seen later line (came.Poured pass ends)
+    poured_caused pass ends is told found = (
+      file_caused ended seen later line place pass ends.first.accepted
+          (λ h k e mine. owned (came.Poured pass ends) is h k e (fed_more pass ends.first.accepted ends.accepted
+          (λ w any. any_of_one (is_row w) told.woven any) e mine)) line.content.first ends.first.refused found.first,
+      file_caused ended seen later line place pass ends.second.accepted
+          (λ h k e mine. owned (came.Poured pass ends) is h k e (fed_more pass ends.second.accepted ends.accepted
+          (λ w any. any_of_other (is_row w) told.woven any) e mine)) line.content.second ends.second.refused
+          found.second,
     )
-    caused_by (came.Asked moment trace) is found = tt
-    caused_by (came.Controlled done) is found = tt
-    caused_by (came.Refused fault) is found = line_wider ended ended (marked place.from) (marked place.to)
+
+    caused_by : (trace : LineTrace) → line.trace ≡ trace → IsTold config line.content trace
+        → HasFound config ended place.from place.to place.number line trace
+        → IsCaused config ended seen later line trace
+    caused_by (came.Fed pass rows refusals) is told found =
+        file_caused ended seen later line place pass rows
+        (λ h k e mine. owned (came.Fed pass rows refusals) is h k e mine) line.content.first refusals found.file
+    caused_by (came.Poured pass ends) is told found = poured_caused pass ends is told found
+    caused_by (came.Asked moment trace) is told found = tt
+    caused_by (came.Controlled done) is told found = tt
+    caused_by (came.Refused fault) is told found = line_wider ended ended (marked place.from) (marked place.to)
         (lows config.topology ended seen) (highs config.topology ended later)
         (wider config ended seen later line place) line.what fault found
-    caused_by (came.Ticked dues) is found = tt
-    caused_by came.Done is found = tt
+    caused_by (came.Ticked dues) is told found = tt
+    caused_by came.Done is told found = tt
 
     pub is_caused : LineIsCaused config ended seen later line
-    is_caused = caused_by line.trace refl place.ran.found.0.found
+    is_caused = caused_by line.trace refl place.ran.found.0.told place.ran.found.0.found

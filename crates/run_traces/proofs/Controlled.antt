@@ -32,6 +32,7 @@ module _ (config : Config) (ended : Histories) (seen later : List RanLine) (line
   controlled_by : (trace : LineTrace) → HasFound config ended place.from place.to place.number line trace
       → IsControlled config ended seen later line.what trace
   controlled_by (came.Fed pass rows refused) found = tt
+  controlled_by (came.Poured pass ends) found = tt
   controlled_by (came.Asked moment trace) found = tt
   controlled_by (came.Controlled done) found = (
     place.number,

@@ -31,14 +31,15 @@ use Rattle.query_traces.specs.declared.answers.Trace.{Trace}
 use Rattle.query_texts.specs.TextTypes.{plan_type}
 use Rattle.run_theory.specs.Parts.{AreBelow, GoesOn, GrowAlong, IsWithin, Part}
 use Rattle.run_theory.proofs.Writings.{one_more}
-use Rattle.run_traces.specs.LineClaims.{AllRan, Finds, HasFound, HasRange, HasWritten, HaveGrown, IsNewIn, Makes}
+use Rattle.run_traces.specs.LineClaims.{AllRan, AreNew, FileFound, Finds, HasFound, HasRange, HasWritten, HaveGrown}
+use Rattle.run_traces.specs.LineClaims.{IsNewIn, Makes}
 use Rattle.run_traces.specs.LineCauses.{HasRowCause, WereMissed}
 use Rattle.run_traces.specs.LineClaims.{AllTakenFound, FoundAmid, RowFound, RowsFound, StandsAmong, TakenFound, marked}
 use Rattle.run_traces.specs.LineSwitches.{first_length, is_row}
 use Rattle.run_traces.specs.RanLines.{RanLine}
 use Rattle.run_traces.specs.declared.traces.LineTrace.{LineTrace}
 use Rattle.run_traces.specs.declared.traces.LineTrace.TheVariants as came
-use Rattle.run_traces.specs.declared.traces.RowRefusal.{RowRefusal}
+use Rattle.ingest_queue.specs.declared.refusals.RowRefusal.{RowRefusal}
 use Rattle.run_traces.proofs.Causes.{line_wider, row_wider, take_front}
 use Rattle.run_traces.proofs.ListFacts.{all_as}
 use Rattle.run_traces.proofs.RunFacts.{book_length, range_length}
@@ -214,6 +215,22 @@ module _ (widen : (typed : TypedTree) (moment : ℤ) (from to earlier later : Le
         rows_still reads pass accepted (others + 1) refusals found.1,
       )
 
+      all_new_still : (accepted : List Row) → AreNew config seen from to accepted → AreNew config more from to accepted
+      all_new_still accepted found = record {
+        ranged = all_as (HasRange config seen from to) (HasRange config more from to) ranged_still accepted
+            found.ranged;
+        new = λ range. all_as (IsNewIn config seen from to range) (IsNewIn config more from to range) (new_still range)
+            accepted (found.new range);
+      }
+
+      file_still : (content : List ℕ) (pass : ℕ) (accepted : List Row) (refusals : List RowRefusal)
+          → FileFound config seen from to content pass accepted refusals
+          → FileFound config more from to content pass accepted refusals
+      file_still content pass accepted refusals found = record {
+        refused = rows_still _ pass accepted 0 refusals found.refused;
+        taken = all_taken_still pass accepted 0 accepted found.taken;
+      }
+
       -- ---- lines
 
       leaf_goes_on : (leaf : Leaf) → IsPrefix (leaf_history seen leaf) (leaf_history more leaf)
@@ -222,12 +239,13 @@ module _ (widen : (typed : TypedTree) (moment : ℤ) (from to earlier later : Le
       found_still : (number : ℕ) (trace : LineTrace) → HasFound config seen from to number line trace
           → HasFound config more from to number line trace
       found_still number (came.Fed pass accepted refusals) found = record {
-        ranged = all_as (HasRange config seen from to) (HasRange config more from to) ranged_still accepted
-            found.ranged;
-        new = λ range. all_as (IsNewIn config seen from to range) (IsNewIn config more from to range) (new_still range)
-            accepted (found.new range);
-        refused = rows_still _ pass accepted 0 refusals found.refused;
-        taken = all_taken_still pass accepted 0 accepted found.taken;
+        rows = all_new_still accepted found.rows;
+        file = file_still line.content.first pass accepted refusals found.file;
+      }
+      found_still number (came.Poured pass ends) found = record {
+        rows = all_new_still ends.accepted found.rows;
+        first = file_still line.content.first pass ends.first.accepted ends.first.refused found.first;
+        second = file_still line.content.second pass ends.second.accepted ends.second.refused found.second;
       }
       found_still number (came.Asked moment trace) found = record {
         typed = found.typed;

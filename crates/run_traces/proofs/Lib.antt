@@ -12,3 +12,4 @@ pub mod RowFacts
 pub mod RunFacts
 pub mod Switched
 pub mod Whole
+pub mod Woven

@@ -24,14 +24,13 @@ use Rattle.mon_value.specs.declared.rows.Row.{Row}
 use Rattle.run_theory.specs.InPlace.{AreDistinct, AreNotFirst, AreTheirs, AreUnder}
 use Rattle.run_theory.specs.Parts.{AreBelow, Ran, between}
 use Rattle.run_theory.proofs.Stands.{between_stands, kept_stands, same_to}
-use Rattle.run_traces.specs.LineClaims.{FeedMade, Finds, HasFound, HasMade, HasRange, IsNewIn, Makes}
+use Rattle.run_traces.specs.LineClaims.{AreNew, FeedMade, Finds, HasFound, HasMade, HasRange, IsNewIn, Makes}
 use Rattle.run_traces.specs.LineFeeds.{lies_in}
 use Rattle.run_traces.specs.LineSwitches.{first_length, is_entry_of, is_fed, is_row, is_traced}
 use Rattle.run_traces.specs.RanLines.{RanLine}
 use Rattle.run_traces.specs.declared.traces.ControlDone.{ControlDone}
 use Rattle.run_traces.specs.declared.traces.LineTrace.{LineTrace}
 use Rattle.run_traces.specs.declared.traces.LineTrace.TheVariants as came
-use Rattle.run_traces.specs.declared.traces.RowRefusal.{RowRefusal}
 use Rattle.run_traces.proofs.ListFacts.{all_at, any_at, both_all, no_item}
 use Rattle.run_traces.proofs.Controls.{done_made, done_not_fed, done_place}
 use Rattle.run_traces.proofs.Switched.{IsTheirs}
@@ -64,6 +63,8 @@ module _ (config : Config) (ended : Histories)
       → is_traced line.what trace h k e ≡ true → book_entry_pass e ≡ number
   under_by from to number line h k e (came.Fed pass accepted refused) made makes found there is =
       fed_pass pass accepted e is ∙ makes.0
+  under_by from to number line h k e (came.Poured pass ends) made makes found there is =
+      fed_pass pass ends.accepted e is ∙ makes.0
   under_by from to number line h k e (came.Asked moment trace) made makes found there is = absurd (false≢true is)
   under_by from to number line h k e (came.Controlled done) made makes found there is =
       (control_place from to number line done h k e found there is).under
@@ -85,6 +86,8 @@ module _ (config : Config) (ended : Histories)
       → slice_get (made h) j ≡ Some e → is_traced line.what trace h k e ≡ true
   made_by from to number line (came.Fed pass accepted refused) made h k j e makes found exact there low high mine at =
       all_at (λ x. is_fed pass accepted x ≡ true) (made h) j e (makes.1.own h) at
+  made_by from to number line (came.Poured pass ends) made h k j e makes found exact there low high mine at =
+      all_at (λ x. is_fed pass ends.accepted x ≡ true) (made h) j e (makes.1.own h) at
   made_by from to number line (came.Asked moment trace) made h k j e makes found exact there low high mine at =
       absurd (none_made made h j e makes at)
   made_by from to number line (came.Controlled done) made h k j e makes found exact there low high mine at =
@@ -111,16 +114,15 @@ module _ (config : Config) (ended : Histories)
   module _ (a b c d : History → ℕ) (n m : ℕ) (sooner later : RanLine) (one : LineRan a b n sooner)
       (other : LineRan c d m later) (behind : AreBelow b c) where
     -- no row is one of both
-    two_rows : (pass pass' : ℕ) (rows rows' : List Row) (made : FeedMade config pass rows one.made)
-        (each : AllByRecursion (HasRange config ended a b) rows)
-        (each' : (range : Range) → AllByRecursion (IsNewIn config ended c d range) rows') (w : Row)
+    two_rows : (pass : ℕ) (rows rows' : List Row) (made : FeedMade config pass rows one.made)
+        (found : AreNew config ended a b rows) (found' : AreNew config ended c d rows') (w : Row)
         → list_any (is_row w) rows ≡ true → list_any (is_row w) rows' ≡ true → ⊥
-    two_rows pass pass' rows rows' made each each' w first second = any_at (is_row w) rows ⊥ first
+    two_rows pass rows rows' made found found' w first second = any_at (is_row w) rows ⊥ first
         (λ k row there is. any_at (is_row w) rows' ⊥ second
         (λ k' row' there' is'.
-        let ranged = all_at (HasRange config ended a b) rows k row each there in
+        let ranged = all_at (HasRange config ended a b) rows k row found.ranged there in
         let r = ranged.range in
-        let new = all_at (IsNewIn config ended c d r) rows' k' row' (each' r) there' in
+        let new = all_at (IsNewIn config ended c d r) rows' k' row' (found'.new r) there' in
         let same : is_row row' row ≡ true = row_joined w row' row is' is in
         let lies : lies_in config r row' ≡ true = lies_as config r row' row (row_key row' row same) ∙ ranged.lies in
         let none = rows_before config ended a b n pass rows one.made made one.exact
@@ -129,55 +131,57 @@ module _ (config : Config) (ended : Histories)
         false≢true (sym (all_at (λ (old : Row). is_row row' old ≡ false) (filter (lies_in config r) rows) kept.0 row
         none kept.1) ∙ same)))
 
-    two_feeds : (pass pass' : ℕ) (rows rows' : List Row) (refused refused' : List RowRefusal) (e : BookEntry)
-        → HasMade config n sooner.what (came.Fed pass rows refused) one.made
-        → HasFound config ended a b n sooner (came.Fed pass rows refused)
-        → HasFound config ended c d m later (came.Fed pass' rows' refused') → is_fed pass rows e ≡ true
+    -- and no entry
+    two_feeds : (pass pass' : ℕ) (rows rows' : List Row) (e : BookEntry) → FeedMade config pass rows one.made
+        → AreNew config ended a b rows → AreNew config ended c d rows' → is_fed pass rows e ≡ true
         → is_fed pass' rows' e ≡ true → ⊥
-    two_feeds pass pass' rows rows' refused refused' e makes found found' is is' = fed_row pass rows ⊥ e is
-        (λ w first more. two_rows pass pass' rows rows' makes.1 found.ranged found'.new w first (more pass' rows' is'))
+    two_feeds pass pass' rows rows' e makes found found' is is' = fed_row pass rows ⊥ e is
+        (λ w first more. two_rows pass rows rows' makes found found' w first (more pass' rows' is'))
 
-    -- what the sooner one made is none of the later feed's
-    made_sooner : (trace : LineTrace) (pass : ℕ) (rows : List Row) (refused : List RowRefusal) (h : History) (j : ℕ)
-        (e : BookEntry) → HasMade config n sooner.what trace one.made → HasFound config ended a b n sooner trace
-        → HasFound config ended c d m later (came.Fed pass rows refused) → slice_get (one.made h) j ≡ Some e
-        → is_fed pass rows e ≡ true → ⊥
-    made_sooner (came.Fed pass' rows' refused') pass rows refused h j e makes found found' at is =
-        two_feeds pass' pass rows' rows refused' refused e makes found found'
+    -- what the sooner one made is none of what the later one accepted
+    made_sooner : (trace : LineTrace) (pass : ℕ) (rows : List Row) (h : History) (j : ℕ) (e : BookEntry)
+        → HasMade config n sooner.what trace one.made → HasFound config ended a b n sooner trace
+        → AreNew config ended c d rows → slice_get (one.made h) j ≡ Some e → is_fed pass rows e ≡ true → ⊥
+    made_sooner (came.Fed pass' rows' refused') pass rows h j e makes found found' at is =
+        two_feeds pass' pass rows' rows e makes.1 found.rows found'
         (all_at (λ x. is_fed pass' rows' x ≡ true) (one.made h) j e (makes.1.own h) at) is
-    made_sooner (came.Asked moment trace) pass rows refused h j e makes found found' at is =
-        none_made one.made h j e makes at
-    made_sooner (came.Controlled done) pass rows refused h j e makes found found' at is =
+    made_sooner (came.Poured pass' ends) pass rows h j e makes found found' at is =
+        two_feeds pass' pass ends.accepted rows e makes.1 found.rows found'
+        (all_at (λ x. is_fed pass' ends.accepted x ≡ true) (one.made h) j e (makes.1.own h) at) is
+    made_sooner (came.Asked moment trace) pass rows h j e makes found found' at is = none_made one.made h j e makes at
+    made_sooner (came.Controlled done) pass rows h j e makes found found' at is =
         done_not_fed config pass rows sooner.what done h j e one.made makes at is
-    made_sooner (came.Refused why) pass rows refused h j e makes found found' at is =
-        none_made one.made h j e makes at
-    made_sooner (came.Ticked dues) pass rows refused h j e makes found found' at is = none_made one.made h j e makes at
-    made_sooner came.Done pass rows refused h j e makes found found' at is = none_made one.made h j e makes at
+    made_sooner (came.Refused why) pass rows h j e makes found found' at is = none_made one.made h j e makes at
+    made_sooner (came.Ticked dues) pass rows h j e makes found found' at is = none_made one.made h j e makes at
+    made_sooner came.Done pass rows h j e makes found found' at is = none_made one.made h j e makes at
 
-    -- and what the later one made is none of the sooner feed's
-    made_later : (trace : LineTrace) (pass : ℕ) (rows : List Row) (refused : List RowRefusal) (h : History) (j : ℕ)
-        (e : BookEntry) → HasMade config m later.what trace other.made → HasFound config ended c d m later trace
-        → HasMade config n sooner.what (came.Fed pass rows refused) one.made
-        → HasFound config ended a b n sooner (came.Fed pass rows refused) → slice_get (other.made h) j ≡ Some e
+    -- and what the later one made is none of what the sooner one accepted
+    made_later : (trace : LineTrace) (pass : ℕ) (rows : List Row) (h : History) (j : ℕ) (e : BookEntry)
+        → HasMade config m later.what trace other.made → HasFound config ended c d m later trace
+        → FeedMade config pass rows one.made → AreNew config ended a b rows → slice_get (other.made h) j ≡ Some e
         → is_fed pass rows e ≡ true → ⊥
-    made_later (came.Fed pass' rows' refused') pass rows refused h j e makes found makes' found' at is =
-        two_feeds pass pass' rows rows' refused refused' e makes' found' found is
+    made_later (came.Fed pass' rows' refused') pass rows h j e makes found makes' found' at is =
+        two_feeds pass pass' rows rows' e makes' found' found.rows is
         (all_at (λ x. is_fed pass' rows' x ≡ true) (other.made h) j e (makes.1.own h) at)
-    made_later (came.Asked moment trace) pass rows refused h j e makes found makes' found' at is =
+    made_later (came.Poured pass' ends) pass rows h j e makes found makes' found' at is =
+        two_feeds pass pass' rows ends.accepted e makes' found' found.rows is
+        (all_at (λ x. is_fed pass' ends.accepted x ≡ true) (other.made h) j e (makes.1.own h) at)
+    made_later (came.Asked moment trace) pass rows h j e makes found makes' found' at is =
         none_made other.made h j e makes at
-    made_later (came.Controlled done) pass rows refused h j e makes found makes' found' at is =
+    made_later (came.Controlled done) pass rows h j e makes found makes' found' at is =
         done_not_fed config pass rows later.what done h j e other.made makes at is
-    made_later (came.Refused why) pass rows refused h j e makes found makes' found' at is =
-        none_made other.made h j e makes at
-    made_later (came.Ticked dues) pass rows refused h j e makes found makes' found' at is = none_made other.made h j e makes at
-    made_later came.Done pass rows refused h j e makes found makes' found' at is = none_made other.made h j e makes at
+    made_later (came.Refused why) pass rows h j e makes found makes' found' at is = none_made other.made h j e makes at
+    made_later (came.Ticked dues) pass rows h j e makes found makes' found' at is = none_made other.made h j e makes at
+    made_later came.Done pass rows h j e makes found makes' found' at is = none_made other.made h j e makes at
 
     -- nothing that the sooner one made where it ran is the later one's
     not_later : (trace : LineTrace) (h : History) (j k : ℕ) (e : BookEntry) → HasFound config ended c d m later trace
         → slice_get (entries ended h) k ≡ Some e → slice_get (one.made h) j ≡ Some e → k < b h
         → is_traced later.what trace h k e ≡ true → ⊥
     not_later (came.Fed pass rows refused) h j k e found there at less is =
-        made_sooner sooner.trace pass rows refused h j e one.makes one.found.found found at is
+        made_sooner sooner.trace pass rows h j e one.makes one.found.found found.rows at is
+    not_later (came.Poured pass ends) h j k e found there at less is =
+        made_sooner sooner.trace pass ends.accepted h j e one.makes one.found.found found.rows at is
     not_later (came.Asked moment trace) h j k e found there at less is = false≢true is
     not_later (came.Controlled done) h j k e found there at less is =
         let theirs = control_place c d m later done h k e found there is in
@@ -192,7 +196,9 @@ module _ (config : Config) (ended : Histories)
         → slice_get (entries ended h) k ≡ Some e → slice_get (other.made h) j ≡ Some e → c h ≤ k
         → is_traced sooner.what trace h k e ≡ true → ⊥
     not_sooner (came.Fed pass rows refused) h j k e makes found there at more is =
-        made_later later.trace pass rows refused h j e other.makes other.found.found makes found at is
+        made_later later.trace pass rows h j e other.makes other.found.found makes.1 found.rows at is
+    not_sooner (came.Poured pass ends) h j k e makes found there at more is =
+        made_later later.trace pass ends.accepted h j e other.makes other.found.found makes.1 found.rows at is
     not_sooner (came.Asked moment trace) h j k e makes found there at more is = false≢true is
     not_sooner (came.Controlled done) h j k e makes found there at more is =
         let theirs = control_place a b n sooner done h k e found there is in
@@ -293,6 +299,11 @@ module _ (config : Config) (ended : Histories) (begun : AreFronts (first_histori
       let opens = in_front IsOpening (entries (first_histories config.topology) h) p.0 k e
       (firsts_open config.topology h) (ap (λ w. slice_get w k) p.1 ∙ there) less in
       false≢true (sym (opens pass rows) ∙ is)
+  not_first from to number line (came.Poured pass ends) h k e found low there less is =
+      let p = begins config.topology ended h begun in
+      let opens = in_front IsOpening (entries (first_histories config.topology) h) p.0 k e
+      (firsts_open config.topology h) (ap (λ w. slice_get w k) p.1 ∙ there) less in
+      false≢true (sym (opens pass ends.accepted) ∙ is)
   not_first from to number line (came.Asked moment trace) h k e found low there less is = false≢true is
   not_first from to number line (came.Controlled done) h k e found low there less is =
       let theirs = control_place config ended whole fronts held from to number line done h k e found there is in

@@ -1,5 +1,5 @@
 -- Each put of a line is of a row that is acknowledged, as one that the put's slot took.
-use Rattle.std.proofs.Common.{◌≡◌, ◌∙◌, ℕ, nat_eq, true, List, take, drop, slice_get, Some, refl, ap, subst, sym}
+use Rattle.std.proofs.Common.{◌≡◌, ◌∙◌, ℕ, nat_eq, true, List, take, drop, slice_get, Some, ap, subst, sym}
 use Rattle.std.specs.Prelude.{Contains}
 use Rattle.std.proofs.lemmas.Bool.{false≢true}
 use Rattle.std.proofs.lemmas.List.{take-append-drop}
@@ -13,11 +13,12 @@ use Rattle.mon_config.specs.declared.config.Config.{Config}
 use Rattle.mon_value.specs.declared.histories.Entry.TheVariants as entry
 use Rattle.mon_value.specs.declared.histories.Histories.{Histories}
 use Rattle.mon_value.specs.declared.histories.RangeEntry.TheVariants as range_entry
+use Rattle.mon_value.specs.declared.rows.Row.{Row}
 use Rattle.run_theory.specs.Parts.{between}
 use Rattle.run_theory.proofs.Stands.{between_stands, kept_stands, same_to}
-use Rattle.run_traces.specs.LineClaims.{HasMade}
+use Rattle.run_traces.specs.LineClaims.{FeedMade, HasMade}
 use Rattle.run_traces.specs.LineFeeds.{HasItsAck, LineIsPaired}
-use Rattle.run_traces.specs.LineSwitches.{is_traced}
+use Rattle.run_traces.specs.LineSwitches.{is_entry_of, is_fed, is_traced}
 use Rattle.run_traces.specs.RanLines.{RanLine}
 use Rattle.run_traces.specs.declared.traces.LineTrace.{LineTrace}
 use Rattle.run_traces.specs.declared.traces.LineTrace.TheVariants as came
@@ -61,25 +62,33 @@ module _ (config : Config) (ended : Histories) (seen later : List RanLine) (line
       (subst (λ (xs : List BookEntry). Contains xs e) (take-append-drop from (take to all))
       (Contains-append_right (take from (take to all)) (between from to all) e some)))
 
-  paired_by : (h : History) (k : ℕ) (e : BookEntry) → slice_get (entries ended h) k ≡ Some e → (trace : LineTrace)
-      → line.trace ≡ trace → HasMade config place.number line.what trace made
-      → is_traced line.what trace h k e ≡ true → HasItsAck (entries ended) e
-  paired_by h k e there (came.Fed pass accepted refused) same makes mine =
-      let within = place.ran.found.1 h k e there
-      (ap (λ (trace : LineTrace). is_traced line.what trace h k e) same ∙ mine) in
+  -- an entry of the rows that it accepted
+  fed_paired : (h : History) (k : ℕ) (e : BookEntry) → slice_get (entries ended h) k ≡ Some e
+      → is_entry_of line h k e ≡ true → (pass : ℕ) (accepted : List Row) → pass ≡ place.number
+      → FeedMade config pass accepted made → is_fed pass accepted e ≡ true → HasItsAck (entries ended) e
+  fed_paired h k e there own pass accepted number makes mine =
+      let within = place.ran.found.1 h k e there own in
       let at = between_stands (place.from h) (place.to h) (entries ended h) k e there within.0 within.1 in
       let kept = kept_stands (λ x. nat_eq (book_entry_pass x) place.number)
       (between (place.from h) (place.to h) (entries ended h)) at.0 e at.1
-      (same_to (book_entry_pass e) place.number (fed_pass pass accepted e mine ∙ makes.0)) in
+      (same_to (book_entry_pass e) place.number (fed_pass pass accepted e mine ∙ number)) in
       among_all made (entries ended) of_all e
-      (all_at (HasItsAck made) (made h) kept.0 e (makes.1.paired h)
+      (all_at (HasItsAck made) (made h) kept.0 e (makes.paired h)
       (ap (λ (xs : List BookEntry). slice_get xs kept.0) (sym (place.ran.exact h)) ∙ kept.1))
-  paired_by h k e there (came.Asked moment trace) same makes mine = absurd (false≢true mine)
-  paired_by h k e there (came.Ticked dues) same makes mine = absurd (false≢true mine)
-  paired_by h k e there (came.Controlled done) same makes mine =
+
+  paired_by : (h : History) (k : ℕ) (e : BookEntry) → slice_get (entries ended h) k ≡ Some e
+      → is_entry_of line h k e ≡ true → (trace : LineTrace) → HasMade config place.number line.what trace made
+      → is_traced line.what trace h k e ≡ true → HasItsAck (entries ended) e
+  paired_by h k e there own (came.Fed pass accepted refused) makes mine =
+      fed_paired h k e there own pass accepted makes.0 makes.1 mine
+  paired_by h k e there own (came.Poured pass ends) makes mine =
+      fed_paired h k e there own pass ends.accepted makes.0 makes.1 mine
+  paired_by h k e there own (came.Asked moment trace) makes mine = absurd (false≢true mine)
+  paired_by h k e there own (came.Ticked dues) makes mine = absurd (false≢true mine)
+  paired_by h k e there own (came.Controlled done) makes mine =
       done_paired line.what done (entries ended) h k e mine
-  paired_by h k e there (came.Refused why) same makes mine = absurd (false≢true mine)
-  paired_by h k e there came.Done same makes mine = absurd (false≢true mine)
+  paired_by h k e there own (came.Refused why) makes mine = absurd (false≢true mine)
+  paired_by h k e there own came.Done makes mine = absurd (false≢true mine)
 
   pub is_paired : LineIsPaired ended seen later line
-  is_paired h k e there mine = paired_by h k e there line.trace refl place.ran.makes mine
+  is_paired h k e there mine = paired_by h k e there mine line.trace place.ran.makes mine

@@ -32,16 +32,18 @@ use Rattle.query_texts.specs.declared.faults.TextFault.{TextFault}
 use Rattle.run_theory.specs.Parts.{AreBelow, IsWithin}
 use Rattle.run_theory.proofs.Callers.{none_between, none_passes}
 use Rattle.run_traces.specs.LineCauses.{HasRowCause, WereMissed}
-use Rattle.run_traces.specs.LineClaims.{AllTakenFound, Finds, FoundAmid, HasFound, HaveGrown, Makes, RowsFound}
+use Rattle.run_traces.specs.LineClaims.{AllTakenFound, AreNew, FileFound, Finds, FoundAmid, HasFound, HaveGrown, Makes}
+use Rattle.run_traces.specs.LineClaims.{RowsFound}
 use Rattle.run_traces.specs.LineClaims.{StandsAmong}
 use Rattle.run_traces.specs.LineClaims.{marked}
 use Rattle.run_traces.specs.LineAsks.{text_of}
 use Rattle.run_traces.specs.LineTables.{cuts_named}
 use Rattle.run_traces.specs.LineTexts.{asked_text, explanation, line_text, shown_text, typed_text}
 use Rattle.run_traces.specs.RanLines.{RanLine}
+use Rattle.run_traces.specs.declared.line_files.LineFiles.{LineFiles}
 use Rattle.run_traces.specs.declared.traces.LineTrace.{LineTrace}
 use Rattle.run_traces.specs.declared.traces.LineTrace.TheVariants as came
-use Rattle.run_traces.specs.declared.traces.RowRefusal.{RowRefusal}
+use Rattle.ingest_queue.specs.declared.refusals.RowRefusal.{RowRefusal}
 use Rattle.mon_script.specs.declared.forms.LineForm.{LineForm}
 use Rattle.mon_script.specs.declared.forms.LineForm.TheVariants as form
 use Rattle.mon_script.specs.declared.questions.How.{How}
@@ -181,6 +183,21 @@ module _ (widen : (typed : TypedTree) (moment : ℤ) (from to earlier later : Le
       all_taken_raised pass accepted (place + 1) some none found.1,
     )
 
+    all_new_raised : (accepted : List Row) → AreNew config more from to accepted → AreNew config more from later accepted
+    all_new_raised accepted found = record {
+      ranged = all_as _ _ (λ row ranged. record { range = ranged.range; there = ranged.there; lies = ranged.lies })
+          accepted found.ranged;
+      new = λ range. all_as _ _ (λ row new. new) accepted (found.new range);
+    }
+
+    file_raised : (content : List ℕ) (pass : ℕ) (accepted : List Row) (refusals : List RowRefusal) → HasNoneUnder pass
+        → FileFound config more from to content pass accepted refusals
+        → FileFound config more from later content pass accepted refusals
+    file_raised content pass accepted refusals none found = record {
+      refused = rows_raised _ pass accepted 0 refusals none found.refused;
+      taken = all_taken_raised pass accepted 0 accepted none found.taken;
+    }
+
     leaf_itself : (leaf : Leaf) → IsPrefix (leaf_history more leaf) (leaf_history more leaf)
     leaf_itself leaf = ([], append-nil (leaf_history more leaf))
 
@@ -191,11 +208,15 @@ module _ (widen : (typed : TypedTree) (moment : ℤ) (from to earlier later : Le
         → Makes config number (record { what = line.what; content = line.content; trace = trace }) made
         → HasFound config more from to number line trace → HasFound config more from later number line trace
     found_raised number made (came.Fed pass accepted refusals) none makes found = record {
-      ranged = all_as _ _ (λ row ranged. record { range = ranged.range; there = ranged.there; lies = ranged.lies })
-          accepted found.ranged;
-      new = λ range. all_as _ _ (λ row new. new) accepted (found.new range);
-      refused = rows_raised _ pass accepted 0 refusals (subst HasNoneUnder (sym makes.0) none) found.refused;
-      taken = all_taken_raised pass accepted 0 accepted (subst HasNoneUnder (sym makes.0) none) found.taken;
+      rows = all_new_raised accepted found.rows;
+      file = file_raised line.content.first pass accepted refusals (subst HasNoneUnder (sym makes.0) none) found.file;
+    }
+    found_raised number made (came.Poured pass ends) none makes found = record {
+      rows = all_new_raised ends.accepted found.rows;
+      first = file_raised line.content.first pass ends.first.accepted ends.first.refused
+          (subst HasNoneUnder (sym makes.0) none) found.first;
+      second = file_raised line.content.second pass ends.second.accepted ends.second.refused
+          (subst HasNoneUnder (sym makes.0) none) found.second;
     }
     found_raised number made (came.Asked moment trace) none makes found = record {
       typed = found.typed;
@@ -279,6 +300,7 @@ module _ (widen : (typed : TypedTree) (moment : ℤ) (from to earlier later : Le
         → source_of more trace ≡ source_of seen trace
         → typed_text config more what moment trace typed ≡ typed_text config seen what moment trace typed
     typed_same (form.Feed name) moment trace typed e = refl
+    typed_same (form.Pour first second) moment trace typed e = refl
     typed_same (form.Ask asked) moment trace typed e = shown_same asked.how moment trace typed e
     typed_same (form.Control what) moment trace typed e = refl
     typed_same (form.Standing what) moment trace typed e = refl
@@ -312,12 +334,13 @@ module _ (widen : (typed : TypedTree) (moment : ℤ) (from to earlier later : Le
       ranges = grown.ranges;
     }
 
-    text_same : (from to : History → ℕ) (number : ℕ) (what : LineForm) (content : List ℕ) (trace : LineTrace)
+    text_same : (from to : History → ℕ) (number : ℕ) (what : LineForm) (content : LineFiles) (trace : LineTrace)
         → AreBelow from to → IsWithin entries to seen
         → HasFound config seen from to number (record { what = what; content = content; trace = trace }) trace
         → line_text config more (record { what = what; content = content; trace = trace })
         ≡ line_text config seen (record { what = what; content = content; trace = trace })
     text_same from to number what content (came.Fed pass accepted refusals) forth within found = refl
+    text_same from to number what content (came.Poured pass ends) forth within found = refl
     text_same from to number what content (came.Asked moment trace) forth within found =
         asked_same what moment trace (text_type config.schemas (text_of what))
         (rows found.typed moment (marked from) (marked to) (marked from) (marked to) seen more trace

@@ -24,7 +24,7 @@ use Rattle.run_theory.specs.InPlace.{FoundThere, RanInPlace}
 use Rattle.run_theory.specs.InPlace as theory
 use Rattle.run_theory.specs.Parts.{RanBefore, Each, Part, all_lines, lines_of}
 use Rattle.run_traces.specs.LineAsks.{text_of}
-use Rattle.run_traces.specs.LineClaims.{Finds, HasFound, HasMade, HasRange, Makes, marked}
+use Rattle.run_traces.specs.LineClaims.{AreNew, FeedMade, Finds, HasFound, HasMade, HasRange, Makes, marked}
 use Rattle.run_traces.specs.LineFeeds.{lies_in}
 use Rattle.run_traces.specs.LineTables.{CutsRise, HoldsRows, LineIsFresh, cuts_named, IsRead, LineIsRead, IsTabled}
 use Rattle.run_traces.specs.LineTables.{LineIsPlaced, LineIsTabled}
@@ -138,17 +138,25 @@ module _ (config : Config) (ended : Histories) where
     module _ (P : Row → Type 0)
         (fresh : (range : Range) → range.0 < length ended.ranges → AllByRecursion P
         (acknowledged_rows (take (place.from (of.Range range)) (range_history ended range)))) where
-      rows_by : (other : RanLine) (trace : LineTrace)
+      -- of those that a feed or a pour accepted
+      fed_by : (other : RanLine) (pass : ℕ) (rows : List Row)
           (before : RanBefore entries book_entry_pass (Makes config) There ended place.from other)
-          → HasMade config before.number other.what trace before.ran.made
-          → HasFound config ended before.from before.to before.number other trace → AllByRecursion P (trace_rows trace)
-      rows_by other (came.Fed pass rows refused) before makes found =
+          → FeedMade config pass rows before.ran.made → AreNew config ended before.from before.to rows
+          → AllByRecursion P rows
+      fed_by other pass rows before makes found =
           all_by_tests P (lies_in config) (λ range. range.0 < length ended.ranges) rows
           (all_as (HasRange config ended before.from before.to)
           (λ row. (range : Range) × (range.0 < length ended.ranges) × (lies_in config range row ≡ true))
           (λ row ranged. (ranged.range, ranged.there, ranged.lies)) rows found.ranged)
-          (λ range there. rows_before config ended before.from before.to before.number pass rows before.ran.made makes.1
+          (λ range there. rows_before config ended before.from before.to before.number pass rows before.ran.made makes
           before.ran.exact P range (place.from (of.Range range)) (before.below (of.Range range)) (fresh range there))
+
+      rows_by : (other : RanLine) (trace : LineTrace)
+          (before : RanBefore entries book_entry_pass (Makes config) There ended place.from other)
+          → HasMade config before.number other.what trace before.ran.made
+          → HasFound config ended before.from before.to before.number other trace → AllByRecursion P (trace_rows trace)
+      rows_by other (came.Fed pass rows refused) before makes found = fed_by other pass rows before makes.1 found.rows
+      rows_by other (came.Poured pass ends) before makes found = fed_by other pass ends.accepted before makes.1 found.rows
       rows_by other (came.Asked moment trace) before makes found = tt
       rows_by other (came.Controlled done) before makes found = tt
       rows_by other (came.Refused fault) before makes found = tt
@@ -163,6 +171,7 @@ module _ (config : Config) (ended : Histories) where
     holds_rows : (trace : LineTrace) → HasFound config ended place.from place.to place.number line trace
         → HoldsRows ended seen trace
     holds_rows (came.Fed pass rows refused) found = tt
+    holds_rows (came.Poured pass ends) found = tt
     holds_rows (came.Asked moment trace) found = rows_of (Contains (source_of ended trace)) found.fresh.rows
     holds_rows (came.Controlled done) found = tt
     holds_rows (came.Refused fault) found = tt
@@ -193,6 +202,7 @@ module _ (config : Config) (ended : Histories) where
     read_by : (trace : LineTrace) → HasFound config ended place.from place.to place.number line trace
         → IsRead config ended (text_of line.what) trace
     read_by (came.Fed pass rows refused) found = tt
+    read_by (came.Poured pass ends) found = tt
     read_by (came.Asked moment trace) found = found.read
     read_by (came.Controlled done) found = tt
     read_by (came.Refused fault) found = tt
@@ -213,6 +223,7 @@ module _ (config : Config) (ended : Histories) where
       tabled_by : (trace : LineTrace) → HasFound config ended place.from place.to place.number line trace
           → IsTabled config ended seen later (text_of line.what) trace
       tabled_by (came.Fed pass rows refused) found = tt
+      tabled_by (came.Poured pass ends) found = tt
       tabled_by (came.Asked moment trace) found = record {
         typed = found.typed;
         type_is = found.type_is;

@@ -11,6 +11,7 @@ use Rattle.run_traces.specs.LineFeeds.{AreAcknowledged, AreOfLines, LineIsPaired
 use Rattle.run_traces.specs.LineForms.{LineSuits}
 use Rattle.run_traces.specs.LineTables.{LineIsFresh, LineIsPlaced, LineIsRead, LineIsTabled}
 use Rattle.run_traces.specs.RanLines.{RanLine, parts_of, ran_lines}
+use Rattle.run_traces.specs.declared.line_files.LineFiles.{LineFiles}
 use Rattle.run_traces.specs.declared.traces.LineTrace.{LineTrace}
 use Rattle.mon_script.specs.declared.script.ScriptLine.{ScriptLine}
 use Rattle.standing.specs.DueLists.{standing_state}
@@ -34,9 +35,9 @@ pub record RunHolds (config : Config) (ended : Histories) (parts : List (Part Ra
   pub controls : Each (LineIsControlled config ended) [] parts
   pub stands : Each (LineStands config ended) [] parts
 
--- All this holds of a script whose lines came to these traces, where the file of each line held this, and where each tick
+-- All this holds of a script whose lines came to these traces, where the files of each line held this, and where each tick
 -- counts as the queries that it asked, one after another; and these are just those that were due
-pub record ScriptHolds (config : Config) (contents : List (List ℕ)) (ended : Histories) (script : List ScriptLine)
+pub record ScriptHolds (config : Config) (contents : List LineFiles) (ended : Histories) (script : List ScriptLine)
     (traces : List LineTrace) : Type 0 where
   pub run : RunHolds config ended (asked_parts (parts_of (ran_lines script contents traces)))
   pub dues : AreDue config.schemas (standing_state [] None) script traces

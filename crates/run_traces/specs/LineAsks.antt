@@ -21,12 +21,20 @@ pub record Recovery : Type 0 where
   pub range : Range
   pub leaf : Leaf
 
--- A text that is asked or is to stand, the moment at which a text or the standing queries are asked, the name of a file,
+-- the names of two files, as far as there are any
+pub record FileNames : Type 0 where
+  pub first : Option (List ℕ)
+  pub second : Option (List ℕ)
+
+abbrev pub unnamed : FileNames
+unnamed = record { first = None; second = None }
+
+-- A text that is asked or is to stand, the moment at which a text or the standing queries are asked, the names of files,
 -- the leaf that something is done to or on, and what is to be done: each as far as the line has it
 pub record Asks : Type 0 where
   pub text : List ℕ
   pub moment : ℤ
-  pub file : Option (List ℕ)
+  pub files : FileNames
   pub leaf : Option Leaf
   pub switch : Option Switch
   pub recovery : Option Recovery
@@ -34,12 +42,12 @@ pub record Asks : Type 0 where
 -- a text and a moment
 abbrev pub asking : List ℕ → ℤ → Asks
 asking text moment =
-    record { text = text; moment = moment; file = None; leaf = None; switch = None; recovery = None }
+    record { text = text; moment = moment; files = unnamed; leaf = None; switch = None; recovery = None }
 
--- a file
-abbrev pub feeding : List ℕ → Asks
-feeding name =
-    record { text = []; moment = pos 0; file = Some name; leaf = None; switch = None; recovery = None }
+-- files
+abbrev pub feeding : FileNames → Asks
+feeding names =
+    record { text = []; moment = pos 0; files = names; leaf = None; switch = None; recovery = None }
 
 -- a leaf that is switched, or a range that is recovered onto a leaf
 abbrev pub control_leaf : ControlForm → Leaf
@@ -61,7 +69,7 @@ abbrev pub controlling : ControlForm → Asks
 controlling what = record {
   text = [];
   moment = pos 0;
-  file = None;
+  files = unnamed;
   leaf = Some (control_leaf what);
   switch = control_switch what;
   recovery = control_recovery what;
@@ -77,7 +85,8 @@ standing_moment (line.Stand name period text) = pos 0
 standing_moment (line.Tick moment) = moment
 
 abbrev pub asks_of : LineForm → Asks
-asks_of (form.Feed name) = feeding name
+asks_of (form.Feed name) = feeding (record { first = Some name; second = None })
+asks_of (form.Pour first second) = feeding (record { first = Some first; second = Some second })
 asks_of (form.Ask asked) = asking asked.text asked.moment
 asks_of (form.Control what) = controlling what
 asks_of (form.Standing what) = asking (standing_text what) (standing_moment what)
@@ -91,8 +100,8 @@ text_of what = (asks_of what).text
 abbrev pub moment_of : LineForm → ℤ
 moment_of what = (asks_of what).moment
 
-abbrev pub file_of : LineForm → Option (List ℕ)
-file_of what = (asks_of what).file
+abbrev pub files_of : LineForm → FileNames
+files_of what = (asks_of what).files
 
 abbrev pub leaf_of : LineForm → Option Leaf
 leaf_of what = (asks_of what).leaf

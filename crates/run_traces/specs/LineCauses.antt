@@ -46,9 +46,9 @@ use Rattle.run_traces.specs.declared.traces.QuestionFault.{QuestionFault}
 use Rattle.run_traces.specs.declared.traces.QuestionFault.TheVariants as unanswered
 use Rattle.run_traces.specs.declared.traces.RecoveryFault.{RecoveryFault}
 use Rattle.run_traces.specs.declared.traces.RecoveryFault.TheVariants as unopened
-use Rattle.run_traces.specs.declared.traces.RowRefusal.{RowRefusal}
-use Rattle.run_traces.specs.declared.traces.RowRefused.{RowRefused}
-use Rattle.run_traces.specs.declared.traces.RowRefused.TheVariants as refused
+use Rattle.ingest_queue.specs.declared.refusals.RowRefusal.{RowRefusal}
+use Rattle.ingest_queue.specs.declared.refusals.RowRefused.{RowRefused}
+use Rattle.ingest_queue.specs.declared.refusals.RowRefused.TheVariants as refused
 use Rattle.run_traces.specs.declared.traces.SwitchFault.{SwitchFault}
 use Rattle.run_traces.specs.declared.traces.SwitchFault.TheVariants as unswitched
 use Rattle.standing.specs.declared.faults.StandingFault.{StandingFault}
@@ -217,16 +217,16 @@ module _ (config : Config) (ended : Histories) (from to : Lengths) where
 
 -- ---- rows in their places
 
--- a feed with some of the rows that it accepted
+-- a line with some of the rows that it accepted of a file
 abbrev pub fed : RanLine → ℕ → List Row → RanLine
 fed line pass rows = record { what = line.what; content = line.content; trace = came.Fed pass rows [] }
 
--- how many rows a feed had accepted before a record of this number, of which so many before it were refused
+-- how many rows of a file had been accepted before a record of this number, of which so many before it were refused
 abbrev pub rows_before : ℕ → RowRefusal → ℕ
 rows_before others refusal = refusal.number - 1 - others
 
 module _ (config : Config) (ended : Histories) (seen later : List RanLine) (line : RanLine) (pass : ℕ) where
-  -- the record was refused behind the rows that its feed had accepted before it, and before the others
+  -- the record was refused behind the rows of its file that had been accepted before it, and before the others
   pub record RowHasCause (reads : List RowRead) (accepted : List Row) (others : ℕ) (refusal : RowRefusal) : Type 0 where
     pub read : RowRead
     pub read_is : slice_get reads (refusal.number - 1) ≡ Some read
@@ -249,8 +249,8 @@ WereMissed ended from to ack = AllByRecursion
 
 module _ (config : Config) (ended : Histories) (seen later : List RanLine) (line : RanLine) (pass : ℕ)
     (accepted : List Row) where
-  -- the row at a place of those that a feed accepted is acknowledged, and each leaf that is named as having missed it was
-  -- found down behind the rows before it and before those behind it
+  -- the row at a place of those that were accepted of a file is acknowledged, and each leaf that is named as having missed it
+  -- was found down behind the rows before it and before those behind it
   pub record RowIsTaken (place : ℕ) (row : Row) : Type 0 where
     pub range : Range
     pub ack : Ack
@@ -265,12 +265,19 @@ module _ (config : Config) (ended : Histories) (seen later : List RanLine) (line
 -- ---- of each line
 
 module _ (config : Config) (ended : Histories) where
-  -- a refused line has its cause in its place, and so has each record of a feed that was refused, and each leaf that missed
-  -- a row of it
+  -- each record of a file that was refused has its cause in its place, and so has each leaf that missed a row of it
+  abbrev pub FileIsCaused : List RanLine → List RanLine → RanLine → ℕ → List ℕ → List Row → List RowRefusal → Type 0
+  FileIsCaused seen later line pass content accepted refusals =
+      RowsHaveCauses config ended seen later line pass (reads_of config.schemas content) accepted 0 refusals
+      × RowsAreTaken config ended seen later line pass accepted 0 accepted
+
+  -- and so has a refused line
   abbrev pub IsCaused : List RanLine → List RanLine → RanLine → LineTrace → Type 0
   IsCaused seen later line (came.Fed pass accepted refusals) =
-      RowsHaveCauses config ended seen later line pass (reads_of config.schemas line.content) accepted 0 refusals
-      × RowsAreTaken config ended seen later line pass accepted 0 accepted
+      FileIsCaused seen later line pass line.content.first accepted refusals
+  IsCaused seen later line (came.Poured pass ends) =
+      FileIsCaused seen later line pass line.content.first ends.first.accepted ends.first.refused
+      × FileIsCaused seen later line pass line.content.second ends.second.accepted ends.second.refused
   IsCaused seen later line (came.Refused fault) =
       HasCause config ended (lows config.topology ended seen) (highs config.topology ended later) line.what fault
   IsCaused seen later line other = Unit {0}

@@ -36,8 +36,10 @@ use Rattle.run_traces.specs.LineAsks.{text_of}
 use Rattle.run_traces.specs.LineTables.{cuts_named, IsReadByPlan}
 use Rattle.run_traces.specs.LineSwitches.{DoneMade, first_length, is_fed, is_row, IsDoneBetween}
 use Rattle.run_traces.specs.RanLines.{RanLine}
+use Rattle.run_traces.specs.declared.line_files.LineFiles.{LineFiles}
 use Rattle.run_traces.specs.declared.traces.LineTrace.{LineTrace}
-use Rattle.run_traces.specs.declared.traces.RowRefusal.{RowRefusal}
+use Rattle.ingest_queue.specs.declared.ends.Poured.{Poured}
+use Rattle.ingest_queue.specs.declared.refusals.RowRefusal.{RowRefusal}
 use Rattle.run_traces.specs.declared.traces.LineTrace.TheVariants as came
 
 -- histories that are seen later: each goes on, and there are as many
@@ -58,7 +60,8 @@ book_row (one.Leaf e) = []
 book_row (one.Range e) = acked_row e
 
 module _ (config : Config) where
-  -- a feed made acknowledgements of the rows that it accepted, in each range of those that lie in it, and puts of them
+  -- a feed or a pour made acknowledgements of the rows that it accepted, in each range of those that lie in it, and puts of
+  -- them
   pub record FeedMade (pass : ℕ) (accepted : List Row) (made : History → List BookEntry) : Type 0 where
     pub own : (history : History) → AllByRecursion (λ e. is_fed pass accepted e ≡ true) (made history)
     pub puts : (leaf : Leaf) → flat_map book_row (made (of.Leaf leaf)) ≡ []
@@ -67,6 +70,7 @@ module _ (config : Config) where
 
   abbrev pub HasMade : ℕ → LineForm → LineTrace → (History → List BookEntry) → Type 0
   HasMade n what (came.Fed pass accepted refused) made = (pass ≡ n) × FeedMade pass accepted made
+  HasMade n what (came.Poured pass ends) made = (pass ≡ n) × FeedMade pass ends.accepted made
   HasMade n what (came.Controlled done) made = DoneMade config what done made
   HasMade n what other made = (history : History) → made history ≡ []
 
@@ -93,7 +97,7 @@ module _ (config : Config) (seen : Histories) (from to : History → ℕ) where
   StandsAmong pass rows history place = (e : BookEntry) × (slice_get (entries seen history) place ≡ Some e)
       × (from history ≤ place) × (place < to history) × (is_fed pass rows e ≡ true)
 
-  -- so much was so behind all entries of some rows of a feed and before those of others
+  -- so much was so behind all entries of some rows of a line and before those of others
   pub record FoundAmid (pass : ℕ) (front rest : List Row) (Is : Lengths → Lengths → Type 0) : Type 0 where
     pub since : History → ℕ
     pub until : History → ℕ
@@ -130,11 +134,24 @@ module _ (config : Config) (seen : Histories) (from to : History → ℕ) where
   AllTakenFound pass accepted place (row ∷ rows) =
       TakenFound pass accepted place row × AllTakenFound pass accepted (place + 1) rows
 
-  pub record FeedFound (content : List ℕ) (pass : ℕ) (accepted : List Row) (refusals : List RowRefusal) : Type 0 where
+  -- the rows that a line accepted lie in ranges of the store, and were new there
+  pub record AreNew (accepted : List Row) : Type 0 where
     pub ranged : AllByRecursion HasRange accepted
     pub new : (range : Range) → AllByRecursion (IsNewIn range) accepted
+
+  -- what became of the records of a file
+  pub record FileFound (content : List ℕ) (pass : ℕ) (accepted : List Row) (refusals : List RowRefusal) : Type 0 where
     pub refused : RowsFound (reads_of config.schemas content) pass accepted 0 refusals
     pub taken : AllTakenFound pass accepted 0 accepted
+
+  pub record FeedFound (content : List ℕ) (pass : ℕ) (accepted : List Row) (refusals : List RowRefusal) : Type 0 where
+    pub rows : AreNew accepted
+    pub file : FileFound content pass accepted refusals
+
+  pub record PourFound (content : LineFiles) (pass : ℕ) (ends : Poured) : Type 0 where
+    pub rows : AreNew ends.accepted
+    pub first : FileFound content.first pass ends.first.accepted ends.first.refused
+    pub second : FileFound content.second pass ends.second.accepted ends.second.refused
 
   -- what was looked at for a table
   pub record LookFound (text : List ℕ) (moment : ℤ) (trace : Trace) : Type 0 where
@@ -148,7 +165,8 @@ module _ (config : Config) (seen : Histories) (from to : History → ℕ) where
 
   -- under its caller's number; a tick stands as the queries that it asked
   abbrev pub HasFound : ℕ → RanLine → LineTrace → Type 0
-  HasFound n line (came.Fed pass accepted refused) = FeedFound line.content pass accepted refused
+  HasFound n line (came.Fed pass accepted refused) = FeedFound line.content.first pass accepted refused
+  HasFound n line (came.Poured pass ends) = PourFound line.content pass ends
   HasFound n line (came.Asked moment trace) = LookFound (text_of line.what) moment trace
   HasFound n line (came.Ticked dues) = ⊥
   HasFound n line (came.Controlled done) = IsDoneBetween seen from to n line.what done

@@ -13,7 +13,7 @@ use Rattle.standing.specs.DueLists.{add_fault, due_answer, StandingState, at_mom
 use Rattle.standing.specs.declared.dues.Due.{Due}
 use Rattle.standing.specs.declared.faults.DueFault.{DueFault}
 use Rattle.run_traces.specs.LineAsks.{query_form}
-use Rattle.run_traces.specs.RanLines.{RanLine}
+use Rattle.run_traces.specs.RanLines.{RanLine, no_files}
 use Rattle.run_traces.specs.declared.traces.DueEnd.{DueEnd}
 use Rattle.run_traces.specs.declared.traces.DueEnd.TheVariants as end
 use Rattle.run_traces.specs.declared.traces.DueTrace.{DueTrace}
@@ -52,7 +52,7 @@ end_trace moment (end.Refused fault) = came.Refused fault
 abbrev pub due_line : DueTrace → RanLine
 due_line one = record {
   what = query_form one.due.at one.due.text;
-  content = [];
+  content = no_files;
   trace = end_trace one.due.at one.end;
 }
 

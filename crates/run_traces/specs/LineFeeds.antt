@@ -1,4 +1,4 @@
--- What feeds made: each accepted row is acknowledged once, under its line's number and in the line's order; each record
+-- What feeds and pours made: each accepted row is acknowledged once, under its line's number and in the line's order; each record
 -- of a file is accepted or refused; and no entry of a history was made by no line, or by two.
 use Rattle.std.specs.Prelude.{◌≡◌, ◌≤◌, ◌+◌, ◌∷◌, ◌⊎◌, ℕ, nat_eq, Bool, true, false, List, [], filter, slice_get}
 use Rattle.std.specs.Prelude.{Option, Some, None, Contains, if◌then◌else◌}
@@ -28,16 +28,16 @@ use Rattle.run_theory.specs.Parts.{Each, Part, lines_of}
 use Rattle.run_theory.specs.InPlace.{AreAlone, IsAlone}
 use Rattle.run_traces.specs.LineSwitches.{first_length, is_entry_of}
 use Rattle.run_traces.specs.RanLines.{RanLine}
+use Rattle.run_traces.specs.declared.line_files.LineFiles.{LineFiles}
 use Rattle.run_traces.specs.declared.traces.LineTrace.{LineTrace}
 use Rattle.run_traces.specs.declared.traces.LineTrace.TheVariants as came
-use Rattle.run_traces.specs.declared.traces.RowRefusal.{RowRefusal}
-use Rattle.run_traces.specs.declared.traces.RowRefused.{RowRefused}
-use Rattle.run_traces.specs.declared.traces.RowRefused.TheVariants as refused
+use Rattle.ingest_queue.specs.Ends.{refused_at}
+use Rattle.ingest_queue.specs.Weaves.{IsWeave}
+use Rattle.ingest_queue.specs.declared.ends.Poured.{Poured}
+use Rattle.ingest_queue.specs.declared.refusals.RowRefusal.{RowRefusal}
+use Rattle.ingest_queue.specs.declared.refusals.RowRefused.TheVariants as refused
 
 -- ---- records
-
-abbrev pub refused_at : ℕ → RowRefused → RowRefusal
-refused_at n fault = record { number = n; fault = fault }
 
 -- What became of records that are numbered on from one: the row of each is accepted as the next one, or the record is
 -- refused as the next one, with its number
@@ -56,9 +56,19 @@ acked_under n (range_entry.Opened pass slot leaf) = []
 acked_under n (range_entry.Acked pass row ack) = if nat_eq n pass then row ∷ [] else []
 
 module _ (config : Config) where
-  -- each record of the file is told of, once and in order
-  abbrev pub IsTold : List ℕ → LineTrace → Type 0
-  IsTold content (came.Fed pass accepted refusals) = AreTold 1 (reads_of config.schemas content) accepted refusals
+  -- each record of a file is told of, once and in order
+  abbrev pub FileIsTold : List ℕ → List Row → List RowRefusal → Type 0
+  FileIsTold content accepted refusals = AreTold 1 (reads_of config.schemas content) accepted refusals
+
+  -- and of two files each of either; what was accepted is what was accepted of either, woven together
+  pub record PourIsTold (content : LineFiles) (ends : Poured) : Type 0 where
+    pub first : FileIsTold content.first ends.first.accepted ends.first.refused
+    pub second : FileIsTold content.second ends.second.accepted ends.second.refused
+    pub woven : IsWeave ends.accepted ends.first.accepted ends.second.accepted
+
+  abbrev pub IsTold : LineFiles → LineTrace → Type 0
+  IsTold content (came.Fed pass accepted refusals) = FileIsTold content.first accepted refusals
+  IsTold content (came.Poured pass ends) = PourIsTold content ends
   IsTold content other = Unit {0}
 
   abbrev pub LineIsTold : RanLine → Type 0
@@ -78,6 +88,8 @@ module _ (config : Config) where
   abbrev pub accepted_in : ℕ → Range → LineTrace → List Row
   accepted_in n range (came.Fed pass accepted refusals) =
       if nat_eq n pass then filter (lies_in range) accepted else []
+  accepted_in n range (came.Poured pass ends) =
+      if nat_eq n pass then filter (lies_in range) ends.accepted else []
   accepted_in n range other = []
 
   -- what is acknowledged under a number in a range's history is what the lines of that number accepted, in their order

@@ -13,10 +13,14 @@ use Rattle.mon_script.specs.declared.forms.LineForm.TheVariants as form
 use Rattle.mon_script.specs.declared.standing_lines.StandingLine.{StandingLine}
 use Rattle.mon_script.specs.declared.standing_lines.StandingLine.TheVariants as line
 
--- a feed is never refused as a whole
+-- a feed is never refused as a whole, and neither is a pour
 abbrev pub IsFed : LineTrace → Type 0
 IsFed (came.Fed pass accepted refused) = Unit {0}
 IsFed other = ⊥
+
+abbrev pub IsPoured : LineTrace → Type 0
+IsPoured (came.Poured pass ends) = Unit {0}
+IsPoured other = ⊥
 
 -- a question comes to a table at the moment that it asks at, or it is refused
 abbrev pub IsQuestionFault : LineFault → Type 0
@@ -68,6 +72,7 @@ IsIdle other = ⊥
 
 abbrev pub Suits : LineForm → LineTrace → Type 0
 Suits (form.Feed name) trace = IsFed trace
+Suits (form.Pour first second) trace = IsPoured trace
 Suits (form.Ask asked) trace = IsAnswered asked.moment trace
 Suits (form.Control what) trace = IsDone what trace
 Suits (form.Standing what) trace = StandingSuits what trace

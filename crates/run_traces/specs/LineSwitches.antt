@@ -147,11 +147,12 @@ is_done what (did.Recovered slot) history place e = recovers (recovery_of what) 
 
 abbrev pub is_traced : LineForm → LineTrace → History → ℕ → BookEntry → Bool
 is_traced what (came.Fed pass accepted refused) history place e = is_fed pass accepted e
+is_traced what (came.Poured pass ends) history place e = is_fed pass ends.accepted e
 is_traced what (came.Controlled done) history place e = is_done what done history place e
 is_traced what other history place e = false
 
--- whether the entry at a place of a history is of a line: a feed has those of the rows that it accepted, a switch of a
--- leaf has the one that is the last of so many, and a recovery has those that open its slot
+-- whether the entry at a place of a history is of a line: a feed or a pour has those of the rows that it accepted, a switch of
+-- a leaf has the one that is the last of so many, and a recovery has those that open its slot
 abbrev pub is_entry_of : RanLine → History → ℕ → BookEntry → Bool
 is_entry_of line history place e = is_traced line.what line.trace history place e
 

@@ -1,5 +1,5 @@
 -- What each table stands on: replicas that served, all that had been accepted before, and every leaf that it wants.
-use Rattle.std.specs.Prelude.{◌≡◌, ℕ, ℤ, List, [], Ok, ◌<◌, ◌≤◌, ◌∷◌, Contains, length}
+use Rattle.std.specs.Prelude.{◌≡◌, ℕ, ℤ, List, [], Ok, ◌<◌, ◌≤◌, ◌∷◌, ◌++◌, Contains, length}
 use Rattle.std.specs.List.{AllByRecursion, flat_map}
 use Rattle.mon_config.specs.declared.config.Config.{Config}
 use Rattle.mon_value.specs.declared.histories.Histories.{Histories}
@@ -24,9 +24,9 @@ use Rattle.run_traces.specs.declared.traces.LineFault.{LineFault}
 use Rattle.run_traces.specs.declared.traces.LineFault.TheVariants as why
 use Rattle.run_traces.specs.declared.traces.QuestionFault.{QuestionFault}
 use Rattle.run_traces.specs.declared.traces.QuestionFault.TheVariants as unanswered
-use Rattle.run_traces.specs.declared.traces.RowRefusal.{RowRefusal}
-use Rattle.run_traces.specs.declared.traces.RowRefused.{RowRefused}
-use Rattle.run_traces.specs.declared.traces.RowRefused.TheVariants as refused
+use Rattle.ingest_queue.specs.declared.refusals.RowRefusal.{RowRefusal}
+use Rattle.ingest_queue.specs.declared.refusals.RowRefused.{RowRefused}
+use Rattle.ingest_queue.specs.declared.refusals.RowRefused.TheVariants as refused
 
 -- What each table stands on: replicas that served and cuts that leaves had in the line's place.
 
@@ -77,10 +77,14 @@ refusal_cuts leaf what (why.Control fault) = undone_cuts leaf what fault
 refusal_cuts leaf what (why.Standing fault) = []
 refusal_cuts leaf what (why.Due fault) = []
 
+abbrev pub file_cuts : Leaf → List RowRefusal → List ℕ
+file_cuts leaf refusals = flat_map (λ (refusal : RowRefusal). row_cuts leaf refusal.fault) refusals
+
 -- in its trace or in a refusal
 abbrev pub cuts_named : Leaf → LineForm → LineTrace → List ℕ
-cuts_named leaf what (came.Fed pass accepted refusals) =
-    flat_map (λ (refusal : RowRefusal). row_cuts leaf refusal.fault) refusals
+cuts_named leaf what (came.Fed pass accepted refusals) = file_cuts leaf refusals
+cuts_named leaf what (came.Poured pass ends) =
+    file_cuts leaf ends.first.refused ++ file_cuts leaf ends.second.refused
 cuts_named leaf what (came.Asked moment trace) = cut_of trace leaf ∷ found_cuts leaf trace.down
 cuts_named leaf what (came.Ticked dues) = []
 cuts_named leaf what (came.Controlled done) = done_cuts leaf what done

@@ -26,7 +26,7 @@ use Rattle.query_texts.specs.TextTypes.{text_type}
 use Rattle.query_texts.specs.declared.faults.TextFault.{TextFault}
 use Rattle.range_cell.specs.declared.answers.WriteFault.{WriteFault}
 use Rattle.range_cell.specs.declared.answers.WriteFault.TheVariants as unwritten
-use Rattle.run_traces.specs.LineAsks.{file_of, query_form, text_of}
+use Rattle.run_traces.specs.LineAsks.{files_of, query_form, text_of}
 use Rattle.run_traces.specs.LineSwitches.{control_done_text, control_fault_text}
 use Rattle.run_traces.specs.RanLines.{RanLine}
 use Rattle.run_traces.specs.declared.traces.DueEnd.{DueEnd}
@@ -38,9 +38,10 @@ use Rattle.run_traces.specs.declared.traces.LineTrace.{LineTrace}
 use Rattle.run_traces.specs.declared.traces.LineTrace.TheVariants as came
 use Rattle.run_traces.specs.declared.traces.QuestionFault.{QuestionFault}
 use Rattle.run_traces.specs.declared.traces.QuestionFault.TheVariants as unanswered
-use Rattle.run_traces.specs.declared.traces.RowRefusal.{RowRefusal}
-use Rattle.run_traces.specs.declared.traces.RowRefused.{RowRefused}
-use Rattle.run_traces.specs.declared.traces.RowRefused.TheVariants as refused
+use Rattle.ingest_queue.specs.declared.ends.Poured.{Poured}
+use Rattle.ingest_queue.specs.declared.refusals.RowRefusal.{RowRefusal}
+use Rattle.ingest_queue.specs.declared.refusals.RowRefused.{RowRefused}
+use Rattle.ingest_queue.specs.declared.refusals.RowRefused.TheVariants as refused
 use Rattle.mon_script.specs.declared.forms.LineForm.{LineForm}
 use Rattle.mon_script.specs.declared.forms.LineForm.TheVariants as form
 use Rattle.mon_script.specs.declared.questions.How.{How}
@@ -86,6 +87,11 @@ feed_text zones name accepted refused =
 abbrev pub file_name : Option (List ℕ) → List ℕ
 file_name (Some name) = name
 file_name None = []
+
+-- two files that were poured print what two feeds of them do
+abbrev pub pour_text : List ZoneSpec → List ℕ → List ℕ → Poured → List ℕ
+pour_text zones first second ends = feed_text zones first (length ends.first.accepted) ends.first.refused
+    ++ feed_text zones second (length ends.second.accepted) ends.second.refused
 
 -- ---- explanations
 
@@ -194,7 +200,9 @@ module _ (config : Config) (ended : Histories) where
 
   abbrev pub text_by : LineForm → List ℕ → LineTrace → List ℕ
   text_by what text (came.Fed pass accepted refused) =
-      feed_text config.topology (file_name (file_of what)) (length accepted) refused
+      feed_text config.topology (file_name (files_of what).first) (length accepted) refused
+  text_by what text (came.Poured pass ends) =
+      pour_text config.topology (file_name (files_of what).first) (file_name (files_of what).second) ends
   text_by what text (came.Asked moment trace) = asked_text what moment trace (text_type config.schemas text)
   text_by what text (came.Ticked dues) = flat_map due_text dues
   text_by what text (came.Controlled done) = control_done_text config.topology what done

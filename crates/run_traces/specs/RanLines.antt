@@ -2,6 +2,7 @@
 use Rattle.std.specs.Prelude.{ℕ, Bool, true, false, List, [], ◌∷◌, ◌++◌, Option, Some, None}
 use Rattle.mon_value.specs.declared.rows.Row.{Row}
 use Rattle.run_theory.specs.Parts.{Alone, Beside, Part}
+use Rattle.run_traces.specs.declared.line_files.LineFiles.{LineFiles}
 use Rattle.run_traces.specs.declared.traces.LineTrace.{LineTrace}
 use Rattle.run_traces.specs.declared.traces.LineTrace.TheVariants as came
 use Rattle.mon_script.specs.Blocks.{mark_of}
@@ -10,14 +11,21 @@ use Rattle.mon_script.specs.declared.places.Mark.{Mark}
 use Rattle.mon_script.specs.declared.places.Mark.TheVariants as mark
 use Rattle.mon_script.specs.declared.script.ScriptLine.{ScriptLine}
 
--- a line that ran: what it says, what its file held, and what it came to
+-- a line that ran: what it says, what its files held, and what it came to
 pub record RanLine : Type 0 where
   pub what : LineForm
-  pub content : List ℕ
+  pub content : LineFiles
   pub trace : LineTrace
 
--- the lines of a script that have a trace, with what the file of each held
-abbrev pub ran_lines : List ScriptLine → List (List ℕ) → List LineTrace → List RanLine
+-- of a line that names no file, or one
+abbrev pub no_files : LineFiles
+no_files = record { first = []; second = [] }
+
+abbrev pub one_file : List ℕ → LineFiles
+one_file content = record { first = content; second = [] }
+
+-- the lines of a script that have a trace, with what the files of each held
+abbrev pub ran_lines : List ScriptLine → List LineFiles → List LineTrace → List RanLine
 ran_lines [] contents traces = []
 ran_lines (line ∷ lines) [] traces = []
 ran_lines (line ∷ lines) (content ∷ contents) [] = []
@@ -74,6 +82,7 @@ acts line = acts_by (mark_of line.what)
 
 abbrev pub trace_rows : LineTrace → List Row
 trace_rows (came.Fed pass accepted refused) = accepted
+trace_rows (came.Poured pass ends) = ends.accepted
 trace_rows other = []
 
 abbrev pub accepted_rows : RanLine → List Row

@@ -1,31 +1,10 @@
 // What a line came to.
-use crate::fed_rows::FedRows;
-use mon_points::RowFault;
+use ingest_queue::{FedRows, Poured, RowRefusals};
 use mon_value::{Founds, ListOf, Range, Slot};
 use mql_parse::ParseFault;
 use query_traces::Trace;
-use range_cell::WriteFault;
 use standing::{Due, DueFault, StandingFault};
 use typed_trees::TypeFault;
-
-/// Why a record of a file was refused.
-#[derive(Drop)]
-pub enum RowRefused {
-    /// It is no row.
-    Read(RowFault),
-    /// Its row was not written.
-    Write(WriteFault),
-}
-
-/// A record that was refused. Records are numbered from 1.
-#[derive(Drop)]
-pub struct RowRefusal {
-    pub number: u32,
-    pub fault: RowRefused,
-}
-
-/// The records of a file that were refused, in order.
-pub type RowRefusals = ListOf<RowRefusal>;
 
 /// Why a question has no table.
 #[derive(Drop)]
@@ -122,6 +101,11 @@ pub enum LineTrace {
         pass: u64,
         accepted: FedRows,
         refused: RowRefusals,
+    },
+    /// Two files that were poured: the number of the caller, and what became of the records of each.
+    Poured {
+        pass: u64,
+        ends: Poured,
     },
     /// What was looked at for a table, at a moment in seconds from the epoch.
     Asked {

@@ -6,7 +6,7 @@ use Rattle.mon_table.specs.Tables.{newline}
 use Rattle.run_traces.specs.RanLines.{trace_rows}
 use Rattle.run_traces.specs.declared.traces.LineTrace.{LineTrace}
 use Rattle.run_traces.specs.declared.traces.LineTrace.TheVariants as came
-use Rattle.run_traces.specs.declared.traces.RowRefusal.{RowRefusal}
+use Rattle.ingest_queue.specs.declared.refusals.RowRefusal.{RowRefusal}
 use Rattle.trials.specs.Tables.{TableRead, table_in}
 
 -- ---- points
@@ -17,6 +17,7 @@ accepted_in = sum_by (λ trace. length (trace_rows trace))
 
 abbrev pub refusals_in : LineTrace → List RowRefusal
 refusals_in (came.Fed pass accepted refused) = refused
+refusals_in (came.Poured pass ends) = ends.first.refused ++ ends.second.refused
 refusals_in other = []
 
 abbrev pub refused_in : List LineTrace → ℕ
@@ -66,9 +67,15 @@ line_text at (came.Asked moment trace) = query_line at.number (table_text (table
 line_text at (came.Refused fault) = query_line at.number (first_line at.lines)
 line_text at other = []
 
--- A feed printed a line, and one for each record that it refused; a query its table, or why it was refused
+-- a feed printed a line, and one for each record that it refused
+abbrev pub behind_feed : List RowRefusal → List (List ℕ) → List (List ℕ)
+behind_feed refused lines = drop (length refused) (drop 1 lines)
+
+-- A pour printed what two feeds do; a query its table, or why it was refused
 abbrev pub behind : Place → LineTrace → Place
-behind at (came.Fed pass accepted refused) = place at.number (drop (length refused) (drop 1 at.lines))
+behind at (came.Fed pass accepted refused) = place at.number (behind_feed refused at.lines)
+behind at (came.Poured pass ends) =
+    place at.number (behind_feed ends.second.refused (behind_feed ends.first.refused at.lines))
 behind at (came.Asked moment trace) = place (at.number + 1) (table_behind at.lines).rest
 behind at (came.Refused fault) = place (at.number + 1) (drop 1 at.lines)
 behind at other = at

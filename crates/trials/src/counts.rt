@@ -1,9 +1,9 @@
 // How many points lines accepted and refused.
-ghost use Rattle.std.specs.Prelude.{◌≡◌, ◌<◌, ◌^◌, length};
+ghost use Rattle.std.specs.Prelude.{◌≡◌, ◌<◌, ◌++◌, ◌^◌, length};
 ghost use Rattle.run_traces.specs.RanLines.{trace_rows};
 ghost use Rattle.trials.specs.Summaries as spec;
 
-use run_traces::LineTrace;
+use run_traces::{LineTrace, Poured};
 
 /// How many points the lines accepted.
 pub(crate) fn accepted_in(traces: &[LineTrace]) -> u128
@@ -35,6 +35,7 @@ fn accepted_by(trace: &LineTrace) -> usize
 {
     match trace {
         LineTrace::Fed { accepted, .. } => accepted.len(),
+        LineTrace::Poured { ends, .. } => ends.accepted.len(),
         LineTrace::Asked { .. } => 0,
         LineTrace::Ticked(_) => 0,
         LineTrace::Controlled(_) => 0,
@@ -49,10 +50,18 @@ fn refused_by(trace: &LineTrace) -> usize
 {
     match trace {
         LineTrace::Fed { refused, .. } => refused.len(),
+        LineTrace::Poured { ends, .. } => refused_by_two(ends),
         LineTrace::Asked { .. } => 0,
         LineTrace::Ticked(_) => 0,
         LineTrace::Controlled(_) => 0,
         LineTrace::Refused(_) => 0,
         LineTrace::Done => 0,
     }
+}
+
+// How many of two files.
+fn refused_by_two(ends: &Poured) -> usize
+    ensures refused { result ≡ length (ends.now.first.refused ++ ends.now.second.refused) }
+{
+    ends.first.refused.as_slice().len() + ends.second.refused.as_slice().len()
 }

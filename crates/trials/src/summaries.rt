@@ -8,7 +8,7 @@ use crate::counts::{accepted_in, refused_in};
 use crate::tables::{Table, lines_behind, table_at};
 use mon_script::next_line;
 use mon_value::{ListOf, OutOfMemory};
-use run_traces::LineTrace;
+use run_traces::{LineTrace, RowRefusals};
 use std::alloc::Global;
 
 /// How far a summary has come: the number of the next query, and what is left of the printed text.
@@ -92,7 +92,14 @@ fn push_line<'a>(
     match trace {
         LineTrace::Fed { refused, .. } => Ok(At {
             number: at.number,
-            left: lines_behind(lines_behind(at.left, 1), refused.len()),
+            left: behind_feed(refused, at.left),
+        }),
+        LineTrace::Poured { ends, .. } => Ok(At {
+            number: at.number,
+            left: behind_feed(
+                &ends.second.refused,
+                behind_feed(&ends.first.refused, at.left),
+            ),
         }),
         LineTrace::Asked { .. } => push_table(alloc, text, at),
         LineTrace::Refused(_) => push_refusal(alloc, text, at),
@@ -100,6 +107,13 @@ fn push_line<'a>(
         LineTrace::Controlled(_) => Ok(at),
         LineTrace::Done => Ok(at),
     }
+}
+
+// What stands behind the lines that a feed printed.
+fn behind_feed<'a>(refused: &RowRefusals, left: &'a [u8]) -> &'a [u8]
+    ensures behind { lines_of result.now ≡ spec.behind_feed refused.now (lines_of left.now) }
+{
+    lines_behind(lines_behind(left, 1), refused.len())
 }
 
 // Adds what is said of a query with a table.

@@ -21,6 +21,7 @@ use Rattle.run_traces.specs.LineClaims.{AllRan, HaveGrown}
 use Rattle.run_traces.specs.LineDues.{asked_part, asked_parts}
 use Rattle.run_traces.specs.LineTexts.{line_text}
 use Rattle.run_traces.specs.RanLines.{RanLine, parts_of, ran_lines}
+use Rattle.run_traces.specs.declared.line_files.LineFiles.{LineFiles}
 use Rattle.run_traces.specs.declared.traces.LineTrace.{LineTrace}
 use Rattle.run_traces.specs.declared.traces.LineTrace.TheVariants as came
 
@@ -28,7 +29,7 @@ use Rattle.run_traces.specs.declared.traces.LineTrace.TheVariants as came
 
 -- These reads gave what the files of lines held, in line order, whatever is read behind them; and by them their files are
 -- read before any others
-pub record HaveGiven (forms : List LineForm) (contents : List (List ℕ)) (given : Files) : Type 0 where
+pub record HaveGiven (forms : List LineForm) (contents : List LineFiles) (given : Files) : Type 0 where
   pub count : length contents ≡ length forms
   pub held : (others : List LineForm) (more : Files)
       → contents_of (forms ++ others) (given ++ more) ≡ contents ++ contents_of others more
@@ -37,20 +38,20 @@ pub record HaveGiven (forms : List LineForm) (contents : List (List ℕ)) (given
       → sought (forms ++ others) (given ++ more) ≡ lines_read forms contents (sought others more)
 
 -- the files of lines were read, and held this
-pub record HaveRead (forms : List LineForm) (contents : List (List ℕ)) (before after : Progress) : Type 0 where
+pub record HaveRead (forms : List LineForm) (contents : List LineFiles) (before after : Progress) : Type 0 where
   pub given : Files
   pub gave : after.folder.gave ≡ before.folder.gave ++ given
   pub have : HaveGiven forms contents given
   pub read : Ran (lines_read forms contents) before after
 
--- that of one line, if it names one
-abbrev pub FileRead : LineForm → List ℕ → Progress → Progress → Type 0
+-- those of one line, if it names any
+abbrev pub FileRead : LineForm → LineFiles → Progress → Progress → Type 0
 FileRead what content before after = HaveRead (what ∷ []) (content ∷ []) before after
 
-abbrev pub FilesRead : List ScriptLine → List (List ℕ) → Progress → Progress → Type 0
+abbrev pub FilesRead : List ScriptLine → List LineFiles → Progress → Progress → Type 0
 FilesRead lines contents before after = HaveRead (forms_of lines) contents before after
 
--- the read of a line's file stops, whatever lines come behind it
+-- a read of a line's files stops, whatever lines come behind it
 abbrev pub FileStops : LineForm → Stop → Progress → Progress → Type 0
 FileStops what stopped before after =
     (others : List LineForm) → HaltsBy (sought (what ∷ others)) stopped before after
@@ -84,7 +85,7 @@ module _ (config : Config) where
   -- Lines ran, from what the script's caller had seen to what it has seen: what they came to was noted; they ran in
   -- their places, behind whatever ran before; and what they print is so over all that is seen later
   pub record LinesRan (lines : List ScriptLine) (from known : Histories) (before after : Progress) : Type 0 where
-    pub contents : List (List ℕ)
+    pub contents : List LineFiles
     pub traces : List LineTrace
     pub ends : after.ends ≡ before.ends ++ traces
     pub count : length traces ≡ length lines
@@ -135,7 +136,7 @@ pub record LinesHalt (config : Config) (lines : List ScriptLine) (from ended : H
 abbrev pub part_forms : Part RanLine → List LineForm
 part_forms part = map (λ (line : RanLine). line.what) (lines_of part)
 
-abbrev pub part_contents : Part RanLine → List (List ℕ)
+abbrev pub part_contents : Part RanLine → List LineFiles
 part_contents part = map (λ (line : RanLine). line.content) (lines_of part)
 
 module _ (config : Config) (part : Part RanLine) (traces : List LineTrace) (from known : Histories)
@@ -173,18 +174,18 @@ pub record StoppedEarly (forms : List LineForm) (from ended : Histories) (stoppe
 -- ---- a line alone
 
 -- what a line is that came to something
-abbrev pub alone_in : LineForm → List ℕ → LineTrace → Part RanLine
+abbrev pub alone_in : LineForm → LineFiles → LineTrace → Part RanLine
 alone_in what content trace = Alone (record { what = what; content = content; trace = trace })
 
 pub record AloneRan (config : Config) (what : LineForm) (from known : Histories) (before after : Progress) : Type 0
   where
-    pub content : List ℕ
+    pub content : LineFiles
     pub trace : LineTrace
     pub went : PartWent config (alone_in what content trace) (trace ∷ []) from known before after
 
 pub record AloneCut (config : Config) (what : LineForm) (from ended : Histories) (stopped : Stop)
     (before after : Progress) : Type 0 where
-  pub content : List ℕ
+  pub content : LineFiles
   pub trace : LineTrace
   pub cut : PartCut config (alone_in what content trace) (trace ∷ []) from ended before after stopped
 
@@ -200,12 +201,12 @@ pub record AloneHalts (config : Config) (what : LineForm) (from ended : Historie
 abbrev pub block_traces : List LineTrace → List LineTrace
 block_traces traces = came.Done ∷ (traces ++ came.Done ∷ [])
 
-abbrev pub block_in : List ScriptLine → List (List ℕ) → List LineTrace → Part RanLine
+abbrev pub block_in : List ScriptLine → List LineFiles → List LineTrace → Part RanLine
 block_in lines contents traces = Beside (ran_lines lines contents traces)
 
 pub record BlockRan (config : Config) (lines : List ScriptLine) (from known : Histories) (before after : Progress)
     : Type 0 where
-  pub contents : List (List ℕ)
+  pub contents : List LineFiles
   pub traces : List LineTrace
   pub held : length contents ≡ length lines
   pub count : length traces ≡ length lines
@@ -213,7 +214,7 @@ pub record BlockRan (config : Config) (lines : List ScriptLine) (from known : Hi
 
 pub record BlockCut (config : Config) (lines : List ScriptLine) (from ended : Histories) (stopped : Stop)
     (before after : Progress) : Type 0 where
-  pub contents : List (List ℕ)
+  pub contents : List LineFiles
   pub traces : List LineTrace
   pub held : length contents ≡ length lines
   pub count : length traces ≡ length lines

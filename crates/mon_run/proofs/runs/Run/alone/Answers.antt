@@ -4,7 +4,7 @@ use Rattle.mon_run.specs.Endings.{Did, Progress}
 use Rattle.mon_run.specs.Steps.{Write}
 use Rattle.mon_run.specs.declared.stop.Stop.{Stop}
 use Rattle.mon_run.specs.declared.stop.Stop.TheVariants as stop
-use Rattle.mon_run.specs.within.Lines.{AloneHalts, FileRead}
+use Rattle.mon_run.specs.within.Lines.{AloneHalts}
 use Rattle.mon_run.specs.within.Stops.{WriteStops, seen}
 use Rattle.mon_run.proofs.DueLemmas.{noted_due, on_err_of}
 use Rattle.mon_run.proofs.EndLemmas.{counts_then}
@@ -59,9 +59,8 @@ returns-clause-ran g c =
     let ended : Progress = seen g.F.Folder.state g.O.Sink.state c.end.new.self in
     let after : Progress = seen g.F.Folder.state g.O.Sink.state c.write.new.self in
     on_ok_weaker c.write.result (λ wrote.
-    alone_ran {content = c.as_slice.result.now} {know = c.args.p.now} {known = c.run_alone.new.p}
-    (subst (λ (held : List ℕ). FileRead c.args.what.now held before read) (sym c.as_slice.ensures.items)
-    c.in_ok-content.ensures.read) c.in_ok-ran.ensures.ran.tells c.in_ok-end.ensures.ended
+    alone_ran {content = c.in_ok-content.content} {know = c.args.p.now} {known = c.run_alone.new.p}
+    c.in_ok-content.ensures.read c.in_ok-ran.ensures.ran.tells c.in_ok-end.ensures.ended
     (ap (λ log. log.traces.items) c.content.ensures.log) after
     (subst (λ (t : List ℕ). Did (Write t ∷ []) ended after) c.as_bytes.ensures.bytes wrote)
     (ap (λ log. log.traces.items) c.write.ensures.log)) c.write.ensures.wrote
@@ -75,9 +74,8 @@ returns-clause-stops g c =
     err_weaker c.write.result (λ (s : Stop). WriteStops c.as_bytes.result.now s ended after)
     (λ (s : Stop). AloneHalts c.args.store.now c.args.what.now c.args.p.now.seen c.run_alone.new.p.seen s before after)
     (λ stopped stops.
-    alone_cut {content = c.as_slice.result.now} {know = c.args.p.now} {known = c.run_alone.new.p}
-    (subst (λ (held : List ℕ). FileRead c.args.what.now held before read) (sym c.as_slice.ensures.items)
-    c.in_ok-content.ensures.read) c.in_ok-ran.ensures.ran.tells c.in_ok-end.ensures.ended
+    alone_cut {content = c.in_ok-content.content} {know = c.args.p.now} {known = c.run_alone.new.p}
+    c.in_ok-content.ensures.read c.in_ok-ran.ensures.ran.tells c.in_ok-end.ensures.ended
     (ap (λ log. log.traces.items) c.content.ensures.log) after stopped
     (counts_then c.content.ensures.continues.counts c.end.ensures.continues.counts)
     (ap (λ log. log.traces.items) c.write.ensures.log) c.write.ensures.folder

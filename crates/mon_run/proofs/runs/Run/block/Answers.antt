@@ -16,11 +16,12 @@ use Rattle.part_runs.specs.PartsDone.{PartTells}
 use Rattle.run_traces.specs.RanLines.{ran_lines}
 use Rattle.run_theory.specs.Parts.{Beside}
 use Rattle.run_traces.specs.declared.traces.LineTrace.{LineTrace}
+use Rattle.run_traces.specs.declared.line_files.LineFiles.{LineFiles}
 use Rattle.running_query.proofs.GoingLemmas.{same_fronts}
 
 pub run_beside-requires-clause-contents : goal.run_beside-requires-clause-contents
 run_beside-requires-clause-contents g c = λ κs lives.
-    ap (λ (l : List (List ℕ)). length l) c.as_slice.ensures.items ∙ c.in_ok-contents.ensures.count
+    ap (λ (l : List LineFiles). length l) c.as_slice.ensures.items ∙ c.in_ok-contents.ensures.count
 
 pub came-requires-clause-traces : goal.came-requires-clause-traces
 came-requires-clause-traces g c = omega (arith, c.in_ok-texts.ensures.traces, c.in_ok-rans.ensures.each, c.requires.few)
@@ -91,7 +92,7 @@ returns-clause-ran g c =
     block_ran c.args.store.now lines contents traces texts c.args.p.now c.run_beside.new.p before read noted
     c.in_ok-contents.ensures.read c.in_ok-contents.ensures.count
     (length-map rans (λ (ran : LineRan). ran.trace) ∙ c.in_ok-rans.ensures.each)
-    (subst (λ (held : List (List ℕ)). PartTells c.args.store.now (Beside (ran_lines lines held traces)) texts
+    (subst (λ (held : List LineFiles). PartTells c.args.store.now (Beside (ran_lines lines held traces)) texts
     c.args.p.now
     c.run_beside.new.p) c.as_slice.ensures.items c.in_ok-rans.ensures.ran)
     (did_end (block_traces traces) put.folder put.sink put.ends) (ap (λ log. log.traces.items) c.contents.ensures.log)
@@ -121,7 +122,7 @@ returns-clause-stops g c =
     block_cut c.args.store.now lines contents traces texts c.args.p.now c.run_beside.new.p before read noted
     c.in_ok-contents.ensures.read c.in_ok-contents.ensures.count
     (length-map rans (λ (ran : LineRan). ran.trace) ∙ c.in_ok-rans.ensures.each)
-    (subst (λ (held : List (List ℕ)). PartTells c.args.store.now (Beside (ran_lines lines held traces)) texts
+    (subst (λ (held : List LineFiles). PartTells c.args.store.now (Beside (ran_lines lines held traces)) texts
     c.args.p.now
     c.run_beside.new.p) c.as_slice.ensures.items c.in_ok-rans.ensures.ran)
     (did_end (block_traces traces) put.folder put.sink put.ends) (ap (λ log. log.traces.items) c.contents.ensures.log)

@@ -8,6 +8,7 @@ use Rattle.mon_run.specs.declared.stop.Stop.{Stop}
 use Rattle.mon_run.specs.declared.stop.Stop.TheVariants as stop
 use Rattle.mon_run.specs.within.Lines.{FilesStop}
 use Rattle.mon_run.specs.within.Stops.{seen}
+use Rattle.run_traces.specs.declared.line_files.LineFiles.{LineFiles}
 use Rattle.mon_run.proofs.EndLemmas.{continues_then}
 use Rattle.mon_run.proofs.ReadingLemmas.{ReadTo, read_all, read_more, read_none, reads_starved, reads_stop}
 use Rattle.mon_run.proofs.RunLemmas.{handed_on}
@@ -21,7 +22,7 @@ loop-line-init g c = record {
   read =
       let p : Progress = seen g.F.Folder.state g.O.Sink.state c.args.self.now in
       let lines = c.args.lines.now in
-      subst (λ (held : List (List ℕ)). ReadTo lines lines held p p) (sym c.new-contents.ensures.empty)
+      subst (λ (held : List LineFiles). ReadTo lines lines held p p) (sym c.new-contents.ensures.empty)
       (read_none lines p);
 }
 
@@ -37,7 +38,7 @@ loop-line-preserved g c =
     record {
       continues = continues_then i.continues c.content.ensures.continues;
       log = c.content.ensures.log ∙ i.log;
-      count = ap (λ (l : List (List ℕ)). length l) c.in_ok-push.ensures.added
+      count = ap (λ (l : List LineFiles). length l) c.in_ok-push.ensures.added
           ∙ length-append c.loop-line.contents (c.in_ok-content.content ∷ []) ∙ ap (λ n. n + 1) i.count;
       read = read_more line c.in_ok-content.content after next i.read c.in_ok-push.ensures.added
           c.in_ok-content.ensures.read;

@@ -41,10 +41,10 @@ block-requires-clause-stock g c = λ κs lives.
     (omega (arith, block_room c.in-Some.lines.now c.in-Some._left.now is)) c.requires.stock
 
 pub alone-requires-clause-lawful : goal.alone-requires-clause-lawful
-alone-requires-clause-lawful g c = c.requires.lawful.0
+alone-requires-clause-lawful g c = λ κs lives. c.requires.lawful.0
 
 pub alone-requires-clause-acts : goal.alone-requires-clause-acts
-alone-requires-clause-acts g c =
+alone-requires-clause-acts g c = λ κs lives.
     (is_line c.args.line.now c.args.behind.now c.requires.blocks (sym c.in-None.ensures.cut)).acts
 
 pub returns-in-Some-clause-ran : goal.returns-in-Some-clause-ran

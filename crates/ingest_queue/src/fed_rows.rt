@@ -49,13 +49,21 @@ impl FedRows {
         ensures kept { OnErr result (self.new ≡ self.old) }
         ensures full { OnErr result (length self.old ≡ 2 ^ 64 - 1) }
     {
+        let added = self.add(&row);
+        drop(row);
+        added
+    }
+
+    /// The same of a row that is kept.
+    pub fn add(&mut self, row: &Row) -> Result<(), OutOfMemory>
+        ensures added { OnOk result (self.new ≡ self.old ++ row.now ∷ []) }
+        ensures kept { OnErr result (self.new ≡ self.old) }
+        ensures full { OnErr result (length self.old ≡ 2 ^ 64 - 1) }
+    {
         let Some(count) = self.count.checked_add(1) else {
-            drop(row);
             return Err(AllocError);
         };
-        let rows = self.rows.and(&row, &());
-        drop(row);
-        self.rows = rows;
+        self.rows = self.rows.and(row, &());
         self.count = count;
         Ok(())
     }

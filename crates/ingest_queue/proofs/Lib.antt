@@ -1,0 +1,5 @@
+pub mod RoleLemmas
+pub mod FeedLemmas
+pub mod PourLemmas
+pub mod WeaveLemmas
+pub mod EndLemmas

@@ -1,0 +1,5 @@
+use Rattle.ingest_queue.proofs.RoleLemmas.{sends}
+use Rattle.ingest_queue.proofs.roles.push.Goals as goal
+
+pub try_push_as-requires-clause-rule : goal.try_push_as-requires-clause-rule
+try_push_as-requires-clause-rule g c = sends _ _ _ _ _ c.requires.pass.1 c.requires.next
