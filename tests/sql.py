@@ -1,5 +1,7 @@
 """Queries over points of one schema, and the same in SQL."""
 
+import re
+
 SCHEMAS = {
     "targets": [
         {
@@ -18,12 +20,15 @@ SCHEMAS = {
     ],
 }
 MOMENT = 1000
+# The ends of points, by which a query at another moment differs.
+END = re.compile(r"(end (?:>|<=) )(\d+)")
 ALL = "fetch Task::/work | align delta(1000s)"
 SERIES = (
     "SELECT user, job, cluster, task, SUM(work) AS work FROM points WHERE end > 0 AND end <= 1000"
     " GROUP BY user, job, cluster, task"
 )
 LATER = SERIES.replace("end > 0", "end > 500 AND user = 'u1'")
+FIXED = SERIES.replace("end > 0", "end > 0 AND user = 'u1' AND job = 'job7' AND cluster = 'c2'")
 
 # Each query, and the same in SQL.
 # Without a row there is no group, which SQL says by GROUP BY NULL.
@@ -47,6 +52,20 @@ QUERIES = [
         'fetch Task::/work | filter job=~".*ob7" | align delta(1000s) | group_by [user, job], max(work)',
         "SELECT user, job, MAX(work) AS work"
         f" FROM ({SERIES.replace('end > 0', 'end > 0 AND job GLOB ' + repr('*ob7'))}) GROUP BY user, job",
+    ),
+    (
+        'fetch Task::/work | filter user=="u1" && job=="job7" && cluster=="c2" | align delta(1000s)'
+        " | group_by [task], max(work)",
+        f"SELECT task, MAX(work) AS work FROM ({FIXED}) GROUP BY task",
+    ),
+    (
+        f'{{{ALL} | filter cluster=="c2" && user=="u1";{ALL} | filter job=="job7"}} | join | group_by [task], count()',
+        f"SELECT task, COUNT(*) AS count FROM ({FIXED}) GROUP BY task",
+    ),
+    (
+        f"{{{ALL} | filter cluster==\"c2\";{ALL} | filter cluster==\"c2\" && user!=\"u1\"}} | union"
+        " | group_by [], sum(work)",
+        f"SELECT SUM(work * (1 + (user <> 'u1'))) AS work FROM ({SERIES}) WHERE cluster = 'c2' GROUP BY NULL",
     ),
     (
         f"{{{ALL};{ALL}}}|join|group_by [], count()",
@@ -117,10 +136,15 @@ def add_records(base, records):
     base.executemany("INSERT INTO totals VALUES (?, ?, ?, ?, ?, ?, ?)", rows["/served"])
 
 
-def table(base, sql):
+def table(base, sql, moment=MOMENT):
     """What a query prints that means the same as an SQL query whose rows stand in one time."""
-    found = base.execute(sql)
+    found = base.execute(END.sub(lambda end: f"{end[1]}{int(end[2]) + moment - MOMENT}", sql))
     names = ["time"] + [column[0] for column in found.description]
     rows = sorted(found)
-    lines = [",".join(map(str, row)) for row in [names] + [(MOMENT, *row) for row in rows]]
+    lines = [",".join(map(str, row)) for row in [names] + [(moment, *row) for row in rows]]
     return "".join(f"{line}\n" for line in [*lines, f"{len(rows)} rows"])
+
+
+def tables(base, sql, moments):
+    """What such a query prints that is followed."""
+    return "".join(f"at {moment}:\n{table(base, sql, moment)}" for moment in moments)

@@ -29,7 +29,8 @@ use Rattle.typed_rows.proofs.FetchedTrees.{AllFit}
 use Rattle.typed_rows.proofs.TypedTrees.{AreRows}
 use Rattle.mixer.proofs.ApartTrees as apart_trees
 use Rattle.mixer.proofs.LocalTrees.{IsLocal, MakesWhole}
-use Rattle.mixer.proofs.StemmingTrees.{HasHome}
+use Rattle.mixer.proofs.FixingTrees.{AreFixing}
+use Rattle.mixer.proofs.StemmingPoints.{HasHome}
 
 counted_sum : (b : Bool) (n k m : ℕ) → (b ≡ true → n ≡ k + m) → counted_if b n ≡ counted_if b k + counted_if b m
 counted_sum true n k m e = e refl
@@ -70,44 +71,44 @@ module _ {H : Type 0} (Says : H → Anchor → Value → Type 0) (held : SchemaL
       ∙ length-append one other in
       omega (arith, reached-append grid by input xs ys, rows)
 
-  joined_load : (tree : NodeTree) → AreRows held tree → IsLocal Says held here tree → here (level_of tree) ≡ true
-      → MakesWhole grid xs tree → MakesWhole grid ys tree
+  joined_load : (tree : NodeTree) → AreRows held tree → IsLocal Says held here tree → AreFixing tree
+      → here (level_of tree) ≡ true → MakesWhole grid xs tree → MakesWhole grid ys tree
       → length (rows_meant grid tree (xs ++ ys)) ≡ length (rows_meant grid tree xs) + length (rows_meant grid tree ys)
-  joined_load tree own local at whole more =
+  joined_load tree own local fixing at whole more =
       let one = rows_meant grid tree xs in
       let other = rows_meant grid tree ys in
       let long : length (rows_meant grid tree (xs ++ ys)) ≡ length (one ++ other) =
       sym (length_permutation _ (one ++ other)
       (apart_trees.tree-apart Says held IsHome of_field one_home at_least alike here grid P Q apart xs ys fit more_fit
-      homes more_homes tree own local at whole more)) in
+      homes more_homes tree own local fixing at whole more)) in
       long ∙ length-append one other
 
-  pub loads-apart : (tree : NodeTree) → AreRows held tree → IsLocal Says held here tree
+  pub loads-apart : (tree : NodeTree) → AreRows held tree → IsLocal Says held here tree → AreFixing tree
       → MakesWhole grid xs tree → MakesWhole grid ys tree
       → load_at counts grid tree (xs ++ ys) ≡ load_at counts grid tree xs + load_at counts grid tree ys
-  loads-apart (node.Fetch info schema metric) own local whole more = refl
-  loads-apart (node.Filter info by input) own local whole more = loads-apart input own.1 local.1 whole more
-  loads-apart (node.Align info by input) own local whole more =
+  loads-apart (node.Fetch info schema metric) own local fixing whole more = refl
+  loads-apart (node.Filter info by input) own local fixing whole more = loads-apart input own.1 local.1 fixing.1.1 whole more
+  loads-apart (node.Align info by input) own local fixing whole more =
       counted_sum (counts info.level) _ _ _ (λ e. aligned_load by input)
-  loads-apart (node.GroupBy info by with input) own local whole more =
-      loads-apart input own.1 local.1 whole.1 more.1
-  loads-apart (node.Value info items input) own local whole more = loads-apart input own.1 local.1 whole.1 more.1
-  loads-apart (node.Top info most column input) own local whole more = loads-apart input own.1 local.1 whole more
-  loads-apart (node.Join info left right) own local whole more =
+  loads-apart (node.GroupBy info by with input) own local fixing whole more =
+      loads-apart input own.1 local.1 fixing.1 whole.1 more.1
+  loads-apart (node.Value info items input) own local fixing whole more = loads-apart input own.1 local.1 fixing.1 whole.1 more.1
+  loads-apart (node.Top info most column input) own local fixing whole more = loads-apart input own.1 local.1 fixing.1 whole more
+  loads-apart (node.Join info left right) own local fixing whole more =
       let tree = node.Join info left right in
       let pairs : counted_if (counts info.level) (length (rows_meant grid tree (xs ++ ys)))
       ≡ counted_if (counts info.level) (length (rows_meant grid tree xs))
       + counted_if (counts info.level) (length (rows_meant grid tree ys)) =
-      counted_sum (counts info.level) _ _ _ (λ e. joined_load tree own local (within info.level e) whole more) in
+      counted_sum (counts info.level) _ _ _ (λ e. joined_load tree own local fixing (within info.level e) whole more) in
       omega (
         arith,
-        loads-apart left own.1.0 local.1.0 whole.0 more.0,
-        loads-apart right own.1.1 local.1.1 whole.1 more.1,
+        loads-apart left own.1.0 local.1.0 fixing.1.0 whole.0 more.0,
+        loads-apart right own.1.1 local.1.1 fixing.1.1 whole.1 more.1,
         pairs,
       )
-  loads-apart (node.Union info left right) own local whole more =
+  loads-apart (node.Union info left right) own local fixing whole more =
       omega (
         arith,
-        loads-apart left own.1.0 local.1.0 whole.0 more.0,
-        loads-apart right own.1.1 local.1.1 whole.1 more.1,
+        loads-apart left own.1.0 local.1.0 fixing.1.0 whole.0 more.0,
+        loads-apart right own.1.1 local.1.1 fixing.1.1 whole.1 more.1,
       )

@@ -27,7 +27,8 @@ use Rattle.typed_rows.proofs.TypedTrees.{AreRows}
 use Rattle.mixer.specs.Mixing.{SamePieces, joined_pieces, no_pieces}
 use Rattle.mixer.proofs.ApartTrees as apart_trees
 use Rattle.mixer.proofs.LocalTrees.{IsLocal, MakesWhole}
-use Rattle.mixer.proofs.StemmingTrees.{HasHome}
+use Rattle.mixer.proofs.FixingTrees.{AreFixing}
+use Rattle.mixer.proofs.StemmingPoints.{HasHome}
 use Rattle.mon_value.proofs.PlainLemmas.{all_append}
 
 -- ---- pieces that are the same
@@ -138,8 +139,8 @@ module _ {H : Type 0} (Says : H → Anchor → Value → Type 0) (held : SchemaL
     (xs ys : List Row) (fit : AllFit held xs) (more_fit : AllFit held ys)
     (homes : AllByRecursion (λ (row : Row). HasHome Says held IsHome of_field P row.key.target) xs)
     (more_homes : AllByRecursion (λ (row : Row). HasHome Says held IsHome of_field Q row.key.target) ys) where
-  splits : (tree : NodeTree) → AreRows held tree → IsLocal Says held here tree → here (level_of tree) ≡ true
-      → MakesWhole grid xs tree → MakesWhole grid ys tree → Splits grid xs ys tree
+  splits : (tree : NodeTree) → AreRows held tree → IsLocal Says held here tree → AreFixing tree
+      → here (level_of tree) ≡ true → MakesWhole grid xs tree → MakesWhole grid ys tree → Splits grid xs ys tree
   splits =
       apart_trees.tree-apart Says held IsHome of_field one_home at_least alike here grid P Q apart xs ys fit more_fit
       homes more_homes
@@ -147,51 +148,51 @@ module _ {H : Type 0} (Says : H → Anchor → Value → Type 0) (held : SchemaL
   abbrev AllSplit : List TopPart → Type 0
   AllSplit parts = AllByRecursion (λ (part : TopPart). Splits grid xs ys part.1) parts
 
-  parts_split : (tree : NodeTree) → AreRows held tree → IsLocal Says held here tree
+  parts_split : (tree : NodeTree) → AreRows held tree → IsLocal Says held here tree → AreFixing tree
       → MakesWhole grid xs tree → MakesWhole grid ys tree → AllSplit (top_parts here tree)
-  parts_split (node.Fetch info schema metric) own local whole more = (IsPermutation-refl [], tt)
-  parts_split (node.Filter info by input) own local whole more =
+  parts_split (node.Fetch info schema metric) own local fixing whole more = (IsPermutation-refl [], tt)
+  parts_split (node.Filter info by input) own local fixing whole more =
       let tree = node.Filter info by input in
       all_or (Splits grid xs ys) (here info.level) _ tree (top_parts here input)
-      (λ e. splits tree own local e whole more) (parts_split input own.1 local.1 whole more)
-  parts_split (node.Align info by input) own local whole more = (
+      (λ e. splits tree own local fixing e whole more) (parts_split input own.1 local.1 fixing.1.1 whole more)
+  parts_split (node.Align info by input) own local fixing whole more = (
     apart_trees.equal_lists _ _
         (apart_trees.align-apart Says held IsHome of_field one_home at_least alike here grid P Q apart xs ys fit
         more_fit homes more_homes by input),
     tt,
   )
-  parts_split (node.GroupBy info by with input) own local whole more =
+  parts_split (node.GroupBy info by with input) own local fixing whole more =
       let tree = node.GroupBy info by with input in
       all_or (Splits grid xs ys) (here info.level) _ tree (part_or (here (level_of input)) _ input _)
-      (λ e. splits tree own local e whole more)
+      (λ e. splits tree own local fixing e whole more)
       (all_or (Splits grid xs ys) (here (level_of input)) _ input (top_parts here input)
-      (λ e. splits input own.1 local.1 e whole.1 more.1) (parts_split input own.1 local.1 whole.1 more.1))
-  parts_split (node.Value info items input) own local whole more =
+      (λ e. splits input own.1 local.1 fixing.1 e whole.1 more.1) (parts_split input own.1 local.1 fixing.1 whole.1 more.1))
+  parts_split (node.Value info items input) own local fixing whole more =
       let tree = node.Value info items input in
       all_or (Splits grid xs ys) (here info.level) _ tree (top_parts here input)
-      (λ e. splits tree own local e whole more) (parts_split input own.1 local.1 whole.1 more.1)
-  parts_split (node.Top info most column input) own local whole more =
+      (λ e. splits tree own local fixing e whole more) (parts_split input own.1 local.1 fixing.1 whole.1 more.1)
+  parts_split (node.Top info most column input) own local fixing whole more =
       let tree = node.Top info most column input in
       all_or (Splits grid xs ys) (here info.level) _ tree (part_or (here (level_of input)) _ input _)
-      (λ e. splits tree own local e whole more)
+      (λ e. splits tree own local fixing e whole more)
       (all_or (Splits grid xs ys) (here (level_of input)) _ input (top_parts here input)
-      (λ e. splits input own.1 local.1 e whole more) (parts_split input own.1 local.1 whole more))
-  parts_split (node.Join info left right) own local whole more =
+      (λ e. splits input own.1 local.1 fixing.1 e whole more) (parts_split input own.1 local.1 fixing.1 whole more))
+  parts_split (node.Join info left right) own local fixing whole more =
       let tree = node.Join info left right in
       all_or (Splits grid xs ys) (here info.level) _ tree (top_parts here left ++ top_parts here right)
-      (λ e. splits tree own local e whole more)
+      (λ e. splits tree own local fixing e whole more)
       (all_append (λ (part : TopPart). Splits grid xs ys part.1) (top_parts here left) (top_parts here right)
-      (parts_split left own.1.0 local.1.0 whole.0 more.0) (parts_split right own.1.1 local.1.1 whole.1 more.1))
-  parts_split (node.Union info left right) own local whole more =
+      (parts_split left own.1.0 local.1.0 fixing.1.0 whole.0 more.0) (parts_split right own.1.1 local.1.1 fixing.1.1 whole.1 more.1))
+  parts_split (node.Union info left right) own local fixing whole more =
       let tree = node.Union info left right in
       all_or (Splits grid xs ys) (here info.level) _ tree (top_parts here left ++ top_parts here right)
-      (λ e. splits tree own local e whole more)
+      (λ e. splits tree own local fixing e whole more)
       (all_append (λ (part : TopPart). Splits grid xs ys part.1) (top_parts here left) (top_parts here right)
-      (parts_split left own.1.0 local.1.0 whole.0 more.0) (parts_split right own.1.1 local.1.1 whole.1 more.1))
+      (parts_split left own.1.0 local.1.0 fixing.1.0 whole.0 more.0) (parts_split right own.1.1 local.1.1 fixing.1.1 whole.1 more.1))
 
-  pub pieces-apart : (tree : NodeTree) → AreRows held tree → IsLocal Says held here tree
+  pub pieces-apart : (tree : NodeTree) → AreRows held tree → IsLocal Says held here tree → AreFixing tree
       → MakesWhole grid xs tree → MakesWhole grid ys tree
       → SamePieces (pieces_meant here grid tree (xs ++ ys))
       (joined_pieces (pieces_meant here grid tree xs) (pieces_meant here grid tree ys))
-  pieces-apart tree own local whole more =
-      pieces_split grid xs ys (top_parts here tree) (parts_split tree own local whole more)
+  pieces-apart tree own local fixing whole more =
+      pieces_split grid xs ys (top_parts here tree) (parts_split tree own local fixing whole more)

@@ -10,7 +10,7 @@ use Rattle.std.proofs.lemmas.List.Elements.{filter-append}
 use Rattle.mon_value.specs.Grids.{aligned_values}
 use Rattle.mon_value.specs.Groups.{group_key, group_row, group_rows, rows_by_group}
 use Rattle.mon_value.specs.Tables.{is_pair, pair_of, pairs_of}
-use Rattle.mon_value.specs.Same.{items_by_key, same_row}
+use Rattle.mon_value.specs.Same.{same_row}
 use Rattle.mon_value.specs.Order.{row_of}
 use Rattle.mon_value.specs.LeafHistories.{points_by_series}
 use Rattle.mon_value.specs.declared.aggregates.Aggregate.{Aggregate}
@@ -32,6 +32,10 @@ use Rattle.typed_trees.specs.Levels.{is_location_anchor, same_anchor}
 use Rattle.typed_trees.specs.Meaning.{aligned_rows}
 use Rattle.mon_meaning.proofs.ApartKeys.{items_by_key-apart}
 use Rattle.mon_meaning.proofs.ApartSeries.{series-apart}
+use Rattle.typed_trees.specs.FixedColumns.{fixed_columns}
+use Rattle.typed_trees.specs.declared.fixed.Fixed.{Fixed}
+use Rattle.mixer.proofs.FixedHomes.{Fixes, literals}
+use Rattle.mixer.proofs.HeldCells as held_cells
 use Rattle.mixer.proofs.HeldCells.{Stems, Tell}
 use Rattle.mixer.proofs.PairHomes as pair_homes
 use Rattle.mixer.proofs.StemmingRows.{AllStem, keys_stem, pair_agrees}
@@ -51,6 +55,42 @@ module _ (P Q : SeriesKey → Type 0) (apart : (key : SeriesKey) → P key → Q
       ap (flat_map made) (series-apart P Q apart xs ys p q) ∙ flat_map-append made (points_by_series xs)
       (points_by_series ys)
 
+-- ---- groups
+
+module _ {H : Type 0} (Says : H → Anchor → Value → Type 0) (P Q : H → Type 0)
+    (apart : (home : H) → P home → Q home → ⊥) (columns : List Column) (by : List ℕ) (fixed : List Fixed)
+    (tell : Tell Says (key_columns_at columns by ++ fixed_columns columns fixed)) where
+  abbrev Listed : (H → Type 0) → TimedRow → Type 0
+  Listed R key = Stems Says (Fixes Says R fixed columns) (key_columns_at columns by) key.cells
+
+  -- homes that say the same of the listed cells and the same literals are one, so no group has rows of both sides
+  cells_apart : (key : TimedRow) → Listed P key → Listed Q key → ⊥
+  cells_apart key p q =
+      let listed = key_columns_at columns by in
+      let others = fixed_columns columns fixed in
+      let agree = literals Says p.home q.home columns fixed p.from.1 q.from.1 in
+      let one : p.home ≡ q.home =
+      tell p.home q.home (key.cells ++ agree.cells)
+      (held_cells.Holds-append Says p.home listed others key.cells agree.cells p.holds agree.left)
+      (held_cells.Holds-append Says q.home listed others key.cells agree.cells q.holds agree.right) in
+      apart q.home (subst P one p.from.0) q.from.0
+
+  groups-apart : (xs ys : List TimedRow) → AllStem Says (Fixes Says P fixed columns) columns xs
+      → AllStem Says (Fixes Says Q fixed columns) columns ys
+      → rows_by_group by (xs ++ ys) ≡ rows_by_group by xs ++ rows_by_group by ys
+  groups-apart xs ys p q =
+      items_by_key-apart same_row same_row-Decides (group_key by) (Listed P) (Listed Q) cells_apart xs ys
+      (keys_stem Says (Fixes Says P fixed columns) columns by xs p)
+      (keys_stem Says (Fixes Says Q fixed columns) columns by ys q)
+
+  pub group_rows-apart : (with : List Aggregate) (xs ys : List TimedRow)
+      → AllStem Says (Fixes Says P fixed columns) columns xs
+      → AllStem Says (Fixes Says Q fixed columns) columns ys
+      → group_rows by with (xs ++ ys) ≡ group_rows by with xs ++ group_rows by with ys
+  group_rows-apart with xs ys p q =
+      ap (map (group_row with)) (groups-apart xs ys p q)
+      ∙ map-append (group_row with) (rows_by_group by xs) (rows_by_group by ys)
+
 -- ---- pairs of which some rows have none
 
 none_by : (b : Bool) (x : TimedRow) (xs : List TimedRow) → b ≡ false → xs ≡ [] → cond b (x ∷ xs) xs ≡ []
@@ -61,32 +101,6 @@ module _ {H : Type 0} (Says : H → Anchor → Value → Type 0) (held : SchemaL
     → Says home anchor.Location x)
     (alike : (home : H) (a b : Anchor) (x : Value) → same_anchor a b ≡ true → Says home b x → Says home a x)
     (P Q : H → Type 0) (apart : (home : H) → P home → Q home → ⊥) where
-  -- no cells in columns that tell the home stem from both sides
-  cells_apart : (columns : List Column) → Tell Says columns → (cells : List Value) → Stems Says P columns cells
-      → Stems Says Q columns cells → ⊥
-  cells_apart columns tell cells p q =
-      let one : p.home ≡ q.home = tell p.home q.home cells p.holds q.holds in
-      apart q.home (subst P one p.from) q.from
-
-  -- ---- groups
-
-  pub groups-apart : (columns : List Column) (by : List ℕ) → Tell Says (key_columns_at columns by)
-      → (xs ys : List TimedRow) → AllStem Says P columns xs → AllStem Says Q columns ys
-      → rows_by_group by (xs ++ ys) ≡ rows_by_group by xs ++ rows_by_group by ys
-  groups-apart columns by tell xs ys p q =
-      let listed = key_columns_at columns by in
-      items_by_key-apart same_row same_row-Decides (group_key by) (λ key. Stems Says P listed key.cells)
-      (λ key. Stems Says Q listed key.cells) (λ key. cells_apart listed tell key.cells) xs ys
-      (keys_stem Says P columns by xs p) (keys_stem Says Q columns by ys q)
-
-  pub group_rows-apart : (columns : List Column) (by : List ℕ) (with : List Aggregate)
-      → Tell Says (key_columns_at columns by) → (xs ys : List TimedRow)
-      → AllStem Says P columns xs → AllStem Says Q columns ys
-      → group_rows by with (xs ++ ys) ≡ group_rows by with xs ++ group_rows by with ys
-  group_rows-apart columns by with tell xs ys p q =
-      ap (map (group_row with)) (groups-apart columns by tell xs ys p q)
-      ∙ map-append (group_row with) (rows_by_group by xs) (rows_by_group by ys)
-
   -- ---- pairs
 
   no_pair : (lefts rights : List Column) → Tell Says (common_columns held lefts rights) → (left right : TimedRow)

@@ -25,7 +25,7 @@ use Rattle.mql_ast.specs.Rows.{predicate_truth}
 use Rattle.typed_trees.specs.Levels.{is_location_anchor, same_anchor}
 use Rattle.typed_trees.specs.Meaning.{aligned_rows, is_fetched, is_point_kept, points_meant, rows_meant, value_row}
 use Rattle.typed_trees.specs.Nodes as node
-use Rattle.typed_trees.specs.Nodes.{NodeTree, columns_of, level_of}
+use Rattle.typed_trees.specs.Nodes.{NodeTree, columns_of, fixed_of, level_of}
 use Rattle.typed_trees.specs.declared.levels.Level.{Level}
 use Rattle.typed_rows.proofs.FetchedTrees.{AllFit}
 use Rattle.typed_rows.proofs.TypedTrees.{AreRows}
@@ -33,9 +33,11 @@ use Rattle.mon_meaning.proofs.FilterLemmas.{filter_map-permutation}
 use Rattle.mon_meaning.proofs.OperationOrders.{group_rows-permutation, pairs-permutation}
 use Rattle.mixer.proofs.ApartRows.{aligned-apart}
 use Rattle.mixer.proofs.ApartRows as apart_rows
+use Rattle.mixer.proofs.FixedHomes.{Fixes}
 use Rattle.mixer.proofs.LocalTrees.{IsLocal, MakesWhole}
-use Rattle.mixer.proofs.StemmingRows.{AllStem}
-use Rattle.mixer.proofs.StemmingTrees.{HasHome, all_points}
+use Rattle.mixer.proofs.FixingTrees.{AreFixing}
+use Rattle.mixer.proofs.StemmingPoints.{HasHome, all_points}
+use Rattle.mixer.proofs.StemmingRows.{AllStem, stems_so}
 use Rattle.mixer.proofs.StemmingTrees as stemming
 
 -- ---- lists
@@ -100,43 +102,54 @@ module _ {H : Type 0} (Says : H → Anchor → Value → Type 0) (held : SchemaL
       (all_points (λ (row : Row). HasHome Says held IsHome of_field P row.key.target) input xs homes)
       (all_points (λ (row : Row). HasHome Says held IsHome of_field Q row.key.target) input ys more_homes)
 
-  one_stems : (tree : NodeTree) → AreRows held tree → IsLocal Says held here tree → here (level_of tree) ≡ true
-      → MakesWhole grid xs tree → AllStem Says P (columns_of tree) (rows_meant grid tree xs)
+  abbrev Stemming : (H → Type 0) → List Row → NodeTree → Type 0
+  Stemming R rows tree =
+      AllStem Says (Fixes Says R (fixed_of tree) (columns_of tree)) (columns_of tree) (rows_meant grid tree rows)
+
+  one_stems : (tree : NodeTree) → AreRows held tree → IsLocal Says held here tree → AreFixing tree
+      → here (level_of tree) ≡ true → MakesWhole grid xs tree → Stemming P xs tree
   one_stems = stemming.tree_stems Says held IsHome of_field at_least alike here grid P xs fit homes
 
-  other_stems : (tree : NodeTree) → AreRows held tree → IsLocal Says held here tree → here (level_of tree) ≡ true
-      → MakesWhole grid ys tree → AllStem Says Q (columns_of tree) (rows_meant grid tree ys)
+  other_stems : (tree : NodeTree) → AreRows held tree → IsLocal Says held here tree → AreFixing tree
+      → here (level_of tree) ≡ true → MakesWhole grid ys tree → Stemming Q ys tree
   other_stems = stemming.tree_stems Says held IsHome of_field at_least alike here grid Q ys more_fit more_homes
 
-  pub tree-apart : (tree : NodeTree) → AreRows held tree → IsLocal Says held here tree → here (level_of tree) ≡ true
-      → MakesWhole grid xs tree → MakesWhole grid ys tree
+  -- without what is fixed
+  plainly : (R : H → Type 0) (rows : List Row) (tree : NodeTree) → Stemming R rows tree
+      → AllStem Says R (columns_of tree) (rows_meant grid tree rows)
+  plainly R rows tree all =
+      stems_so Says (Fixes Says R (fixed_of tree) (columns_of tree)) R (λ home from. from.0) (columns_of tree)
+      (rows_meant grid tree rows) all
+
+  pub tree-apart : (tree : NodeTree) → AreRows held tree → IsLocal Says held here tree → AreFixing tree
+      → here (level_of tree) ≡ true → MakesWhole grid xs tree → MakesWhole grid ys tree
       → IsPermutation (rows_meant grid tree (xs ++ ys)) (rows_meant grid tree xs ++ rows_meant grid tree ys)
-  tree-apart (node.Fetch info schema metric) own local at whole more = IsPermutation-refl []
-  tree-apart (node.Filter info by input) own local at whole more =
+  tree-apart (node.Fetch info schema metric) own local fixing at whole more = IsPermutation-refl []
+  tree-apart (node.Filter info by input) own local fixing at whole more =
       let test : TimedRow → Bool = λ row. predicate_truth by info.columns row.cells in
       let one = rows_meant grid input xs in
       let other = rows_meant grid input ys in
       same_then _ _ _
-      (filter-permutation test _ (one ++ other) (tree-apart input own.1 local.1 (local.0 at) whole more))
+      (filter-permutation test _ (one ++ other) (tree-apart input own.1 local.1 fixing.1.1 (local.0 at) whole more))
       (filter-append test one other)
-  tree-apart (node.Align info by input) own local at whole more = equal_lists _ _ (align-apart by input)
-  tree-apart (node.GroupBy info by with input) own local at whole more =
+  tree-apart (node.Align info by input) own local fixing at whole more = equal_lists _ _ (align-apart by input)
+  tree-apart (node.GroupBy info by with input) own local fixing at whole more =
       let below = local.0 at in
       let one = rows_meant grid input xs in
       let other = rows_meant grid input ys in
       same_then _ _ _
-      (group_rows-permutation by with _ (one ++ other) (tree-apart input own.1 local.1 below.0 whole.1 more.1))
-      (apart_rows.group_rows-apart Says held at_least alike P Q apart (columns_of input) by with below.1 one other
-      (one_stems input own.1 local.1 below.0 whole.1) (other_stems input own.1 local.1 below.0 more.1))
-  tree-apart (node.Value info items input) own local at whole more =
+      (group_rows-permutation by with _ (one ++ other) (tree-apart input own.1 local.1 fixing.1 below.0 whole.1 more.1))
+      (apart_rows.group_rows-apart Says P Q apart (columns_of input) by (fixed_of input) below.1 with one other
+      (one_stems input own.1 local.1 fixing.1 below.0 whole.1) (other_stems input own.1 local.1 fixing.1 below.0 more.1))
+  tree-apart (node.Value info items input) own local fixing at whole more =
       let one = rows_meant grid input xs in
       let other = rows_meant grid input ys in
       same_then _ _ _
       (filter_map-permutation (value_row (columns_of input) items) _ (one ++ other)
-      (tree-apart input own.1 local.1 (local.0 at) whole.1 more.1))
+      (tree-apart input own.1 local.1 fixing.1 (local.0 at) whole.1 more.1))
       (filter_map-append (value_row (columns_of input) items) one other)
-  tree-apart (node.Top info most column input) own local at whole more = absurd (local.0 at)
-  tree-apart (node.Join info left right) own local at whole more =
+  tree-apart (node.Top info most column input) own local fixing at whole more = absurd (local.0 at)
+  tree-apart (node.Join info left right) own local fixing at whole more =
       let below = local.0 at in
       let one = rows_meant grid left xs in
       let other = rows_meant grid left ys in
@@ -144,13 +157,15 @@ module _ {H : Type 0} (Says : H → Anchor → Value → Type 0) (held : SchemaL
       let last = rows_meant grid right ys in
       same_then _ _ _
       (pairs-permutation (columns_of left) (columns_of right) _ (one ++ other) _ (third ++ last)
-      (tree-apart left own.1.0 local.1.0 below.0.0 whole.0 more.0)
-      (tree-apart right own.1.1 local.1.1 below.0.1 whole.1 more.1))
+      (tree-apart left own.1.0 local.1.0 fixing.1.0 below.0.0 whole.0 more.0)
+      (tree-apart right own.1.1 local.1.1 fixing.1.1 below.0.1 whole.1 more.1))
       (apart_rows.pairs-apart Says held at_least alike P Q apart (columns_of left) (columns_of right) below.1 one other
       third last
-      (one_stems left own.1.0 local.1.0 below.0.0 whole.0) (other_stems left own.1.0 local.1.0 below.0.0 more.0)
-      (one_stems right own.1.1 local.1.1 below.0.1 whole.1) (other_stems right own.1.1 local.1.1 below.0.1 more.1))
-  tree-apart (node.Union info left right) own local at whole more =
+      (plainly P xs left (one_stems left own.1.0 local.1.0 fixing.1.0 below.0.0 whole.0))
+      (plainly Q ys left (other_stems left own.1.0 local.1.0 fixing.1.0 below.0.0 more.0))
+      (plainly P xs right (one_stems right own.1.1 local.1.1 fixing.1.1 below.0.1 whole.1))
+      (plainly Q ys right (other_stems right own.1.1 local.1.1 fixing.1.1 below.0.1 more.1)))
+  tree-apart (node.Union info left right) own local fixing at whole more =
       let below = local.0 at in
       let one = rows_meant grid left xs in
       let other = rows_meant grid left ys in
@@ -158,6 +173,6 @@ module _ {H : Type 0} (Says : H → Anchor → Value → Type 0) (held : SchemaL
       let last = rows_meant grid right ys in
       IsPermutation-trans _ _ _
       (IsPermutation-append _ (one ++ other) _ (third ++ last)
-      (tree-apart left own.1.0 local.1.0 below.0 whole.0 more.0)
-      (tree-apart right own.1.1 local.1.1 below.1 whole.1 more.1))
+      (tree-apart left own.1.0 local.1.0 fixing.1.0 below.0 whole.0 more.0)
+      (tree-apart right own.1.1 local.1.1 fixing.1.1 below.1 whole.1 more.1))
       (middle_exchanged one other third last)

@@ -11,7 +11,6 @@ use Rattle.mql_ast.specs.declared.pipes.How.{How}
 use Rattle.mql_ast.specs.declared.pipes.How.TheVariants as how
 use Rattle.std.specs.Prelude.{ℕ, ℤ}
 use Rattle.typed_trees.specs.Branches.{common_columns}
-use Rattle.typed_trees.specs.Groupings.{key_columns_at}
 use Rattle.typed_trees.specs.Levels.{higher_level, is_leaf, is_located, meeting_level, tell_target, in_zone}
 use Rattle.typed_trees.specs.Nodes as node
 use Rattle.typed_trees.specs.Nodes.{NodeTree, TypedTree, columns_of, level_of}
@@ -22,6 +21,7 @@ use Rattle.typed_trees.specs.declared.levels.Level.{Level}
 use Rattle.typed_trees.specs.declared.levels.Level.TheVariants as level
 use Rattle.typed_trees.proofs.FetchColumnLemmas.{typed_without_faults}
 use Rattle.mon_schema.specs.Fits.{TellsLocation}
+use Rattle.typed_trees.specs.FixedColumns.{meeting_columns}
 use Rattle.mixer.proofs.LeafHomes.{TargetSays, target_told}
 use Rattle.mixer.proofs.LocalTrees.{IsLocal}
 use Rattle.mixer.proofs.ZoneHomes.{LocationSays, location_told, target_located}
@@ -32,7 +32,7 @@ AreLevelled held (node.Fetch info schema metric) = info.level ≡ level.Leaf
 AreLevelled held (node.Filter info by input) = (info.level ≡ level_of input) × AreLevelled held input
 AreLevelled held (node.Align info by input) = (info.level ≡ level_of input) × AreLevelled held input
 AreLevelled held (node.GroupBy info by with input) =
-    (info.level ≡ meeting_level held (level_of input) (key_columns_at (columns_of input) by)) × AreLevelled held input
+    (info.level ≡ meeting_level held (level_of input) (meeting_columns by input)) × AreLevelled held input
 AreLevelled held (node.Value info items input) = (info.level ≡ level_of input) × AreLevelled held input
 AreLevelled held (node.Top info most column input) = (info.level ≡ level.Root) × AreLevelled held input
 AreLevelled held (node.Join info left right) =
@@ -155,9 +155,9 @@ leaf_local held (node.Filter info by input) own =
 leaf_local held (node.Align info by input) own = tt
 leaf_local held (node.GroupBy info by with input) own = (
   λ e.
-      let meets = leaf_meets held (level_of input) (key_columns_at (columns_of input) by)
+      let meets = leaf_meets held (level_of input) (meeting_columns by input)
       (moved is_leaf info.level _ own.0 e) in
-      (meets.0, target_told held (key_columns_at (columns_of input) by) meets.1),
+      (meets.0, target_told held (meeting_columns by input) meets.1),
   leaf_local held input own.1,
 )
 leaf_local held (node.Value info items input) own =
@@ -216,9 +216,9 @@ zone_local held tell (node.Filter info by input) own =
 zone_local held tell (node.Align info by input) own = tt
 zone_local held tell (node.GroupBy info by with input) own = (
   λ e.
-      let meets = zone_meets held tell (level_of input) (key_columns_at (columns_of input) by)
+      let meets = zone_meets held tell (level_of input) (meeting_columns by input)
       (moved in_zone info.level _ own.0 e) in
-      (meets.0, location_told held (key_columns_at (columns_of input) by) meets.1),
+      (meets.0, location_told held (meeting_columns by input) meets.1),
   zone_local held tell input own.1,
 )
 zone_local held tell (node.Value info items input) own =

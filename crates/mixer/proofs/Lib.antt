@@ -4,6 +4,9 @@ pub mod ApartPieces
 pub mod ApartRows
 pub mod ApartTargets
 pub mod ApartTrees
+pub mod FixedHomes
+pub mod FixedTables
+pub mod FixingTrees
 pub mod HeldCells
 pub mod JoinLoads
 pub mod JoinedPieces
@@ -25,6 +28,7 @@ pub mod PushedDown
 pub mod RefusedParts
 pub mod SameTables
 pub mod Sides
+pub mod StemmingPoints
 pub mod StemmingRows
 pub mod StemmingTrees
 pub mod TopMerges

@@ -6,23 +6,23 @@ use Rattle.mon_value.specs.declared.rows.Row.{Row}
 use Rattle.mon_value.specs.declared.values.Value.{Value}
 use Rattle.mon_schema.specs.Names.{SchemaLists}
 use Rattle.typed_trees.specs.Branches.{common_columns}
-use Rattle.typed_trees.specs.Groupings.{key_columns_at}
 use Rattle.typed_trees.specs.Meaning.{rows_meant}
 use Rattle.typed_trees.specs.Nodes as node
 use Rattle.typed_trees.specs.Nodes.{NodeTree, columns_of, level_of}
 use Rattle.typed_trees.specs.declared.levels.Level.{Level}
+use Rattle.typed_trees.specs.FixedColumns.{meeting_columns}
 use Rattle.mixer.proofs.HeldCells.{Tell}
 use Rattle.mixer.proofs.StemmingRows.{AreWhole}
 
 -- what is done at some levels takes only what is done there too; it brings together rows that agree in columns that
--- tell their home; and no `top` is done there
+-- tell their home, or in which one literal is fixed; and no `top` is done there
 module _ {H : Type 0} (Says : H → Anchor → Value → Type 0) (held : SchemaLists) (here : Level → Bool) where
   abbrev pub IsLocal : NodeTree → Type 0
   IsLocal (node.Fetch info schema metric) = Unit {0}
   IsLocal (node.Filter info by input) = (here info.level ≡ true → here (level_of input) ≡ true) × IsLocal input
   IsLocal (node.Align info by input) = Unit {0}
   IsLocal (node.GroupBy info by with input) =
-      (here info.level ≡ true → (here (level_of input) ≡ true) × Tell Says (key_columns_at (columns_of input) by))
+      (here info.level ≡ true → (here (level_of input) ≡ true) × Tell Says (meeting_columns by input))
       × IsLocal input
   IsLocal (node.Value info items input) = (here info.level ≡ true → here (level_of input) ≡ true) × IsLocal input
   IsLocal (node.Top info most column input) = (here info.level ≡ true → ⊥) × IsLocal input

@@ -16,7 +16,9 @@ use Rattle.typed_trees.specs.Meaning.{load, load_of, grid_of, meaning, rows_mean
 use Rattle.typed_trees.specs.Nodes.{NodeTree, TypedTree}
 use Rattle.typed_trees.specs.Soundness.{IsTyped}
 use Rattle.typed_rows.proofs.FetchedTrees.{AllFit}
+use Rattle.typed_rows.proofs.FixedTrees.{query_fixed}
 use Rattle.typed_rows.proofs.JoinedRows.{all-front}
+use Rattle.typed_rows.proofs.NamedTrees.{filters_name}
 use Rattle.typed_rows.proofs.TypedGridLemmas.{typed_grid}
 use Rattle.typed_rows.proofs.TypedQueries.{query_ruled}
 use Rattle.mixer.specs.Divisions.{IsDivided, ShareNoLocation, all_rows, together}
@@ -26,6 +28,7 @@ use Rattle.mixer.specs.Mixing.{SamePieces, joined_pieces, joins_mixed, mixed_loa
 use Rattle.mixer.specs.Mixing.{pieces_together, root_joins, rows_mixed, zone_answer, zone_joins, zone_mixed}
 use Rattle.mixer.specs.Mixing.{zone_pieces}
 use Rattle.mixer.proofs.ApartPieces.{SamePieces-refl, SamePieces-trans, joined_pieces-same, pieces_none}
+use Rattle.mixer.proofs.FixingTrees.{are_fixing}
 use Rattle.mixer.proofs.JoinLoads.{joins_mixed-load, joins_mixed-same, local_closed}
 use Rattle.mixer.proofs.LeafHomes.{TargetSays}
 use Rattle.mixer.proofs.ZoneHomes.{LocationSays}
@@ -213,6 +216,8 @@ typed_planned typed rows moment from of =
       lawful = lawful;
       ruled = query_ruled of.held of.metrics of.query of.spelled of.durations typed of.is lawful.every;
       levelled = query_levelled of.held of.query typed of.is;
+      fixing = are_fixing typed.tree (query_fixed of.held of.query typed of.is)
+          (filters_name of.held of.query typed of.is);
     }
 
 -- the root's table is the meaning over all rows

@@ -123,7 +123,7 @@ module _ {H : Type 0} (Says : H → Anchor → Value → Type 0) (held : SchemaL
 
   -- ---- what a pair holds
 
-  joined_says : (home : H) (c : Column) (o : Option Column) (x : Value) → SaysIf Says home c.anchor x
+  pub joined_says : (home : H) (c : Column) (o : Option Column) (x : Value) → SaysIf Says home c.anchor x
       → SaysIf Says home (as_joined (unwrap_or (option_map (anchored_with held c) o) c)).anchor x
   joined_says home c None x says = says
   joined_says home c (Some d) x says = left_anchor home c.anchor d.anchor x says

@@ -7,7 +7,7 @@ use Rattle.mon_value.specs.declared.rows.Row.{Row}
 use Rattle.mon_value.specs.declared.columns.Column.{Column}
 use Rattle.mon_schema.specs.Names.{SchemaLists}
 use Rattle.typed_trees.specs.Branches.{common_columns}
-use Rattle.typed_trees.specs.Groupings.{key_columns_at}
+use Rattle.typed_trees.specs.FixedColumns.{meeting_columns}
 use Rattle.typed_trees.specs.LevelLoads.{counted_if, is_zone, load_at}
 use Rattle.typed_trees.specs.Levels.{higher_level, is_leaf, meeting_level, AsRows, PartUse, TopPart, in_zone, part_or}
 use Rattle.typed_trees.specs.Levels.{top_parts}
@@ -182,7 +182,7 @@ zone_closed held (node.Filter info by input) own =
     (λ e. moved in_zone info.level (level_of input) own.0 e, zone_closed held input own.1)
 zone_closed held (node.Align info by input) own = tt
 zone_closed held (node.GroupBy info by with input) own = (
-  λ e. meets_in_zone held (level_of input) (key_columns_at (columns_of input) by) (moved in_zone info.level _ own.0 e),
+  λ e. meets_in_zone held (level_of input) (meeting_columns by input) (moved in_zone info.level _ own.0 e),
   zone_closed held input own.1,
 )
 zone_closed held (node.Value info items input) own =

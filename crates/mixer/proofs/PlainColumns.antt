@@ -17,7 +17,7 @@ use Rattle.typed_rows.proofs.MadeCells.{all-filter_map}
 use Rattle.mixer.proofs.HeldCells.{HasNoAnchor}
 use Rattle.mon_value.proofs.PlainLemmas.{nothing_is, same_item}
 
-units : {A : Type 0} (xs : List A) → AllByRecursion (λ x. Unit {0}) xs
+pub units : {A : Type 0} (xs : List A) → AllByRecursion (λ x. Unit {0}) xs
 units [] = tt
 units (x ∷ xs) = (tt, units xs)
 

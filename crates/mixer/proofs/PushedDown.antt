@@ -20,6 +20,7 @@ use Rattle.mixer.proofs.ApartLoads.{loads-apart}
 use Rattle.mixer.proofs.ApartPieces.{pieces-apart}
 use Rattle.mixer.proofs.LeafHomes.{IsItself, TargetSays, target_alike, target_field, target_located, target_one}
 use Rattle.mixer.proofs.LevelledTrees.{AreLevelled, leaf_local, zone_local}
+use Rattle.mixer.proofs.FixingTrees.{AreFixing}
 use Rattle.mixer.proofs.Sides.{Within, WithinLocations, Without, WithoutLocations, locations_apart, locations_out}
 use Rattle.mixer.proofs.Sides.{locations_within, targets_apart, targets_out, targets_within}
 use Rattle.mixer.proofs.TypedTables.{makes_whole}
@@ -44,6 +45,7 @@ pub record IsPlanned (held : SchemaLists) (grid : Grid) (tree : NodeTree) : Type
   pub lawful : IsLawfulGrid grid
   pub ruled : AreRows held tree
   pub levelled : AreLevelled held tree
+  pub fixing : AreFixing tree
 
 -- ---- two sides
 
@@ -56,6 +58,7 @@ module _ (held : SchemaLists) (grid : Grid) (tree : NodeTree) (of : IsPlanned he
       pieces-apart (TargetSays held) held IsItself (target_field held) target_one (target_located held)
       (target_alike held) is_leaf grid (Without ys) (Within ys) (targets_apart ys) xs ys fit more
       (targets_out held xs ys apart) (targets_within held ys) tree of.ruled (leaf_local held tree of.levelled)
+      of.fixing
       (makes_whole held grid of.lawful xs fit tree of.ruled) (makes_whole held grid of.lawful ys more tree of.ruled)
 
   -- and do together what both do
@@ -65,7 +68,7 @@ module _ (held : SchemaLists) (grid : Grid) (tree : NodeTree) (of : IsPlanned he
       loads-apart (TargetSays held) held IsItself (target_field held) target_one (target_located held)
       (target_alike held) is_leaf grid (Without ys) (Within ys) (targets_apart ys) xs ys fit more
       (targets_out held xs ys apart) (targets_within held ys) is_leaf same_level tree of.ruled
-      (leaf_local held tree of.levelled)
+      (leaf_local held tree of.levelled) of.fixing
       (makes_whole held grid of.lawful xs fit tree of.ruled) (makes_whole held grid of.lawful ys more tree of.ruled)
 
   module _ (tell : AllByRecursion TellsLocation held.targets) where
@@ -78,6 +81,7 @@ module _ (held : SchemaLists) (grid : Grid) (tree : NodeTree) (of : IsPlanned he
         (location_located held) (location_alike held) in_zone grid (WithoutLocations held ys) (WithinLocations held ys)
         (locations_apart held ys) xs ys fit more (locations_out held tell xs ys fit apart)
         (locations_within held tell ys more) tree of.ruled (zone_local held tell tree of.levelled)
+        of.fixing
         (makes_whole held grid of.lawful xs fit tree of.ruled) (makes_whole held grid of.lawful ys more tree of.ruled)
 
     -- and do together what both do, they themselves and their leaves
@@ -89,4 +93,5 @@ module _ (held : SchemaLists) (grid : Grid) (tree : NodeTree) (of : IsPlanned he
         (location_located held) (location_alike held) in_zone grid (WithoutLocations held ys) (WithinLocations held ys)
         (locations_apart held ys) xs ys fit more (locations_out held tell xs ys fit apart)
         (locations_within held tell ys more) counts within tree of.ruled (zone_local held tell tree of.levelled)
+        of.fixing
         (makes_whole held grid of.lawful xs fit tree of.ruled) (makes_whole held grid of.lawful ys more tree of.ruled)

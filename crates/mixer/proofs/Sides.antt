@@ -20,7 +20,7 @@ use Rattle.typed_rows.proofs.JoinedRows.{all-map}
 use Rattle.mixer.specs.Divisions.{ShareNoLocation, has_location, lies_at, together}
 use Rattle.mon_meaning.specs.ReadableSlots.{ShareNoTarget, has_target}
 use Rattle.mixer.proofs.LeafHomes.{IsItself, TargetSays, target_field}
-use Rattle.mixer.proofs.StemmingTrees.{HasHome}
+use Rattle.mixer.proofs.StemmingPoints.{HasHome}
 use Rattle.mixer.proofs.ZoneHomes.{IsLocated, Location, LocationSays, has_location as target_location, location_field}
 use Rattle.mon_value.proofs.PlainLemmas.{all_both, not_both, and_both}
 

@@ -149,42 +149,58 @@ module _ {H : Type 0} (Says : H → Anchor → Value → Type 0) (P : H → Type
       (λ (row : TimedRow). length row.cells ≡ length to → Stems Says P to row.cells) (value_row columns items) rows
       (λ row made own is long. made_stems columns plain items none row made own is long) all) whole
 
+module _ {H : Type 0} (Says : H → Anchor → Value → Type 0) where
+  -- rows of homes of a kind stem from homes of a wider one
+  pub stems_so : (P Q : H → Type 0) → ((home : H) → P home → Q home) → (columns : List Column) (rows : List TimedRow)
+      → AllStem Says P columns rows → AllStem Says Q columns rows
+  stems_so P Q so columns rows all =
+      all-map (λ row. Stems Says P columns row.cells) (λ row. Stems Says Q columns row.cells) rows
+      (λ row own. record { home = own.home; from = so own.home own.from; holds = own.holds }) all
+
 module _ {H : Type 0} (Says : H → Anchor → Value → Type 0) (held : SchemaLists)
     (at_least : (home : H) (a : Anchor) (x : Value) → is_location_anchor held a ≡ true → Says home a x
     → Says home anchor.Location x)
     (alike : (home : H) (a b : Anchor) (x : Value) → same_anchor a b ≡ true → Says home b x → Says home a x)
-    (P : H → Type 0) where
+    (P Q : H → Type 0) where
   -- ---- joins
 
+  -- a pair stems from the home of both of its rows
   one_pair : (lefts rights : List Column) → Tell Says (common_columns held lefts rights) → (left : TimedRow)
-      → Stems Says P lefts left.cells → (right : TimedRow) → Stems Says P rights right.cells
+      → Stems Says P lefts left.cells → (right : TimedRow) → Stems Says Q rights right.cells
       → is_pair lefts rights left right ≡ true
-      → Stems Says P (join_columns held lefts rights) (pair_of lefts rights left right).cells
+      → Stems Says (λ home. P home × Q home) (join_columns held lefts rights) (pair_of lefts rights left right).cells
   one_pair lefts rights tell left own right other pair =
       let agree = pair_homes.agree_in Says held at_least alike own.home other.home rights right.cells other.holds lefts
       left.cells own.holds (pair_agrees lefts rights left right pair) in
       let one : own.home ≡ other.home = tell own.home other.home agree.cells agree.left agree.right in
       record {
         home = own.home;
-        from = own.from;
+        from = (own.from, subst Q (sym one) other.from);
         holds = pair_homes.pair_holds Says held at_least alike own.home lefts rights left right own.holds
             (subst (λ h. Holds Says h rights right.cells) (sym one) other.holds);
       }
 
   pub join_stems : (lefts rights : List Column) → Tell Says (common_columns held lefts rights)
-      → (rows others : List TimedRow) → AllStem Says P lefts rows → AllStem Says P rights others
-      → AllStem Says P (join_columns held lefts rights) (flat_map (pairs_of lefts rights others) rows)
+      → (rows others : List TimedRow) → AllStem Says P lefts rows → AllStem Says Q rights others
+      → AllStem Says (λ home. P home × Q home) (join_columns held lefts rights)
+      (flat_map (pairs_of lefts rights others) rows)
   join_stems lefts rights tell rows others own more =
       let to = join_columns held lefts rights in
-      all-flat_map (λ row. Stems Says P lefts row.cells) (λ row. Stems Says P to row.cells)
+      let R : H → Type 0 = λ home. P home × Q home in
+      all-flat_map (λ row. Stems Says P lefts row.cells) (λ row. Stems Says R to row.cells)
       (pairs_of lefts rights others) rows
-      (λ left l. all-made (λ right. Stems Says P to (pair_of lefts rights left right).cells)
-      (λ row. Stems Says P to row.cells) (pair_of lefts rights left) (filter (is_pair lefts rights left) others)
+      (λ left l. all-made (λ right. Stems Says R to (pair_of lefts rights left right).cells)
+      (λ row. Stems Says R to row.cells) (pair_of lefts rights left) (filter (is_pair lefts rights left) others)
       (λ right s. s)
-      (all_passing (λ right. Stems Says P rights right.cells)
-      (λ right. Stems Says P to (pair_of lefts rights left right).cells) (is_pair lefts rights left) others
+      (all_passing (λ right. Stems Says Q rights right.cells)
+      (λ right. Stems Says R to (pair_of lefts rights left right).cells) (is_pair lefts rights left) others
       (λ right r pair. one_pair lefts rights tell left l right r pair) more)) own
 
+module _ {H : Type 0} (Says : H → Anchor → Value → Type 0) (held : SchemaLists)
+    (at_least : (home : H) (a : Anchor) (x : Value) → is_location_anchor held a ≡ true → Says home a x
+    → Says home anchor.Location x)
+    (alike : (home : H) (a b : Anchor) (x : Value) → same_anchor a b ≡ true → Says home b x → Says home a x)
+    (P : H → Type 0) where
   -- ---- unions
 
   pub union_stems : (lefts rights : List Column) → same_columns lefts rights ≡ true → (rows others : List TimedRow)

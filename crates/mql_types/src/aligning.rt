@@ -33,8 +33,9 @@ pub(crate) fn align_node(
     ensures node { IfOk result (λ node. node_tree node ≡ spec.align_node at by (node_tree input)) }
 {
     let columns = aligned_columns(alloc, by, input.columns())?;
+    let fixed = input.fixed().copy(alloc)?;
     Ok(Node::Align {
-        info: NodeInfo::new(alloc, at, columns, input.info().level)?,
+        info: NodeInfo::new(alloc, at, columns, fixed, input.info().level)?,
         by,
         input: Box::new(alloc, input)?,
     })

@@ -3,6 +3,7 @@ ghost use Rattle.std.specs.Prelude.{◌≡◌, IfOk, OnOk, map, Some, unwrap_or}
 ghost use Rattle.mql_ast.specs.Trees.{deed_tree, item_tree, op_tree, predicate_tree};
 ghost use Rattle.typed_trees.specs.Faults.{first_with};
 ghost use Rattle.typed_trees.specs.Fetches.{condition_faults, predicate_faults};
+ghost use Rattle.typed_trees.specs.FixedColumns.{fixed_by, with_fixed};
 ghost use Rattle.typed_trees.specs.Groupings.{group_faults, place_found};
 ghost use Rattle.typed_trees.specs.Items.{is_number_type, value_faults};
 ghost use Rattle.typed_trees.specs.declared.faults.TypeWord.TheVariants as word;
@@ -17,7 +18,8 @@ use mon_value::{Aligner, Column, Shared, TryCopy};
 use mql_ast::{Aggregate, Items, Name, Op, OpKind, Predicate};
 use std::alloc::{AllocError, Global};
 use typed_columns::{
-    Grouping, NamedColumns, TypingSetting, column_number, tell_predicate, value_columns,
+    Grouping, NamedColumns, TypingSetting, column_number, filtered_fixed, key_fixed,
+    tell_predicate, value_columns,
 };
 use typed_trees::{Faults, Level, Node, NodeInfo};
 
@@ -70,7 +72,7 @@ fn op_part(
     }
 }
 
-// A filter leaves the columns and the level.
+// A filter leaves the columns and the level, and fixes what its equalities say.
 fn filter_part(
     alloc: Global,
     part: Part,
@@ -112,7 +114,7 @@ fn filtered_part(alloc: Global, part: Part, at: u32, by: Predicate) -> Result<Pa
     ensures part { IfOk result (λ made. part_view made
         ≡ spec.filter_part at (predicate_tree by) (part_view part)) }
 {
-    match info_at(alloc, at, part.node.info(), part.node.info().level) {
+    match filter_info(alloc, at, part.node.info(), &by) {
         Ok(info) => {
             let points = part.points;
             match Box::new(alloc, part.node) {
@@ -152,14 +154,21 @@ fn align_part(
     Ok(table(align_node(alloc, Some(at), by, part.node)?))
 }
 
-// What is told of a node at a place, with the columns of another.
-fn info_at(alloc: Global, at: u32, other: &NodeInfo, level: Level) -> Result<NodeInfo, AllocError>
-    ensures info { IfOk result (λ made. made ≡ spec.info (Some at) other.now.columns level) }
+// What is told of a filter.
+fn filter_info(
+    alloc: Global,
+    at: u32,
+    input: &NodeInfo,
+    by: &Predicate,
+) -> Result<NodeInfo, AllocError>
+    ensures info { IfOk result (λ made. made ≡ spec.info (Some at) input.now.columns
+        (with_fixed input.now.fixed (fixed_by (predicate_tree by.now))) input.now.level) }
 {
     Ok(NodeInfo {
         at: Some(at),
-        columns: other.columns.copy(alloc)?,
-        level,
+        columns: input.columns.copy(alloc)?,
+        fixed: filtered_fixed(alloc, &input.fixed, by)?,
+        level: input.level,
     })
 }
 
@@ -188,13 +197,20 @@ fn group_part(
     }
 }
 
-// Groups are made where rows that agree in the listed columns meet.
+// Groups are made where rows meet that agree in the listed columns, and in those that are fixed.
 fn group_node(alloc: Global, at: u32, grouping: Grouping, input: Node) -> Result<Node, AllocError>
     ensures node { IfOk result (λ made. node_tree made ≡ node.GroupBy
-        (spec.info (Some at) grouping.columns grouping.level) grouping.places grouping.aggregates (node_tree input)) }
+        (spec.info (Some at) grouping.columns grouping.fixed grouping.level) grouping.places grouping.aggregates
+        (node_tree input)) }
 {
     Ok(Node::GroupBy {
-        info: NodeInfo::new(alloc, Some(at), grouping.columns, grouping.level)?,
+        info: NodeInfo::new(
+            alloc,
+            Some(at),
+            grouping.columns,
+            grouping.fixed,
+            grouping.level,
+        )?,
         by: grouping.places,
         with: grouping.aggregates,
         input: Box::new(alloc, input)?,
@@ -231,8 +247,9 @@ fn value_node(
         (value_faults (columns_of (node_tree input)) (map item_tree items.now))) }
 {
     let columns = value_columns(alloc, input.columns(), items.as_slice(), found)?;
+    let fixed = key_fixed(alloc, input.columns(), input.fixed())?;
     Ok(Node::Value {
-        info: NodeInfo::new(alloc, Some(at), columns, input.info().level)?,
+        info: NodeInfo::new(alloc, Some(at), columns, fixed, input.info().level)?,
         items: copied_items(alloc, items)?,
         input: Box::new(alloc, input)?,
     })
@@ -281,12 +298,25 @@ fn top_node(
         (condition_faults (columns_of (node_tree input)) column.now is_number_type word.Int)) }
 {
     let place = ranked_place(alloc, input.columns(), column, found)?;
-    let info = info_at(alloc, at, input.info(), Level::Root)?;
+    let info = top_info(alloc, at, input.info())?;
     Ok(Node::Top {
         info,
         most,
         column: column_number(place)?,
         input: Box::new(alloc, input)?,
+    })
+}
+
+// What is told of a top.
+fn top_info(alloc: Global, at: u32, input: &NodeInfo) -> Result<NodeInfo, AllocError>
+    ensures info { IfOk result (λ made. made
+        ≡ spec.info (Some at) input.now.columns input.now.fixed Level.Root) }
+{
+    Ok(NodeInfo {
+        at: Some(at),
+        columns: input.columns.copy(alloc)?,
+        fixed: input.fixed.copy(alloc)?,
+        level: Level::Root,
     })
 }
 

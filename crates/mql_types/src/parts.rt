@@ -1,5 +1,5 @@
 // The parts of a query, typed from the left.
-ghost use Rattle.std.specs.Prelude.{◌≡◌, IfOk, OnOk, map, Some};
+ghost use Rattle.std.specs.Prelude.{◌≡◌, [], IfOk, OnOk, map, Some};
 ghost use Rattle.std.specs.Option.{option_copied};
 ghost use Rattle.mon_schema.specs.Faults.{texts_repeat};
 ghost use Rattle.mon_value.specs.Tables.{column_names};
@@ -18,8 +18,8 @@ use mon_value::{Columns, Kind, MetricSchema, TargetSchema, Text, TryCopy};
 use mql_ast::{How, Name, Pipe, Source};
 use std::alloc::{AllocError, Global};
 use typed_columns::{
-    Joined, TypingSetting, fetch_columns, kind_of, meeting_level, names_repeat, same_columns,
-    tell_wide_columns, union_columns,
+    Joined, TypingSetting, fetch_columns, fixed_in_both, joined_fixed, kind_of, meeting_level,
+    names_repeat, nothing_fixed, same_columns, tell_wide_columns, union_columns,
 };
 use typed_trees::{Faults, Level, Node, NodeInfo, TypeKind};
 
@@ -230,7 +230,8 @@ fn join_info(
     tell_wide_columns(joined.columns.as_slice(), at, found);
     let level = left.info().level.higher(right.info().level);
     let level = meeting_level(setting.schemas, level, joined.common.as_slice());
-    NodeInfo::new(setting.alloc, Some(at), joined.columns, level)
+    let fixed = joined_fixed(setting.alloc, left, right)?;
+    NodeInfo::new(setting.alloc, Some(at), joined.columns, fixed, level)
 }
 
 // What is told of a union.
@@ -253,7 +254,12 @@ fn union_info(
     let columns = union_columns(setting, lefts, rights)?;
     tell_wide_columns(columns.as_slice(), at, found);
     let level = left.info().level.higher(right.info().level);
-    NodeInfo::new(setting.alloc, Some(at), columns, level)
+    let fixed = fixed_in_both(
+        setting.alloc,
+        left.fixed().as_slice(),
+        right.fixed().as_slice(),
+    )?;
+    NodeInfo::new(setting.alloc, Some(at), columns, fixed, level)
 }
 
 // A fetch, which each leaf does.
@@ -317,9 +323,9 @@ fn fetch_node(
     metric: &Name,
 ) -> Result<Node, AllocError>
     ensures node { IfOk result (λ node. node_tree node
-        ≡ tree.Fetch (spec.info (Some at) columns Level.Leaf) schema.now.text metric.now.text) }
+        ≡ tree.Fetch (spec.info (Some at) columns [] Level.Leaf) schema.now.text metric.now.text) }
 {
-    let info = NodeInfo::new(alloc, Some(at), columns, Level::Leaf)?;
+    let info = NodeInfo::new(alloc, Some(at), columns, nothing_fixed(alloc)?, Level::Leaf)?;
     match fetched_names(alloc, schema, metric) {
         Ok((schema, metric)) => Ok(Node::Fetch {
             info,
@@ -348,7 +354,13 @@ fn no_branch(alloc: Global, at: u32) -> Result<Node, AllocError>
     ensures node { IfOk result (λ node. node_tree node ≡ spec.no_branch at) }
 {
     Ok(Node::Fetch {
-        info: NodeInfo::new(alloc, Some(at), Columns::new(alloc), Level::Leaf)?,
+        info: NodeInfo::new(
+            alloc,
+            Some(at),
+            Columns::new(alloc),
+            nothing_fixed(alloc)?,
+            Level::Leaf,
+        )?,
         schema: Text::from_str(alloc, "")?,
         metric: Text::from_str(alloc, "")?,
     })

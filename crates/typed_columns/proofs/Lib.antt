@@ -1,5 +1,6 @@
 mod ColumnNameLemmas
 pub mod FaultLemmas
+mod FixedLemmas
 mod ItemLemmas
 mod ListedLemmas
 mod NamedPlaceLemmas

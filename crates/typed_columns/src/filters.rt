@@ -3,7 +3,8 @@ ghost use Rattle.std.specs.Prelude.{◌≡◌, ◌+◌, ◌<◌, ◌++◌, List,
 ghost use Rattle.mql_ast.specs.Trees.{predicate_tree};
 ghost use Rattle.typed_trees.specs.Faults.{first_with};
 ghost use Rattle.typed_trees.specs.Fetches as spec;
-ghost use Rattle.typed_columns.specs.PredicateParts.{remaining_faults, remaining_nodes};
+ghost use Rattle.typed_trees.specs.FixedColumns.{fixed_by};
+ghost use Rattle.typed_columns.specs.PredicateParts.{remaining_faults, remaining_fixed, remaining_nodes};
 ghost use Rattle.mql_ast.specs.PredicateParts.{nodes};
 ghost use Rattle.mon_value.specs.declared.columns.Column.{Column};
 
@@ -81,9 +82,9 @@ fn tell_part<'a>(
     }
 }
 
-// Both sides, the first of them last.
+/// Both sides, the first of them last.
 #[tactic(auto, using(crate::proofs::PredicateLemmas::parts_pushed))]
-fn push_both<'a>(
+pub(crate) fn push_both<'a>(
     parts: &mut Vec<&'a Predicate>,
     left: &'a Predicate,
     right: &'a Predicate,
@@ -91,6 +92,8 @@ fn push_both<'a>(
     ensures faults { OnOk result ((columns : List Column) → remaining_faults columns parts.new.items
         ≡ spec.predicate_faults columns (predicate_tree left.now)
         ++ (spec.predicate_faults columns (predicate_tree right.now) ++ remaining_faults columns parts.old.items)) }
+    ensures fixed { OnOk result (remaining_fixed parts.new.items ≡ fixed_by (predicate_tree left.now)
+        ++ (fixed_by (predicate_tree right.now) ++ remaining_fixed parts.old.items)) }
     ensures nodes { OnOk result (remaining_nodes parts.new.items
         ≡ nodes left.now + (nodes right.now + remaining_nodes parts.old.items)) }
 {

@@ -6,11 +6,13 @@ ghost use Rattle.typed_trees.specs.Items.{is_taken, name_texts, reserved_names, 
 ghost use Rattle.typed_trees.specs.Fetches.{unknown_faults};
 ghost use Rattle.typed_trees.specs.Faults.{fault_where};
 ghost use Rattle.typed_trees.specs.declared.faults.TypeKind.TheVariants.{DuplicateColumn};
+ghost use Rattle.typed_trees.specs.FixedColumns.{fixed_columns, meeting_columns, named_in};
 ghost use Rattle.typed_trees.specs.Levels.{meeting_level};
-ghost use Rattle.typed_trees.specs.Nodes.{columns_of, level_of, node_tree};
+ghost use Rattle.typed_trees.specs.Nodes.{columns_of, fixed_of, level_of, node_tree};
 ghost use Rattle.std.specs.List.{flat_map};
 
 use crate::fetches::column_number;
+use crate::fixed::{named_fixed, push_fixed_columns};
 use crate::items::plain_column;
 use crate::levels::meeting_level;
 use crate::places::{NamedColumns, push_some};
@@ -21,14 +23,16 @@ use mon_value::{
 };
 use mql_ast::{FoldWord, Name};
 use std::alloc::{AllocError, Global};
-use typed_trees::{Faults, Level, Node, OF_COUNT, TypeWord, Width};
+use typed_trees::{Faults, FixedColumns, Level, Node, OF_COUNT, TypeWord, Width};
 
-/// What a `group_by` is made of: the places of its listed columns, its aggregates, its columns and its level.
+/// What a `group_by` is made of: the places of its listed columns, its aggregates, its columns and those of them that
+/// are fixed, and its level.
 #[derive(Drop)]
 pub struct Grouping {
     pub places: Positions,
     pub aggregates: Aggregates,
     pub columns: Columns,
+    pub fixed: Shared<FixedColumns>,
     pub level: Level,
 }
 
@@ -47,22 +51,25 @@ impl Grouping {
             ≡ spec.aggregates_over (columns_of (node_tree input.now)) aggregates.now) }
         ensures columns { IfOk result (λ made. made.columns
             ≡ spec.grouped_columns (columns_of (node_tree input.now)) names.now aggregates.now) }
+        ensures fixed { IfOk result (λ made. made.fixed
+            ≡ named_in (spec.listed_columns (columns_of (node_tree input.now)) names.now) (fixed_of (node_tree input.now))) }
         ensures level { IfOk result (λ made. made.level ≡ meeting_level setting.entry.schemas.now
-            (level_of (node_tree input.now)) (spec.listed_columns (columns_of (node_tree input.now)) names.now)) }
+            (level_of (node_tree input.now)) (meeting_columns
+            (spec.listed_places (columns_of (node_tree input.now)) reserved_names names.now) (node_tree input.now))) }
         ensures faults { OnOk result (found.new.first ≡ first_with found.old.first
             (spec.group_faults (columns_of (node_tree input.now)) names.now aggregates.now)) }
     {
         let all = NamedColumns::new(setting.alloc, input.columns())?;
-        let made = Grouping::over(setting, input.info().level, &all, names, aggregates, found);
+        let made = Grouping::over(setting, input, &all, names, aggregates, found);
         drop(all);
         made
     }
 
-    // The grouping of a table of a level, whose columns are found by their names.
+    // The grouping of a table, whose columns are found by their names.
     #[tactic(auto, using(crate::proofs::FaultLemmas::faults))]
     fn over(
         setting: TypingSetting<'_>,
-        level: Level,
+        input: &Node,
         all: &NamedColumns<'_>,
         names: &[Name],
         aggregates: &[mql_ast::Aggregate],
@@ -73,15 +80,18 @@ impl Grouping {
         ensures aggregates { IfOk result (λ made. made.aggregates ≡ spec.aggregates_over all.now aggregates.now) }
         ensures columns { IfOk result (λ made. made.columns
             ≡ spec.grouped_columns all.now names.now aggregates.now) }
+        ensures fixed { IfOk result (λ made. made.fixed
+            ≡ named_in (spec.listed_columns all.now names.now) (fixed_of (node_tree input.now))) }
         ensures level { IfOk result (λ made. made.level
-            ≡ meeting_level setting.entry.schemas.now level (spec.listed_columns all.now names.now)) }
+            ≡ meeting_level setting.entry.schemas.now (level_of (node_tree input.now))
+            (spec.listed_columns all.now names.now ++ fixed_columns all.now (fixed_of (node_tree input.now)))) }
         ensures faults { OnOk result (found.new.first
             ≡ first_with found.old.first (spec.group_faults all.now names.now aggregates.now)) }
     {
         let places = named_places(setting.alloc, all, names, aggregates, found)?;
         tell_listed(all, names, found);
         match key_columns_at(setting.alloc, all.columns(), places.as_slice()) {
-            Ok(keys) => Grouping::of_keys(setting, level, all, places, keys, aggregates, found),
+            Ok(keys) => Grouping::of_keys(setting, input, all, places, keys, aggregates, found),
             Err(stop) => {
                 drop(places);
                 Err(stop)
@@ -92,7 +102,7 @@ impl Grouping {
     // The grouping by keys, which stand at some places of a table.
     fn of_keys(
         setting: TypingSetting<'_>,
-        level: Level,
+        input: &Node,
         all: &NamedColumns<'_>,
         places: Positions,
         keys: Columns,
@@ -102,26 +112,124 @@ impl Grouping {
         ensures places { IfOk result (λ made. made.places ≡ places) }
         ensures aggregates { IfOk result (λ made. made.aggregates ≡ spec.aggregates_over all.now aggregates.now) }
         ensures columns { IfOk result (λ made. made.columns ≡ keys ++ spec.aggregate_columns all.now aggregates.now) }
-        ensures level { IfOk result (λ made. made.level ≡ meeting_level setting.entry.schemas.now level keys) }
+        ensures fixed { IfOk result (λ made. made.fixed ≡ named_in keys (fixed_of (node_tree input.now))) }
+        ensures level { IfOk result (λ made. made.level
+            ≡ meeting_level setting.entry.schemas.now (level_of (node_tree input.now))
+            (keys ++ fixed_columns all.now (fixed_of (node_tree input.now)))) }
         ensures faults { OnOk result (found.new.first ≡ first_with found.old.first
             (flat_map (spec.aggregate_faults all.now) aggregates.now)) }
     {
-        let level = meeting_level(setting.schemas, level, keys.as_slice());
-        let mut columns = keys;
-        match push_folds(setting.alloc, all, aggregates, &mut columns, found) {
-            Ok(aggregates) => Ok(Grouping {
+        match Meeting::new(setting, input, all, keys.as_slice()) {
+            Ok(meeting) => Grouping::met(
+                setting.alloc,
+                meeting,
+                all,
                 places,
+                keys,
                 aggregates,
-                columns,
-                level,
-            }),
+                found,
+            ),
             Err(stop) => {
-                drop(columns);
+                drop(keys);
                 drop(places);
                 Err(stop)
             }
         }
     }
+
+    // The grouping by keys, of which it is known where rows meet that agree in them.
+    fn met(
+        alloc: Global,
+        meeting: Meeting,
+        all: &NamedColumns<'_>,
+        places: Positions,
+        keys: Columns,
+        aggregates: &[mql_ast::Aggregate],
+        found: &mut Faults,
+    ) -> Result<Grouping, AllocError>
+        ensures places { IfOk result (λ made. made.places ≡ places) }
+        ensures aggregates { IfOk result (λ made. made.aggregates ≡ spec.aggregates_over all.now aggregates.now) }
+        ensures columns { IfOk result (λ made. made.columns ≡ keys ++ spec.aggregate_columns all.now aggregates.now) }
+        ensures fixed { IfOk result (λ made. made.fixed ≡ meeting.fixed) }
+        ensures level { IfOk result (λ made. made.level ≡ meeting.level) }
+        ensures faults { OnOk result (found.new.first ≡ first_with found.old.first
+            (flat_map (spec.aggregate_faults all.now) aggregates.now)) }
+    {
+        let mut columns = keys;
+        match push_folds(alloc, all, aggregates, &mut columns, found) {
+            Ok(aggregates) => Ok(Grouping {
+                places,
+                aggregates,
+                columns,
+                fixed: meeting.fixed,
+                level: meeting.level,
+            }),
+            Err(stop) => {
+                drop(columns);
+                drop(places);
+                drop(meeting);
+                Err(stop)
+            }
+        }
+    }
+}
+
+// Which keys are fixed, and the level at which the rows of a group meet: those that agree in the keys, and in what is
+// fixed anyway.
+#[derive(Drop)]
+struct Meeting {
+    fixed: Shared<FixedColumns>,
+    level: Level,
+}
+
+impl Meeting {
+    fn new(
+        setting: TypingSetting<'_>,
+        input: &Node,
+        all: &NamedColumns<'_>,
+        keys: &[Shared<Column>],
+    ) -> Result<Meeting, AllocError>
+        ensures fixed { IfOk result (λ made. made.fixed ≡ named_in keys.now (fixed_of (node_tree input.now))) }
+        ensures level { IfOk result (λ made. made.level
+            ≡ meeting_level setting.entry.schemas.now (level_of (node_tree input.now))
+            (keys.now ++ fixed_columns all.now (fixed_of (node_tree input.now)))) }
+    {
+        let level = group_level(setting, input, all, keys)?;
+        let fixed = named_fixed(setting.alloc, keys, input.fixed())?;
+        Ok(Meeting { fixed, level })
+    }
+}
+
+// The level at which rows meet that agree in some keys, and in what is fixed anyway.
+fn group_level(
+    setting: TypingSetting<'_>,
+    input: &Node,
+    all: &NamedColumns<'_>,
+    keys: &[Shared<Column>],
+) -> Result<Level, AllocError>
+    ensures level { IfOk result (λ level. level
+        ≡ meeting_level setting.entry.schemas.now (level_of (node_tree input.now))
+        (keys.now ++ fixed_columns all.now (fixed_of (node_tree input.now)))) }
+{
+    let mut columns = copied_columns(setting.alloc, keys)?;
+    push_fixed_columns(
+        setting.alloc,
+        all.columns(),
+        input.fixed().as_slice(),
+        &mut columns,
+    )?;
+    Ok(meeting_level(setting.schemas, input.info().level, columns.as_slice()))
+}
+
+// The same columns, which are shared.
+fn copied_columns(alloc: Global, columns: &[Shared<Column>]) -> Result<Columns, AllocError>
+    ensures copied { IfOk result (λ copied. copied ≡ columns.now) }
+{
+    let mut copied = Columns::new(alloc);
+    for column in columns {
+        copied.push(column.copy(alloc)?)?;
+    }
+    Ok(copied)
 }
 
 // The places of the listed columns, each once. Tells the names that columns are given twice.

@@ -4,6 +4,7 @@
 mod branches;
 mod fetches;
 mod filters;
+mod fixed;
 mod groupings;
 mod items;
 mod levels;
@@ -16,6 +17,7 @@ mod widths;
 pub use branches::{Joined, same_columns, union_columns, with_width};
 pub use fetches::{column_number, fetch_columns, kind_of, names_repeat};
 pub use filters::tell_predicate;
+pub use fixed::{filtered_fixed, fixed_in_both, joined_fixed, key_fixed, nothing_fixed};
 pub use groupings::Grouping;
 pub use items::value_columns;
 pub use levels::meeting_level;

@@ -70,6 +70,13 @@ impl<'a> Taken<'a> {
         Ok(self.names.insert(name, ())?.is_some())
     }
 
+    /// Whether a name is taken.
+    pub(crate) fn has(&self, name: &str) -> bool
+        ensures taken { result ≡ spec.is_taken name.now self.now }
+    {
+        self.names.contains_key(name)
+    }
+
     /// Takes a name, tells where it was taken before, and says so.
     pub(crate) fn tell(&mut self, name: Label<'a>, found: &mut Faults) -> Result<bool, AllocError>
         ensures taken { IfOk result (λ taken. taken ≡ spec.is_taken name.entry.text.now self.old) }

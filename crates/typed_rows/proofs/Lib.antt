@@ -3,6 +3,7 @@ pub mod AlignedValues
 pub mod DurationLemmas
 pub mod FetchedPoints
 pub mod FetchedTrees
+pub mod FixedTrees
 pub mod FoldedColumns
 pub mod FoldedValues
 pub mod GroupSums
@@ -11,6 +12,8 @@ pub mod JoinedRows
 pub mod KeptRows
 pub mod KnownSums
 pub mod MadeCells
+pub mod NamedTrees
+pub mod OnceLemmas
 pub mod QueryLaws
 pub mod RowCounts
 pub mod SpelledQueries

@@ -10,14 +10,13 @@ use Rattle.mql_ast.specs.declared.pipes.How.{How}
 use Rattle.mql_ast.specs.declared.pipes.How.TheVariants as how
 use Rattle.typed_trees.specs.declared.faults.TypeFault.{TypeFault}
 use Rattle.typed_trees.specs.Faults.{earlier_fault, first_fault, first_with}
-use Rattle.typed_trees.specs.Nodes as node
-use Rattle.typed_trees.specs.Nodes.{NodeTree, TypedTree, columns_of, level_of}
+use Rattle.typed_trees.specs.Nodes.{NodeTree, TypedTree, columns_of}
 use Rattle.typed_trees.specs.Plans.{HasFetchColumns, fetches}
 use Rattle.typed_trees.specs.Times.{every_said, pipe_order_faults, query_times, times_faults}
 use Rattle.typed_trees.specs.Typing.{Part, align_faults, align_node, aligned_as, aligned_tree, branch_faults}
 use Rattle.typed_trees.specs.Typing.{branch_node}
-use Rattle.typed_trees.specs.Typing.{branches_faults, branches_node, deed_faults, deed_part, further_faults}
-use Rattle.typed_trees.specs.Typing.{further_node, info, ops_faults, ops_part, pipe_faults, pipe_part, query_faults}
+use Rattle.typed_trees.specs.Typing.{branches_faults, branches_node, deed_faults, deed_part, filter_node, further_faults}
+use Rattle.typed_trees.specs.Typing.{further_node, ops_faults, ops_part, pipe_faults, pipe_part, query_faults}
 use Rattle.typed_trees.specs.Typing.{source_faults, source_part, typed_query, typing, tree_or_fault}
 
 -- ---- no faults
@@ -68,8 +67,7 @@ aligned_has held every None part has = has
 aligned_has held every (Some of) part has = (has, tt)
 
 filter_has : (held : SchemaLists) (at : ℕ) (by : tree.PredicateTree) (points : Option Kind) (part : NodeTree)
-    → PartHas held points part
-    → PartHas held points (node.Filter (info (Some at) (columns_of part) (level_of part)) by part)
+    → PartHas held points part → PartHas held points (filter_node at by part)
 filter_has held at by None part has = has
 filter_has held at by (Some of) part has = (refl, has)
 

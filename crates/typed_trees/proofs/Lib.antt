@@ -1,2 +1,3 @@
 mod ExplanationLemmas
 pub mod FetchColumnLemmas
+pub mod FixedLemmas

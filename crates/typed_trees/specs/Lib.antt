@@ -2,6 +2,7 @@ pub mod Branches
 pub mod ExplanationParts
 pub mod Faults
 pub mod Fetches
+pub mod FixedColumns
 pub mod Groupings
 pub mod Items
 pub mod LevelLoads

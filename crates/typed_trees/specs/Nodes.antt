@@ -4,6 +4,7 @@ use Rattle.mon_value.specs.declared.aggregates.Aggregate.{Aggregate}
 use Rattle.mon_value.specs.declared.aligners.Aligner.{Aligner}
 use Rattle.mon_value.specs.declared.columns.Column.{Column}
 use Rattle.mql_ast.specs.Trees.{PredicateTree, ItemTree, predicate_tree, item_tree}
+use Rattle.typed_trees.specs.declared.fixed.Fixed.{Fixed}
 use Rattle.typed_trees.specs.declared.levels.Level.{Level}
 use Rattle.typed_trees.specs.declared.nodes.Node.{Node}
 use Rattle.typed_trees.specs.declared.nodes.Node.TheVariants as node
@@ -45,6 +46,10 @@ columns_of tree = (info_of tree).columns
 -- the level at which it is done
 abbrev pub level_of : NodeTree → Level
 level_of tree = (info_of tree).level
+
+-- the columns of its table that are fixed to a literal
+abbrev pub fixed_of : NodeTree → List Fixed
+fixed_of tree = (info_of tree).fixed
 
 -- the tree that a node is
 abbrev pub node_tree : Node → NodeTree

@@ -17,6 +17,7 @@ use Rattle.mql_ast.specs.declared.pipes.How.TheVariants as how
 use Rattle.typed_trees.specs.declared.faults.TypeFault.{TypeFault}
 use Rattle.typed_trees.specs.declared.faults.TypeKind.TheVariants as fault
 use Rattle.typed_trees.specs.declared.faults.TypeWord.TheVariants as word
+use Rattle.typed_trees.specs.declared.fixed.Fixed.{Fixed}
 use Rattle.typed_trees.specs.declared.levels.Level.{Level}
 use Rattle.typed_trees.specs.declared.levels.Level.TheVariants as level
 use Rattle.typed_trees.specs.declared.nodes.NodeInfo.{NodeInfo}
@@ -24,11 +25,12 @@ use Rattle.typed_trees.specs.Branches.{common_columns, join_columns, join_faults
 use Rattle.typed_trees.specs.Branches.{delta_width, increase_width, point_width, with_width}
 use Rattle.typed_trees.specs.Faults.{fault_at, first_fault}
 use Rattle.typed_trees.specs.Fetches.{fetch_columns, fetch_faults, kind_of, condition_faults, predicate_faults}
+use Rattle.typed_trees.specs.FixedColumns.{fixed_by, fixed_in_both, joined_fixed, meeting_columns, named_in, with_fixed}
 use Rattle.typed_trees.specs.Groupings.{aggregates_over, grouped_columns, group_faults, listed_columns, listed_places}
 use Rattle.typed_trees.specs.Groupings.{place_found}
-use Rattle.typed_trees.specs.Items.{is_number_type, reserved_names, value_columns, value_faults}
+use Rattle.typed_trees.specs.Items.{is_number_type, key_columns, reserved_names, value_columns, value_faults}
 use Rattle.typed_trees.specs.Levels.{higher_level, meeting_level}
-use Rattle.typed_trees.specs.Nodes.{NodeTree, TypedTree, columns_of, level_of}
+use Rattle.typed_trees.specs.Nodes.{NodeTree, TypedTree, columns_of, fixed_of, level_of}
 use Rattle.typed_trees.specs.Nodes as node
 use Rattle.typed_trees.specs.Times.{every_said, pipe_order_faults, query_times, times_faults, within_said}
 use Rattle.typed_trees.specs.declared.widths.Width.{Width}
@@ -38,8 +40,8 @@ pub record Part : Type 0 where
   pub tree : NodeTree
   pub points : Option Kind
 
-abbrev pub info : Option ℕ → List Column → Level → NodeInfo
-info at columns level = record { at = at; columns = columns; level = level }
+abbrev pub info : Option ℕ → List Column → List Fixed → Level → NodeInfo
+info at columns fixed level = record { at = at; columns = columns; fixed = fixed; level = level }
 
 abbrev pub table : NodeTree → Part
 table tree = record { tree = tree; points = None }
@@ -51,7 +53,7 @@ abbrev pub fetch_part : SchemaLists → ℕ → Name → Name → Part
 fetch_part held at schema metric =
     let found = metric_named metric.text held.metrics in
     record {
-      tree = node.Fetch (info (Some at) (fetch_columns (target_named schema.text held.targets) found) level.Leaf)
+      tree = node.Fetch (info (Some at) (fetch_columns (target_named schema.text held.targets) found) [] level.Leaf)
           schema.text metric.text;
       points = Some (kind_of found);
     }
@@ -68,7 +70,7 @@ aligned_column by column = if column.key then column else with_width (aligned_wi
 
 abbrev pub align_node : Option ℕ → Aligner → NodeTree → NodeTree
 align_node at by tree =
-    node.Align (info at (map (aligned_column by) (columns_of tree)) (level_of tree)) by tree
+    node.Align (info at (map (aligned_column by) (columns_of tree)) (fixed_of tree) (level_of tree)) by tree
 
 -- what a delta is: the sum of a metric's values, and of totals what they increase by
 abbrev pub delta_of : Kind → ℤ → Aligner
@@ -118,30 +120,37 @@ align_faults (Some of) at (aligner.NextOlder seconds) = newest_faults of at
 
 -- ---- operations on tables
 
--- groups are made where rows that agree in the listed columns meet
+-- groups are made where rows meet that agree in the listed columns, and in those that are fixed
 abbrev pub group_node : SchemaLists → ℕ → List Name → List Aggregate → NodeTree → NodeTree
 group_node held at names aggregates input =
     let columns = columns_of input in
+    let places = listed_places columns reserved_names names in
     node.GroupBy
     (info (Some at) (grouped_columns columns names aggregates)
-    (meeting_level held (level_of input) (listed_columns columns names)))
-    (listed_places columns reserved_names names) (aggregates_over columns aggregates) input
+    (named_in (listed_columns columns names) (fixed_of input))
+    (meeting_level held (level_of input) (meeting_columns places input)))
+    places (aggregates_over columns aggregates) input
 
 abbrev pub value_node : ℕ → List ItemTree → NodeTree → NodeTree
 value_node at items input =
-    node.Value (info (Some at) (value_columns (columns_of input) items) (level_of input)) items input
+    node.Value
+    (info (Some at) (value_columns (columns_of input) items) (named_in (key_columns (columns_of input)) (fixed_of input))
+    (level_of input))
+    items input
 
 -- the rows that come first are known at the root alone
 abbrev pub top_node : ℕ → ℕ → Name → NodeTree → NodeTree
 top_node at most column input =
-    node.Top (info (Some at) (columns_of input) level.Root) most
+    node.Top (info (Some at) (columns_of input) (fixed_of input) level.Root) most
     (unwrap_or (place_found column.text (columns_of input)) 0) input
 
--- a filter leaves the columns and the level
+-- a filter leaves the columns and the level, and fixes what its equalities say
+abbrev pub filter_node : ℕ → PredicateTree → NodeTree → NodeTree
+filter_node at by input =
+    node.Filter (info (Some at) (columns_of input) (with_fixed (fixed_of input) (fixed_by by)) (level_of input)) by input
+
 abbrev pub filter_part : ℕ → PredicateTree → Part → Part
-filter_part at by part = record part {
-  tree = node.Filter (info (Some at) (columns_of part.tree) (level_of part.tree)) by part.tree;
-}
+filter_part at by part = record part { tree = filter_node at by part.tree }
 
 -- a pipe with an operation more
 abbrev pub deed_part : SchemaLists → ℤ → Part → ℕ → DeedTree → Part
@@ -171,13 +180,14 @@ deed_faults every part at (tree.Within seconds) = []
 
 abbrev pub join_info : SchemaLists → ℕ → NodeTree → NodeTree → NodeInfo
 join_info held at left right =
-    info (Some at) (join_columns held (columns_of left) (columns_of right))
+    info (Some at) (join_columns held (columns_of left) (columns_of right)) (joined_fixed left right)
     (meeting_level held (higher_level (level_of left) (level_of right))
     (common_columns held (columns_of left) (columns_of right)))
 
 abbrev pub union_info : SchemaLists → ℕ → NodeTree → NodeTree → NodeInfo
 union_info held at left right =
     info (Some at) (union_columns held (columns_of left) (columns_of right))
+    (fixed_in_both (fixed_of left) (fixed_of right))
     (higher_level (level_of left) (level_of right))
 
 -- the columns of two tables that are brought together, and the level at which they meet
@@ -213,7 +223,7 @@ ops_faults held every part (op ∷ ops) =
 
 -- what stands for branches where there is none, as in no text
 abbrev pub no_branch : ℕ → NodeTree
-no_branch at = node.Fetch (info (Some at) [] level.Leaf) [] []
+no_branch at = node.Fetch (info (Some at) [] [] level.Leaf) [] []
 
 -- what each part of a query gives
 abbrev mutual

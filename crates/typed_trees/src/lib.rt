@@ -3,6 +3,7 @@
 
 mod explanations;
 mod faults;
+mod fixed;
 mod key_filters;
 mod levels;
 mod nodes;
@@ -12,6 +13,7 @@ mod widths;
 
 pub use explanations::{OpLevel, OpLevels, OpWord, op_levels};
 pub use faults::{Faults, TypeFault, TypeKind, TypeWord, type_word};
+pub use fixed::{Fixed, FixedColumns};
 pub use key_filters::names_keys;
 pub use levels::Level;
 pub use nodes::{Node, NodeInfo, Typed};

@@ -1,8 +1,9 @@
 // The typed tree of a query.
 ghost use Rattle.std.specs.Prelude.{◌≡◌, IfOk};
-ghost use Rattle.typed_trees.specs.Nodes.{columns_of, info_of, node_tree};
+ghost use Rattle.typed_trees.specs.Nodes.{columns_of, fixed_of, info_of, node_tree};
 ghost use Rattle.typed_trees.specs.Typing.{info};
 
+use crate::fixed::FixedColumns;
 use crate::levels::Level;
 use mon_value::{Aggregates, Aligner, Column, Columns, Positions, Shared, Text};
 use mql_ast::{Items, Predicate};
@@ -18,11 +19,12 @@ pub struct Typed {
 }
 
 /// What is told of each node: its place in the text, or none where it is a default alignment; the columns of
-/// its table; the level at which it is done.
+/// its table, and those of them that filters fix to a literal; the level at which it is done.
 #[derive(Drop)]
 pub struct NodeInfo {
     pub at: Option<u32>,
     pub columns: Shared<Columns>,
+    pub fixed: Shared<FixedColumns>,
     pub level: Level,
 }
 
@@ -32,13 +34,15 @@ impl NodeInfo {
         alloc: Global,
         at: Option<u32>,
         columns: Columns,
+        fixed: Shared<FixedColumns>,
         level: Level,
     ) -> Result<NodeInfo, AllocError>
-        ensures info { IfOk result (λ made. made ≡ info at columns level) }
+        ensures info { IfOk result (λ made. made ≡ info at columns fixed level) }
     {
         Ok(NodeInfo {
             at,
             columns: Shared::new(alloc, columns)?,
+            fixed,
             level,
         })
     }
@@ -113,6 +117,13 @@ impl Node {
         ensures columns { result.now ≡ columns_of (node_tree self.now) }
     {
         self.info().columns.as_slice()
+    }
+
+    /// Those of them that filters fix to a literal.
+    pub fn fixed(&self) -> &Shared<FixedColumns>
+        ensures fixed { result.now ≡ fixed_of (node_tree self.now) }
+    {
+        &self.info().fixed
     }
 }
 

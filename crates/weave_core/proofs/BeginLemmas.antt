@@ -292,7 +292,7 @@ module _ (config : Config) (served : IsServed config) where
   abbrev no_plan : Plan
   no_plan = record {
     typed = record {
-      tree = node.Fetch (record { at = None; columns = []; level = level.Leaf }) [] [];
+      tree = node.Fetch (record { at = None; columns = []; fixed = []; level = level.Leaf }) [] [];
       every = pos 0;
       within = pos 0;
     };

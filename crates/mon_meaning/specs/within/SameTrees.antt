@@ -1,5 +1,5 @@
 -- Trees, apart from where they stand in the text.
-use Rattle.std.specs.Prelude.{List, None, map}
+use Rattle.std.specs.Prelude.{List, [], None, map}
 use Rattle.mon_expr.specs.SameTrees.{bare_predicate, bare_sum}
 use Rattle.mql_ast.specs.Trees.{ItemTree}
 use Rattle.typed_trees.specs.Nodes as node
@@ -9,7 +9,7 @@ use Rattle.typed_trees.specs.declared.nodes.NodeInfo.{NodeInfo}
 
 -- of what is told of a node, its columns alone
 abbrev pub bare_info : NodeInfo → NodeInfo
-bare_info info = record { at = None; columns = info.columns; level = level.Leaf }
+bare_info info = record { at = None; columns = info.columns; fixed = []; level = level.Leaf }
 
 -- items by what they add up, whatever they are called
 abbrev pub bare_items : List ItemTree → List ItemTree

@@ -1,0 +1,6 @@
+-- The columns so far.
+use Rattle.std.proofs.Common.{◌≡◌, take}
+use Rattle.typed_columns.proofs.groupings.copied_columns.Given as goal
+
+abbrev pub invariant-loop-column : goal.invariant-loop-column
+invariant-loop-column l = l.copied ≡ take l.column-index l.columns
