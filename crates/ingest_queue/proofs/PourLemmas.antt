@@ -5,7 +5,7 @@ use Rattle.std.specs.List.{AllByRecursion, filter_map}
 use Rattle.std.proofs.lemmas.List.Elements.{filter-append, filter_map-append}
 use Rattle.ingest_queue.specs.declared.turns.Turn.{Turn}
 use Rattle.ingest_queue.specs.Roles.{AreFirst, IsEmptied, IsNext, IsTaken, alone, each, given, is_of, is_shared, of_file, put, sent_by, whole, without}
-use Rattle.ingest_queue.specs.Coming.{AllCame, AllTaken, IsOffered, IsUnderWay, either_of, offer_of, offered, pops_alone, turn_of, turns}
+use Rattle.ingest_queue.specs.Coming.{AllCame, AllTaken, HasWritten, IsOffered, IsUnderWay, either_of, offer_of, offered, pops_alone, turn_of, turns}
 use Rattle.ingest_queue.specs.Feeding.{IsFeeding, IsOf}
 use Rattle.ingest_queue.specs.Offers.{AreAnswered}
 use Rattle.ingest_queue.specs.Pours.{IsTakenBy}
@@ -95,6 +95,29 @@ pub told_on : (Old New : List Offer → Type 0) (base : List Offer) (came : List
     → Old (base ++ offered came) → New (base ++ offered all)
 told_on Old New base came one all goes is old =
     subst New (append_assoc base (offered came) (option_to_list (offer_of one)) ∙ ap (λ l. base ++ l) (sym (offered_more came one)) ∙ ap (λ l. base ++ offered l) (sym is)) (goes (base ++ offered came) old)
+
+-- what a writer wrote while nothing came, while one record more did, and while more came and then more
+module _ {S : Type 0} {test test' : Row → Bool} {was now : List Offer} {Old New : S → List Offer → Type 0} where
+  pub nothing_written : {came : List Came} → test' ≡ test → now ≡ was → ((from : S) (list : List Offer) → Old from list → New from list) → HasWritten test test' was now Old New came came
+  nothing_written {came} same kept still = record {
+    takes = same;
+    goes_on = λ base before. subst (λ offers. IsOffered base offers came) (sym kept) before;
+    told = λ from base before. still from (base ++ offered came) before;
+  }
+
+  pub one_written : {came all : List Came} (one : Came) → test' ≡ test → now ≡ was ++ option_to_list (offer_of one) → AreAnswered (option_to_list (offer_of one)) → ((from : S) (list : List Offer) → Old from list → New from (list ++ option_to_list (offer_of one))) → all ≡ came ++ one ∷ [] → HasWritten test test' was now Old New came all
+  one_written {came} {all} one same made answered told noted = record {
+    takes = same;
+    goes_on = λ base before. offered_on base was now came one all before made answered noted;
+    told = λ from base before. told_on (Old from) (New from) base came one all (told from) noted before;
+  }
+
+pub written_on : {S : Type 0} {t0 t1 t2 : Row → Bool} {o0 o1 o2 : List Offer} {T0 T1 T2 : S → List Offer → Type 0} {c0 c1 c2 : List Came} → HasWritten t0 t1 o0 o1 T0 T1 c0 c1 → HasWritten t1 t2 o1 o2 T1 T2 c1 c2 → HasWritten t0 t2 o0 o2 T0 T2 c0 c2
+written_on one other = record {
+  takes = other.takes ∙ one.takes;
+  goes_on = λ base before. other.goes_on base (one.goes_on base before);
+  told = λ from base before. other.told from base (one.told from base before);
+}
 
 pub turns_on : (came : List Came) (one : Came) (turn : Turn) (all : List Came) → all ≡ came ++ one ∷ [] → turn_of one ≡ turn → turns all ≡ turns came ++ turn ∷ []
 turns_on came one turn all is e = ap turns is ∙ map-append turn_of came (one ∷ []) ∙ ap (λ t. turns came ++ t ∷ []) e

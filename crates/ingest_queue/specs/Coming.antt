@@ -46,6 +46,14 @@ offered came = filter_map offer_of came
 abbrev pub IsOffered : List Offer → List Offer → List Came → Type 0
 IsOffered before offers came = (offers ≡ before ++ offered came) × AreAnswered (offered came)
 
+-- While more came, the writer went on to take what it takes; whatever it was offered before, it was offered that and then
+-- what came; and so with what it tells
+pub record HasWritten {S : Type 0} (test test' : Row → Bool) (offers offers' : List Offer)
+    (Told Told' : S → List Offer → Type 0) (came came' : List Came) : Type 0 where
+  pub takes : test' ≡ test
+  pub goes_on : (base : List Offer) → IsOffered base offers came → IsOffered base offers' came'
+  pub told : (from : S) (base : List Offer) → Told from (base ++ offered came) → Told' from (base ++ offered came')
+
 -- the records, in their order
 abbrev pub turns : List Came → List Turn
 turns came = map turn_of came

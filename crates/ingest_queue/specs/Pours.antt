@@ -22,7 +22,8 @@ AreTakenBy takes reads = AllByRecursion (IsTakenBy takes) reads
 -- The rows of both files were offered, each once, and those of either file in its order. Each file has its end by what
 -- its own rows were answered, and what was accepted is what was written, in that order. What the writer tells of offers
 -- is told of these
-pub record IsPoured (one_file other_file : List RowRead) (before after : List Offer) (Told : List Offer → Type 0) (poured : Poured) : Type 0 where
+pub record IsPoured (one_file other_file : List RowRead) (before after : List Offer) (Told : List Offer → Type 0)
+    (poured : Poured) : Type 0 where
   pub made : List Offer
   pub grown : after ≡ before ++ made
   pub told : Told made

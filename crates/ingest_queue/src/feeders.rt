@@ -13,6 +13,7 @@ use mon_value::OutOfMemory;
 use std::alloc::AllocError;
 use std::marker::Model;
 use std::mem;
+use std::sync::Wait;
 
 /// The reader of a file. One record may be held back, which met a full queue. Contracts see that record, and those that
 /// are left behind it.
@@ -127,7 +128,8 @@ fn next_number(number: u32) -> Result<u32, OutOfMemory>
 }
 
 // Pushes a record, or holds it back.
-fn push_or_hold<F: Files, Q: Records>(
+fn push_or_hold<F: Files, Q: Records, R: Wait>(
+    rt: &R,
     queue: &Queue<F>,
     pass: &mut Hand,
     feeder: &mut Feeder<Q>,
@@ -141,7 +143,7 @@ fn push_or_hold<F: Files, Q: Records>(
         ((feeder.new ≡ feeder.old) × (view pass.new ≡ sent_by turn.second (view pass.old) turn))
         ((feeder.new ≡ (Some turn, feeder.old.1)) × (view pass.new ≡ view pass.old)) }
 {
-    match push(queue, pass, turn) {
+    match push(rt, queue, pass, turn) {
         Ok(()) => true,
         Err(back) => {
             feeder.hold(back);
@@ -150,32 +152,9 @@ fn push_or_hold<F: Files, Q: Records>(
     }
 }
 
-// Pushes the next record, where there is one, room for it, and nobody in the way.
-fn feed_one<F: Files, Q: Records, S: Starts>(
-    queue: &Queue<F>,
-    pass: &mut Hand,
-    feeder: &mut Feeder<Q>,
-    second: bool,
-    starts: &S,
-) -> Result<bool, OutOfMemory>
-    requires pass { IsPassOf queue.now pass.old }
-    requires feeding { IsFeeding (each F.one F.other) second (view pass.old) (left_of feeder.old) }
-    ensures pass { IsPassOf queue.now pass.new }
-    ensures feeding { OnOk result (IsFeeding (each F.one F.other) second (view pass.new) (left_of feeder.new)) }
-    ensures fed { IfOk result (λ fed. MatchBool fed (length (left_of feeder.new) < length (left_of feeder.old))
-        (length (left_of feeder.new) ≡ length (left_of feeder.old))) }
-{
-    match feeder.take()? {
-        Some(turn) => Ok(push_or_hold(queue, pass, feeder, turn)),
-        None => {
-            feeder.leave(starts);
-            Ok(false)
-        }
-    }
-}
-
-/// Pushes a file's records until the queue is full or somebody is in the way, or the file ends. Whether one was pushed.
-pub(crate) fn feed<F: Files, Q: Records, S: Starts>(
+/// Pushes a file's records until the queue stays full or somebody in the way, or the file ends. Whether one was pushed.
+pub(crate) fn feed<F: Files, Q: Records, S: Starts, R: Wait>(
+    rt: &R,
     queue: &Queue<F>,
     pass: &mut Hand,
     feeder: &mut Feeder<Q>,
@@ -191,8 +170,12 @@ pub(crate) fn feed<F: Files, Q: Records, S: Starts>(
 {
     feeder.arrive(starts);
     let mut fed = false;
-    while feed_one(queue, pass, feeder, second, starts)? {
+    while let Some(turn) = feeder.take()? {
+        if !push_or_hold(rt, queue, pass, feeder, turn) {
+            return Ok(fed);
+        }
         fed = true;
     }
+    feeder.leave(starts);
     Ok(fed)
 }

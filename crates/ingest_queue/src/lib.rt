@@ -6,6 +6,7 @@ mod ends;
 mod fed_rows;
 mod feeders;
 mod files;
+mod naps;
 mod pouring;
 mod records;
 mod refusals;

@@ -1,12 +1,11 @@
 // Rounds until both files have ended and all that was pushed was popped.
-ghost use Rattle.std.specs.Prelude.{◌≡◌, ◌++◌, ◌<◌, [], List, false, true, IfOk, OnOk};
+ghost use Rattle.std.specs.Prelude.{◌≡◌, ◌<◌, [], false, true, IfOk, OnOk};
 ghost use Rattle.std.specs.Bool.{MatchBool};
 ghost use Rattle.crossbeam_queue.specs.Passes.{view, IsPassOf, ruled_capacity};
-ghost use Rattle.ingest_queue.specs.Coming.{AllCame, AllTaken, IsNearer, IsOffered, IsUnderWay, offered, poured_by, turns};
+ghost use Rattle.ingest_queue.specs.Coming.{AllCame, AllTaken, HasWritten, IsNearer, IsOffered, IsUnderWay, offered, poured_by, turns};
 ghost use Rattle.ingest_queue.specs.Feeding.{left_of, numbered};
 ghost use Rattle.ingest_queue.specs.Pours.{AreTakenBy, IsBegun, IsPoured};
 ghost use Rattle.ingest_queue.specs.Roles.{AreFirst, each};
-ghost use Rattle.ingest_queue.specs.declared.row_writers.Offer.{Offer as OfferView};
 
 use crate::came::Trail;
 use crate::ends::Poured;
@@ -47,11 +46,9 @@ fn settle<F: Files, Q: Records, R: Wait, W: RowWriter>(
     ensures got { OnOk result ((view hand.new).got ≡ turns trail.new) }
     ensures popped { AreFirst (each F.one F.other) (turns trail.new) }
     ensures ends { OnOk result (poured.new ≡ poured_by trail.new) }
-    ensures offered { (base : List OfferView) → IsOffered base (W.offers writer.old) trail.old
-        → IsOffered base (W.offers writer.new) trail.new }
-    ensures told { (from : W) (base : List OfferView) → W.told from (base ++ offered trail.old) writer.old
-        → W.told from (base ++ offered trail.new) writer.new }
-    ensures takes { W.takes writer.new ≡ W.takes writer.old }
+    ensures written { HasWritten (W.takes writer.old) (W.takes writer.new) (W.offers writer.old) (W.offers writer.new)
+        (λ (from : W) list. W.told from list writer.old) (λ (from : W) list. W.told from list writer.new)
+        trail.old trail.new }
     ensures moved { IfOk result (λ moved. MatchBool moved
         (IsNearer (left_of first.old) (left_of second.old) trail.old (left_of first.new) (left_of second.new) trail.new)
         (AllCame (each F.one F.other) (turns trail.new))) }
@@ -94,11 +91,9 @@ fn go_on<
     ensures got { OnOk result ((view hand.new).got ≡ turns trail.new) }
     ensures popped { AreFirst (each F.one F.other) (turns trail.new) }
     ensures ends { OnOk result (poured.new ≡ poured_by trail.new) }
-    ensures offered { (base : List OfferView) → IsOffered base (W.offers writer.old) trail.old
-        → IsOffered base (W.offers writer.new) trail.new }
-    ensures told { (from : W) (base : List OfferView) → W.told from (base ++ offered trail.old) writer.old
-        → W.told from (base ++ offered trail.new) writer.new }
-    ensures takes { W.takes writer.new ≡ W.takes writer.old }
+    ensures written { HasWritten (W.takes writer.old) (W.takes writer.new) (W.offers writer.old) (W.offers writer.new)
+        (λ (from : W) list. W.told from list writer.old) (λ (from : W) list. W.told from list writer.new)
+        trail.old trail.new }
     ensures moved { IfOk result (λ moved. MatchBool moved
         (IsNearer (left_of first.old) (left_of second.old) trail.old (left_of first.new) (left_of second.new) trail.new)
         (AllCame (each F.one F.other) (turns trail.new))) }
@@ -139,11 +134,9 @@ fn pour_all<
     ensures all { OnOk result (AllCame (each F.one F.other) (turns trail.new)) }
     ensures ends { OnOk result (poured.new ≡ poured_by trail.new) }
     ensures popped { AreFirst (each F.one F.other) (turns trail.new) }
-    ensures offered { (base : List OfferView) → IsOffered base (W.offers writer.old) trail.old
-        → IsOffered base (W.offers writer.new) trail.new }
-    ensures told { (from : W) (base : List OfferView) → W.told from (base ++ offered trail.old) writer.old
-        → W.told from (base ++ offered trail.new) writer.new }
-    ensures takes { W.takes writer.new ≡ W.takes writer.old }
+    ensures written { HasWritten (W.takes writer.old) (W.takes writer.new) (W.offers writer.old) (W.offers writer.new)
+        (λ (from : W) list. W.told from list writer.old) (λ (from : W) list. W.told from list writer.new)
+        trail.old trail.new }
 {
     while go_on(
         rt, queue, hand, first, second, starts, writer, trail, poured,

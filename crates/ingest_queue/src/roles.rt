@@ -1,8 +1,9 @@
 // The rule of the queue.
-ghost use Rattle.std.specs.Prelude.{◌≡◌, true, false, [], IfOk, IfSome, OnOk, IfNone, MatchOption, MatchResult, ◌<◌};
+ghost use Rattle.std.specs.Prelude.{◌≡◌, true, [], IfOk, IfSome, OnOk, IfNone, MatchOption, MatchResult, ◌<◌};
 ghost use Rattle.crossbeam_queue.specs.Passes.{view, IsPassOf, ruled_capacity};
 ghost use Rattle.ingest_queue.specs.Roles.{IsEmptied, IsNext, IsTaken, alone, each, given, is_shared, may, put, sent_by, whole, without};
 
+use crate::naps::nap;
 use crate::turns::Turn;
 use crossbeam_queue::protocol::{Join, Lesson, Outcome, Protocol, Split};
 use crossbeam_queue::{Pass, RuledArrayQueue};
@@ -10,6 +11,12 @@ use std::alloc::{AllocError, Global};
 use std::collections::LinkedList;
 use std::marker::{Brand, PhantomData};
 use std::sync::Wait;
+
+// Microseconds that the queue is left to the writer where it is full, and to the readers where it is empty: the writer
+// takes a few for each record, so that it pops some dozens of them meanwhile.
+const FULL_NAP: u64 = 30;
+
+const EMPTY_NAP: u64 = 20;
 
 /// What a pass may do, and what it has done. No value of it is made.
 pub(crate) struct Role {
@@ -54,44 +61,48 @@ impl<F: Files> Protocol<Turn, Role> for InOrder<F> {
     ghost first = { whole [] [] [] };
 }
 
-/// The right to push the first file's records goes to a pass of its own.
+/// One of the two files, as a type.
+pub(crate) trait OneFile {
+    ghost use Rattle.std.specs.Prelude.{Bool};
+
+    ghost second: { Bool };
+}
+
+/// The first file.
 pub(crate) struct First;
 
-impl Split<Role> for First {
+impl OneFile for First {
     ghost use Rattle.std.specs.Prelude.{false};
-    ghost use Rattle.ingest_queue.specs.Roles.{alone, put, without};
 
-    ghost left = { λ v. without false v };
-
-    ghost right = { λ v. alone false (put false v) };
+    ghost second = { false };
 }
 
-impl Join<Role> for First {
-    ghost use Rattle.std.specs.Prelude.{false};
-    ghost use Rattle.ingest_queue.specs.Roles.{given, put, spent};
-
-    ghost both = { λ v w. given false v (put false w) };
-
-    ghost spent = { spent };
-}
-
-/// The same of the second file's.
+/// The second file.
 pub(crate) struct Second;
 
-impl Split<Role> for Second {
+impl OneFile for Second {
     ghost use Rattle.std.specs.Prelude.{true};
-    ghost use Rattle.ingest_queue.specs.Roles.{alone, put, without};
 
-    ghost left = { λ v. without true v };
-
-    ghost right = { λ v. alone true (put true v) };
+    ghost second = { true };
 }
 
-impl Join<Role> for Second {
-    ghost use Rattle.std.specs.Prelude.{true};
+/// The right to push a file's records goes to a pass of its own, and comes back.
+pub(crate) struct RightOf<X> {
+    file: PhantomData<X>,
+}
+
+impl<X: OneFile> Split<Role> for RightOf<X> {
+    ghost use Rattle.ingest_queue.specs.Roles.{alone, put, without};
+
+    ghost left = { λ v. without X.second v };
+
+    ghost right = { λ v. alone X.second (put X.second v) };
+}
+
+impl<X: OneFile> Join<Role> for RightOf<X> {
     ghost use Rattle.ingest_queue.specs.Roles.{given, put, spent};
 
-    ghost both = { λ v w. given true v (put true w) };
+    ghost both = { λ v w. given X.second v (put X.second w) };
 
     ghost spent = { spent };
 }
@@ -145,59 +156,59 @@ pub(crate) fn open<F: Files>(alloc: Global, room: usize) -> Result<(Queue<F>, Ha
     RuledArrayQueue::ruled(alloc, room)
 }
 
-/// The right to push the first file's records, as a pass of its own.
-pub(crate) fn part_first<F: Files>(queue: &Queue<F>, pass: &mut Hand) -> Hand
-    requires { IsPassOf queue.now pass.old × (may false (view pass.old) ≡ true) }
-    ensures left { IsPassOf queue.now pass.new × (view pass.new ≡ without false (view pass.old)) }
-    ensures right { IsPassOf queue.now result × (view result ≡ alone false (put false (view pass.old))) }
+/// The right to push a file's records, as a pass of its own.
+pub(crate) fn part<F: Files, X: OneFile>(queue: &Queue<F>, pass: &mut Hand) -> Hand
+    requires { IsPassOf queue.now pass.old × (may X.second (view pass.old) ≡ true) }
+    ensures left { IsPassOf queue.now pass.new × (view pass.new ≡ without X.second (view pass.old)) }
+    ensures right { IsPassOf queue.now result × (view result ≡ alone X.second (put X.second (view pass.old))) }
 {
-    queue.another::<First>(pass)
+    queue.another::<RightOf<X>>(pass)
 }
 
-/// The right to push the second file's records, as a pass of its own.
-pub(crate) fn part_second<F: Files>(queue: &Queue<F>, pass: &mut Hand) -> Hand
-    requires { IsPassOf queue.now pass.old × (may true (view pass.old) ≡ true) }
-    ensures left { IsPassOf queue.now pass.new × (view pass.new ≡ without true (view pass.old)) }
-    ensures right { IsPassOf queue.now result × (view result ≡ alone true (put true (view pass.old))) }
+/// Takes a file's pusher back.
+pub(crate) fn take_back<F: Files, X: OneFile>(queue: &Queue<F>, pass: &mut Hand, other: Hand)
+    requires { IsPassOf queue.now pass.old × IsPassOf queue.now other × (may X.second (view other) ≡ true) }
+    ensures { IsPassOf queue.now pass.new × (view pass.new ≡ given X.second (view pass.old) (put X.second (view other))) }
 {
-    queue.another::<Second>(pass)
+    queue.absorb::<RightOf<X>>(pass, other);
 }
 
-/// Takes the first file's pusher back.
-pub(crate) fn take_first<F: Files>(queue: &Queue<F>, pass: &mut Hand, other: Hand)
-    requires { IsPassOf queue.now pass.old × IsPassOf queue.now other × (may false (view other) ≡ true) }
-    ensures { IsPassOf queue.now pass.new × (view pass.new ≡ given false (view pass.old) (put false (view other))) }
-{
-    queue.absorb::<First>(pass, other);
-}
-
-/// Takes the second file's pusher back.
-pub(crate) fn take_second<F: Files>(queue: &Queue<F>, pass: &mut Hand, other: Hand)
-    requires { IsPassOf queue.now pass.old × IsPassOf queue.now other × (may true (view other) ≡ true) }
-    ensures { IsPassOf queue.now pass.new × (view pass.new ≡ given true (view pass.old) (put true (view other))) }
-{
-    queue.absorb::<Second>(pass, other);
-}
-
-/// Pushes a record, where there is room and nobody in the way.
-pub(crate) fn push<F: Files>(queue: &Queue<F>, pass: &mut Hand, turn: Turn) -> Result<(), Turn>
+/// Pushes a record, where there is room and nobody in the way, at once or behind a nap.
+pub(crate) fn push<F: Files, R: Wait>(
+    rt: &R,
+    queue: &Queue<F>,
+    pass: &mut Hand,
+    turn: Turn,
+) -> Result<(), Turn>
     requires pass { IsPassOf queue.now pass.old × (may turn.second (view pass.old) ≡ true) }
     requires next { IsNext (each F.one F.other) (view pass.old) turn }
     ensures pass { IsPassOf queue.now pass.new }
     ensures pushed { MatchResult result (λ _. view pass.new ≡ sent_by turn.second (view pass.old) turn)
         (λ back. (back ≡ turn) × (view pass.new ≡ view pass.old)) }
 {
-    queue.try_push_as::<Sends>(pass, turn)
+    match queue.try_push_as::<Sends>(pass, turn) {
+        Ok(()) => Ok(()),
+        Err(back) => {
+            nap(rt, FULL_NAP);
+            queue.try_push_as::<Sends>(pass, back)
+        }
+    }
 }
 
-/// Pops a record, where there is one and nobody in the way.
-pub(crate) fn pop<F: Files>(queue: &Queue<F>, pass: &mut Hand) -> Option<Turn>
+/// Pops a record, where there is one and nobody in the way, at once or behind a nap.
+pub(crate) fn pop<F: Files, R: Wait>(rt: &R, queue: &Queue<F>, pass: &mut Hand) -> Option<Turn>
     requires { IsPassOf queue.now pass.old × ((view pass.old).pops ≡ true) }
     ensures pass { IsPassOf queue.now pass.new }
     ensures popped { MatchOption result (view pass.new ≡ view pass.old)
         (λ turn. IsTaken (each F.one F.other) (view pass.old) turn (view pass.new)) }
 {
-    queue.try_pop_as::<Takes<F>>(pass)
+    match queue.try_pop_as::<Takes<F>>(pass) {
+        Some(turn) => Some(turn),
+        None => {
+            nap(rt, EMPTY_NAP);
+            queue.try_pop_as::<Takes<F>>(pass)
+        }
+    }
 }
 
 /// Pops a record, or finds that whatever was pushed was popped.

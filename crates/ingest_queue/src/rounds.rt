@@ -1,19 +1,16 @@
 // Rounds in which both files' records are pushed while the writer pops.
-ghost use Rattle.std.specs.Prelude.{◌≡◌, ◌+◌, ◌++◌, ◌<◌, List, length, true, false, IfOk, OnOk};
+ghost use Rattle.std.specs.Prelude.{◌≡◌, ◌+◌, ◌<◌, length, true, false, IfOk, OnOk};
 ghost use Rattle.std.specs.Bool.{MatchBool};
 ghost use Rattle.crossbeam_queue.specs.Passes.{view, IsPassOf, ruled_capacity};
-ghost use Rattle.ingest_queue.specs.Coming.{AllCame, AllTaken, IsNearer, IsOffered, IsStill, IsUnderWay, either_of, offered, poured_by, pops_alone, turns};
+ghost use Rattle.ingest_queue.specs.Coming.{AllCame, AllTaken, HasWritten, IsNearer, IsStill, IsUnderWay, either_of, poured_by, pops_alone, turns};
 ghost use Rattle.ingest_queue.specs.Feeding.{IsFeeding, left_of};
 ghost use Rattle.ingest_queue.specs.Roles.{AreFirst, IsEmptied, each};
-ghost use Rattle.ingest_queue.specs.declared.row_writers.Offer.{Offer as OfferView};
 
 use crate::came::Trail;
 use crate::ends::Poured;
 use crate::feeders::{Feeder, feed};
 use crate::records::Records;
-use crate::roles::{
-    Files, Hand, Queue, part_first, part_second, push_surely, take_first, take_second,
-};
+use crate::roles::{Files, First, Hand, Queue, Second, part, push_surely, take_back};
 use crate::row_writers::RowWriter;
 use crate::starts::Starts;
 use crate::writers::drain;
@@ -22,7 +19,12 @@ use std::sync::Wait;
 use std::thread::{Threads, join_mut};
 
 // Pushes records of both files beside each other. Whether one was pushed.
-fn feed_both<F: Files + Send + Sync, Q: Records + Drop + Send, S: Starts + Sync, R: Threads + Sync>(
+fn feed_both<
+    F: Files + Send + Sync,
+    Q: Records + Drop + Send,
+    S: Starts + Sync,
+    R: Threads + Wait + Sync,
+>(
     rt: &R,
     queue: &Queue<F>,
     first_pass: &mut Hand,
@@ -45,8 +47,8 @@ fn feed_both<F: Files + Send + Sync, Q: Records + Drop + Send, S: Starts + Sync,
 {
     let (one, other) = join_mut(
         rt,
-        &mut || feed(queue, first_pass, first, false, starts),
-        &mut || feed(queue, second_pass, second, true, starts),
+        &mut || feed(rt, queue, first_pass, first, false, starts),
+        &mut || feed(rt, queue, second_pass, second, true, starts),
     );
     either(one, other)
 }
@@ -72,7 +74,7 @@ fn round_over<
     F: Files + Send + Sync,
     Q: Records + Drop + Send,
     S: Starts + Sync,
-    R: Threads + Sync,
+    R: Threads + Wait + Sync,
     W: RowWriter,
 >(
     rt: &R,
@@ -104,11 +106,9 @@ fn round_over<
     ensures own { OnOk result (view pass.new ≡ pops_alone (turns trail.new)) }
     ensures popped { AreFirst (each F.one F.other) (turns trail.new) }
     ensures ends { OnOk result (poured.new ≡ poured_by trail.new) }
-    ensures offered { (base : List OfferView) → IsOffered base (W.offers writer.old) trail.old
-        → IsOffered base (W.offers writer.new) trail.new }
-    ensures told { (from : W) (base : List OfferView) → W.told from (base ++ offered trail.old) writer.old
-        → W.told from (base ++ offered trail.new) writer.new }
-    ensures takes { W.takes writer.new ≡ W.takes writer.old }
+    ensures written { HasWritten (W.takes writer.old) (W.takes writer.new) (W.offers writer.old) (W.offers writer.new)
+        (λ (from : W) list. W.told from list writer.old) (λ (from : W) list. W.told from list writer.new)
+        trail.old trail.new }
     ensures moved { IfOk result (λ moved. MatchBool moved
         (IsNearer (left_of first.old) (left_of second.old) trail.old (left_of first.new) (left_of second.new) trail.new)
         (IsStill (left_of first.old) (left_of second.old) trail.old (left_of first.new) (left_of second.new) trail.new)) }
@@ -121,7 +121,7 @@ fn round_over<
             requires feeding { IsFeeding (each F.one F.other) false (view first_pass.now) (left_of first.now) }
             requires other { IsFeeding (each F.one F.other) true (view second_pass.now) (left_of second.now) }
         { feed_both(rt, queue, first_pass, first, second_pass, second, starts) },
-        &mut || drain(queue, pass, writer, trail, poured),
+        &mut || drain(rt, queue, pass, writer, trail, poured),
     );
     either(fed, drained)
 }
@@ -131,7 +131,7 @@ pub(crate) fn round<
     F: Files + Send + Sync,
     Q: Records + Drop + Send,
     S: Starts + Sync,
-    R: Threads + Sync,
+    R: Threads + Wait + Sync,
     W: RowWriter,
 >(
     rt: &R,
@@ -154,17 +154,15 @@ pub(crate) fn round<
     ensures got { OnOk result ((view hand.new).got ≡ turns trail.new) }
     ensures popped { AreFirst (each F.one F.other) (turns trail.new) }
     ensures ends { OnOk result (poured.new ≡ poured_by trail.new) }
-    ensures offered { (base : List OfferView) → IsOffered base (W.offers writer.old) trail.old
-        → IsOffered base (W.offers writer.new) trail.new }
-    ensures told { (from : W) (base : List OfferView) → W.told from (base ++ offered trail.old) writer.old
-        → W.told from (base ++ offered trail.new) writer.new }
-    ensures takes { W.takes writer.new ≡ W.takes writer.old }
+    ensures written { HasWritten (W.takes writer.old) (W.takes writer.new) (W.offers writer.old) (W.offers writer.new)
+        (λ (from : W) list. W.told from list writer.old) (λ (from : W) list. W.told from list writer.new)
+        trail.old trail.new }
     ensures moved { IfOk result (λ moved. MatchBool moved
         (IsNearer (left_of first.old) (left_of second.old) trail.old (left_of first.new) (left_of second.new) trail.new)
         (IsStill (left_of first.old) (left_of second.old) trail.old (left_of first.new) (left_of second.new) trail.new)) }
 {
-    let mut first_pass = part_first(queue, hand);
-    let mut second_pass = part_second(queue, hand);
+    let mut first_pass = part::<F, First>(queue, hand);
+    let mut second_pass = part::<F, Second>(queue, hand);
     match round_over(
         rt,
         queue,
@@ -179,8 +177,8 @@ pub(crate) fn round<
         poured,
     ) {
         Ok(moved) => {
-            take_first(queue, hand, first_pass);
-            take_second(queue, hand, second_pass);
+            take_back::<F, First>(queue, hand, first_pass);
+            take_back::<F, Second>(queue, hand, second_pass);
             Ok(moved)
         }
         Err(fault) => Err(fault),

@@ -9,21 +9,21 @@ pub returns-in_err-queue-clause-popped : goal.returns-in_err-queue-clause-popped
 returns-in_err-queue-clause-popped g c = nothing_came _ _ c.requires.none
 
 pub returns-in-Ok-clause-offered : goal.returns-in-Ok-clause-offered
-returns-in-Ok-clause-offered g c = c.pour_all-done.ensures.offered _ (offered_none _ _ c.requires.none)
+returns-in-Ok-clause-offered g c = c.pour_all-done.ensures.written.goes_on _ (offered_none _ _ c.requires.none)
 
 pub returns-clause-offered : goal.returns-clause-offered
-returns-clause-offered g c = c.pour_all-done.ensures.offered _ (offered_none _ _ c.requires.none)
+returns-clause-offered g c = c.pour_all-done.ensures.written.goes_on _ (offered_none _ _ c.requires.none)
 
 pub returns-in_err-queue-clause-told : goal.returns-in_err-queue-clause-told
 returns-in_err-queue-clause-told g c = subst (λ came. g.W.RowWriter.told c.args.writer.now (offered came) c.args.writer.now) (sym c.requires.none) c.requires.begun
 
 pub returns-in-Ok-clause-told : goal.returns-in-Ok-clause-told
 returns-in-Ok-clause-told g c =
-    c.pour_all-done.ensures.told _ [] (subst (λ came. g.W.RowWriter.told c.args.writer.now (offered came) c.args.writer.now) (sym c.requires.none) c.requires.begun)
+    c.pour_all-done.ensures.written.told _ [] (subst (λ came. g.W.RowWriter.told c.args.writer.now (offered came) c.args.writer.now) (sym c.requires.none) c.requires.begun)
 
 pub returns-clause-told : goal.returns-clause-told
 returns-clause-told g c =
-    c.pour_all-done.ensures.told _ [] (subst (λ came. g.W.RowWriter.told c.args.writer.now (offered came) c.args.writer.now) (sym c.requires.none) c.requires.begun)
+    c.pour_all-done.ensures.written.told _ [] (subst (λ came. g.W.RowWriter.told c.args.writer.now (offered came) c.args.writer.now) (sym c.requires.none) c.requires.begun)
 
 pub pour_all-done-requires-clause-way : goal.pour_all-done-requires-clause-way
 pour_all-done-requires-clause-way g c κs within =
