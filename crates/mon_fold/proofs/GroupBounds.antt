@@ -43,7 +43,7 @@ cons_typed : (of : ValueType) (o : Option Value) (values : List Value) → IfSom
 cons_typed of None values fits all = all
 cons_typed of (Some v) values fits all = (fits, all)
 
-cell_typed : (columns : List Column) (cells : List Value) (place : ℕ) (column : Column) → FitColumns columns cells
+pub cell_typed : (columns : List Column) (cells : List Value) (place : ℕ) (column : Column) → FitColumns columns cells
     → slice_get columns place ≡ Some column → IfSome (slice_get cells place) (HasType column.of)
 cell_typed [] cells place column fits found = absurd cc
 cell_typed (c ∷ columns) [] place column fits found = absurd fits
@@ -52,7 +52,7 @@ cell_typed (c ∷ columns) (v ∷ cells) zero column fits found =
     subst (λ (k : Column). HasType k.of v) same fits.0
 cell_typed (c ∷ columns) (v ∷ cells) (suc place) column fits found = cell_typed columns cells place column fits.1 found
 
-column_typed : (columns : List Column) (place : ℕ) (column : Column) (rows : List TimedRow)
+pub column_typed : (columns : List Column) (place : ℕ) (column : Column) (rows : List TimedRow)
     → AllByRecursion (λ (row : TimedRow). FitColumns columns row.cells) rows
     → slice_get columns place ≡ Some column → AllByRecursion (HasType column.of) (column_of place rows)
 column_typed columns place column [] shaped found = tt
@@ -60,7 +60,7 @@ column_typed columns place column (row ∷ rows) shaped found =
     cons_typed column.of (slice_get row.cells place) (column_of place rows) (cell_typed columns row.cells place column
     shaped.0 found) (column_typed columns place column rows shaped.1 found)
 
-cell_there : (columns : List Column) (cells : List Value) (place : ℕ) (column : Column) → FitColumns columns cells
+pub cell_there : (columns : List Column) (cells : List Value) (place : ℕ) (column : Column) → FitColumns columns cells
     → slice_get columns place ≡ Some column
     → (rest : List Value) → length (cons_option (slice_get cells place) rest) ≡ suc (length rest)
 cell_there [] cells place column fits found rest = absurd cc
@@ -99,10 +99,10 @@ numbers_length (value.Dist counts ∷ values) = omega (arith, numbers_length val
 
 -- ---- distributions of one length
 
-abbrev AllLong : ℕ → List (List ℕ) → Type 0
+abbrev pub AllLong : ℕ → List (List ℕ) → Type 0
 AllLong n items = AllByRecursion (λ (counts : List ℕ). length counts ≡ n) items
 
-distributions_long : (bounds : List ℤ) (values : List Value) → AllByRecursion (HasType (type.Dist bounds)) values
+pub distributions_long : (bounds : List ℤ) (values : List Value) → AllByRecursion (HasType (type.Dist bounds)) values
     → AllLong (length bounds + 1) (distributions_in values)
 distributions_long bounds [] all = tt
 distributions_long bounds (value.Int z ∷ values) all = absurd all.0
@@ -110,7 +110,7 @@ distributions_long bounds (value.Bool p ∷ values) all = absurd all.0
 distributions_long bounds (value.Text s ∷ values) all = absurd all.0
 distributions_long bounds (value.Dist counts ∷ values) all = (all.0, distributions_long bounds values all.1)
 
-distributions_many : (bounds : List ℤ) (values : List Value) → AllByRecursion (HasType (type.Dist bounds)) values
+pub distributions_many : (bounds : List ℤ) (values : List Value) → AllByRecursion (HasType (type.Dist bounds)) values
     → length (distributions_in values) ≡ length values
 distributions_many bounds [] all = refl
 distributions_many bounds (value.Int z ∷ values) all = absurd all.0
@@ -118,7 +118,7 @@ distributions_many bounds (value.Bool p ∷ values) all = absurd all.0
 distributions_many bounds (value.Text s ∷ values) all = absurd all.0
 distributions_many bounds (value.Dist counts ∷ values) all = omega (arith, distributions_many bounds values all.1)
 
-counts_long : (n : ℕ) (first : List ℕ) (items : List (List ℕ)) → length first ≡ n → AllLong n items
+pub counts_long : (n : ℕ) (first : List ℕ) (items : List (List ℕ)) → length first ≡ n → AllLong n items
     → length (counts_of (first ∷ items)) ≡ n
 counts_long n first [] long all = omega (arith, length-counts_added first [])
 counts_long n first (next ∷ items) long all =

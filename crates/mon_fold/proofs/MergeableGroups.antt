@@ -64,7 +64,7 @@ module _ (columns : List Column) (by : List ℕ) (with : List Aggregate) (xs ys 
       parts_can columns some more shaped (rows_some by key xs there) fewer with can.taken
       (sums_at with (xs ++ ys) (some ++ more) key.time least can.sums)
 
-  can_take : (key : TimedRow) → CanTakeGroup (partial_groups by with xs) (parts_at by with ys key)
+  pub can_take : (key : TimedRow) → CanTakeGroup (partial_groups by with xs) (parts_at by with ys key)
   can_take key =
       let keys = group_keys by xs in
       let parts = λ (k : TimedRow). parts_over with (rows_in by k xs) in

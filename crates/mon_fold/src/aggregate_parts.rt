@@ -130,8 +130,8 @@ fn add_counts(part: &mut AggregatePart, counts: Option<&Counts>)
     }
 }
 
-// The number in a row's column, if it holds one.
-fn number_at(row: &TimedRow, column: u32) -> Option<i128>
+/// The number in a row's column, if it holds one.
+pub fn number_at(row: &TimedRow, column: u32) -> Option<i128>
     ensures { numbers_in (column_of column (row.now ∷ [])) ≡ option_to_list result }
 {
     match row.cells.as_slice().get(column as usize) {
@@ -153,8 +153,8 @@ fn mean_at(row: &TimedRow, column: u32) -> MeanPart
     }
 }
 
-// The distribution in a row's column, if it holds one.
-fn distribution_at(row: &TimedRow, column: u32) -> Option<&Counts>
+/// The distribution in a row's column, if it holds one.
+pub fn distribution_at(row: &TimedRow, column: u32) -> Option<&Counts>
     ensures { distributions_in (column_of column (row.now ∷ [])) ≡ option_to_list (option_copied result) }
 {
     match row.cells.as_slice().get(column as usize) {

@@ -12,6 +12,7 @@ ghost use Rattle.mon_fold.specs.PartialGroups.{merged_groups, partial_groups, pa
 use crate::aggregate_parts::{AggregateParts, finish_part};
 use crate::grouping::groups_of;
 use crate::merging::{copied_groups, new_groups, put_groups};
+use crate::open_groups::OpenGroups;
 use insertion_map::InsertionMap;
 use mon_value::{
     Aggregate, AggregateKind, Aggregates, Cells, Column, Columns, ListOf, OutOfMemory, Positions,
@@ -44,6 +45,41 @@ impl Parts {
         ensures count { result ≡ length self.now.groups }
     {
         self.groups.len()
+    }
+
+    /// The groups with the map that has them, to be written. No memory is taken.
+    pub fn open(self) -> OpenGroups
+        ensures columns { result.columns ≡ self.columns }
+        ensures kinds { result.kinds ≡ self.kinds }
+        ensures groups { result.groups.entries ≡ self.groups }
+    {
+        let Parts {
+            columns,
+            kinds,
+            groups,
+        } = self;
+        OpenGroups {
+            columns,
+            kinds,
+            groups,
+        }
+    }
+
+    // The groups of a map.
+    pub(crate) fn of_groups(
+        columns: Columns,
+        kinds: ListOf<AggregateKind>,
+        groups: InsertionMap<TimedRow, AggregateParts>,
+    ) -> Parts
+        ensures columns { result.columns ≡ columns }
+        ensures kinds { result.kinds ≡ kinds }
+        ensures groups { result.groups ≡ groups.entries }
+    {
+        Parts {
+            columns,
+            kinds,
+            groups,
+        }
     }
 }
 
@@ -106,7 +142,7 @@ fn columns_of(
 }
 
 // Adds copies of the items at places.
-fn add_at<T: TryCopy + Drop>(
+pub(crate) fn add_at<T: TryCopy + Drop>(
     alloc: Global,
     list: &mut ListOf<T>,
     items: &[T],

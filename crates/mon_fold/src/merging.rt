@@ -90,8 +90,8 @@ fn put_group(
     }
 }
 
-// Adds a group at the end, where there is room.
-fn add_group(
+/// Adds a group at the end, where there is room.
+pub(crate) fn add_group(
     groups: &mut InsertionMap<TimedRow, AggregateParts>,
     group: Option<(TimedRow, AggregateParts)>,
 )

@@ -200,8 +200,8 @@ fn take_off(mut counts: Counts, points: &[KeptPoint]) -> Counts
     counts
 }
 
-// Takes each count of the second off the one in its place in the first.
-fn subtract(counts: &mut [u128], others: &[u128])
+/// Takes each count of the second off the one in its place in the first.
+pub fn subtract(counts: &mut [u128], others: &[u128])
     requires buckets { length others.now ≡ length counts.old }
     requires held { (k : ℕ) → get_or others.now k 0 ≤ get_or counts.old k 0 }
     ensures buckets { length counts.new ≡ length counts.old }

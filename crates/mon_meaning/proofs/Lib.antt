@@ -1,12 +1,13 @@
-mod AnswerLemmas
+pub mod AnswerLemmas
 pub mod ApartKeys
 pub mod ApartSeries
-mod FetchLemmas
+pub mod FetchLemmas
 pub mod FilterLemmas
 mod FilterSteps
+pub mod FlowLemmas
 mod ItemLemmas
 mod KeptLemmas
-mod KeyCells
+pub mod KeyCells
 pub mod KeyOrders
 mod MapGroups
 pub mod MeaningOrderLemmas
@@ -16,14 +17,14 @@ pub mod OperationOrders
 pub mod PartLemmas
 pub mod PartsToComeLemmas
 pub mod PathLemmas
-mod ReachLemmas
-mod ReadyLemmas
+pub mod ReachLemmas
+pub mod ReadyLemmas
 pub mod SeriesOrderLemmas
 mod SameTreeLemmas
-mod SeriesOrders
+pub mod SeriesOrders
 mod SideLemmas
 pub mod StandingPieces
 mod TopLemmas
 pub mod WalkLemmas
 pub mod WantedLemmas
-mod WindowLemmas
+pub mod WindowLemmas

@@ -2,6 +2,7 @@ pub mod Central
 pub mod Counts
 pub mod LeafAnswers
 pub mod GoingUp
+pub mod Incremental
 pub mod Operations
 pub mod ReadableSlots
 pub mod Standing

@@ -53,9 +53,9 @@ pub(crate) fn aligned_rows(
 
 /// A series that meets a fetch, and has points in its reach.
 #[derive(Drop)]
-struct Met<'a> {
-    key: &'a Shared<SeriesKey>,
-    series: &'a Series,
+pub(crate) struct Met<'a> {
+    pub key: &'a Shared<SeriesKey>,
+    pub series: &'a Series,
 }
 
 // The series that meet a fetch and have points in reach, which are counted.
@@ -114,8 +114,8 @@ fn add_met<'a>(
     Ok(())
 }
 
-// How many points in reach a series has, if it meets the fetch.
-fn reached_count(
+/// How many points in reach a series has, if it meets the fetch.
+pub(crate) fn reached_count(
     setting: &EvaluationSetting<'_>,
     by: Aligner,
     fetch: &Fetch<'_>,
@@ -211,8 +211,8 @@ fn add_rows_met(
     }
 }
 
-// The values of a series at the times of the grid.
-fn series_values(
+/// The values of a series at the times of the grid.
+pub(crate) fn series_values(
     setting: &EvaluationSetting<'_>,
     by: Aligner,
     fetch: &Fetch<'_>,
@@ -229,8 +229,8 @@ fn series_values(
     align(setting.alloc, &wanted, by, &setting.grid)
 }
 
-// Adds a row for each value of a series.
-fn add_rows(
+/// Adds a row for each value of a series.
+pub(crate) fn add_rows(
     alloc: Global,
     key: &SeriesKey,
     values: TimedValues,

@@ -14,7 +14,7 @@ use typed_trees::{Node, names_keys};
 
 /// A fetch with its filters. A filter that names keys alone is tried once for a series; another for each of its points.
 #[derive(Drop)]
-pub(crate) struct Fetch<'a> {
+pub struct Fetch<'a> {
     schema: &'a Text,
     metric: &'a Text,
     of_series: Vec<BoundPredicate>,
@@ -36,7 +36,7 @@ impl<'a> Model for Fetch<'a> {
 
 impl<'a> Fetch<'a> {
     /// The fetch that points flow from, with the filters on their way; none where rows of a table flow.
-    pub(crate) fn new(alloc: Global, input: &'a Node) -> Result<Option<Fetch<'a>>, OutOfMemory>
+    pub fn new(alloc: Global, input: &'a Node) -> Result<Option<Fetch<'a>>, OutOfMemory>
         ensures found { IfOk result (λ found. IsFetchFound (node_tree input.now) found) }
     {
         let mut of_series = Vec::new(alloc);
@@ -71,14 +71,14 @@ impl<'a> Fetch<'a> {
     }
 
     /// The metric that is fetched.
-    pub(crate) fn metric(&self) -> &Text
+    pub fn metric(&self) -> &Text
         ensures metric { result.now ≡ self.now.metric }
     {
         self.metric
     }
 
     /// Whether a series is fetched, and each filter of its fields holds of it.
-    pub(crate) fn is_met(&self, alloc: Global, key: &SeriesKey) -> Result<bool, OutOfMemory>
+    pub fn is_met(&self, alloc: Global, key: &SeriesKey) -> Result<bool, OutOfMemory>
         ensures met { IfOk result (λ met. met ≡ is_fetch_met self.now key.now) }
     {
         if !self.names(key) {
@@ -113,14 +113,14 @@ impl<'a> Fetch<'a> {
     }
 
     /// Whether each point of a series is kept that is met.
-    pub(crate) fn keeps_all(&self) -> bool
+    pub fn keeps_all(&self) -> bool
         ensures none { result ≡ true → self.now.of_points ≡ [] }
     {
         self.of_points.is_empty()
     }
 
     /// Whether each filter holds of the point with this value in a series that is met, and the series' cells again.
-    pub(crate) fn keeps(
+    pub fn keeps(
         &self,
         alloc: Global,
         cells: Cells,
@@ -139,7 +139,7 @@ impl<'a> Fetch<'a> {
 }
 
 /// The cells of a series: its target's fields and its metric's.
-pub(crate) fn series_cells(alloc: Global, key: &SeriesKey) -> Result<Cells, OutOfMemory>
+pub fn series_cells(alloc: Global, key: &SeriesKey) -> Result<Cells, OutOfMemory>
     ensures cells { IfOk result (λ cells. cells ≡ loads.series_cells key.now) }
 {
     let of_target = key.target.fields.as_slice();

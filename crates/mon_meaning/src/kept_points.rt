@@ -7,6 +7,7 @@ ghost use Rattle.mon_value.specs.Grids as grids;
 ghost use Rattle.mon_value.specs.LeafHistories.{last_end};
 ghost use Rattle.mon_value.specs.Grids.{EndsRise};
 ghost use Rattle.mon_meaning.specs.within.FetchViews.{points_kept};
+ghost use Rattle.mon_meaning.specs.within.Reach as reach;
 ghost use Rattle.mon_meaning.specs.within.Reach.{earlier_wanted, points_wanted, points_within_reach};
 
 use crate::fetches::{Fetch, series_cells};
@@ -79,6 +80,15 @@ fn least_time(grid: &Grid) -> i64
     let times = (grid.within.unsigned_abs() + (every - 1)) / every;
     let span = (times - 1) * every;
     grid.moment - span as i64
+}
+
+/// The end at and below which no point is in reach of an alignment.
+pub fn reach_start(by: Aligner, grid: &Grid) -> i64
+    requires lawful { grids.IsLawfulGrid grid.now }
+    requires looks_back { grids.IsDuration (grids.seconds_of by) }
+    ensures start { result ≡ reach.reach_start grid.now by }
+{
+    least_time(grid) - seconds_of(by)
 }
 
 /// A series of the points that an alignment wants of a series that is met: of those in reach the ones that the filters

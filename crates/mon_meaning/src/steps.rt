@@ -104,8 +104,9 @@ fn pairs_with(
     pairs
 }
 
-// The rows of an operation that only one table flows into, or of a source.
-fn one_sided_rows(alloc: Global, node: &Node, rows: TimedRows) -> Result<TimedRows, OutOfMemory>
+/// The rows of an operation that only one table flows into, on those that do; a source passes on what it has. Nothing is
+/// counted.
+pub fn one_sided_rows(alloc: Global, node: &Node, rows: TimedRows) -> Result<TimedRows, OutOfMemory>
     requires one { HasOneSide (node_tree node.now) }
     requires can { CanOperate (node_tree node.now) rows [] }
     ensures rows { IfOk result (λ made. made ≡ meant.operation_rows (node_tree node.now) rows []) }

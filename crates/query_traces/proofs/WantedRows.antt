@@ -1,33 +1,29 @@
 -- Rows whose series meet no fetch of a query change neither what it means nor its load.
-use Rattle.std.proofs.Common.{◌≡◌, ◌∙◌, ◌+◌, ℤ, Bool, true, false, ◌&&◌, cond, Option, Some, None, List, [], ◌∷◌, ◌++◌}
+use Rattle.std.proofs.Common.{◌≡◌, ◌∙◌, ◌+◌, ℤ, Bool, true, false, ◌&&◌, cond, List, [], ◌∷◌, ◌++◌}
 use Rattle.std.proofs.Common.{length, refl, sym, ap}
 use Rattle.std.specs.List.{AllByRecursion, filter, filter_map, flat_map, list_any}
-use Rattle.std.proofs.lemmas.Bool.{and_from, and_parts, false≢true, or_left, or_right}
-use Rattle.mon_value.proofs.SameLemmas.{same_text-Decides}
+use Rattle.std.proofs.lemmas.Bool.{or_left, or_right}
 use Rattle.mon_value.specs.Groups.{group_rows, top_rows}
 use Rattle.mon_value.specs.Tables.{pairs_of}
-use Rattle.mon_value.specs.Same.{same_text}
 use Rattle.mon_value.specs.declared.aligners.Aligner.{Aligner}
 use Rattle.mon_value.specs.declared.grids.Grid.{Grid}
 use Rattle.mon_value.specs.declared.rows.Row.{Row}
-use Rattle.mon_value.specs.declared.schemas.MetricSchema.{MetricSchema}
-use Rattle.mon_value.specs.declared.schemas.TargetSchema.{TargetSchema}
 use Rattle.mon_value.specs.declared.tables.TimedRow.{TimedRow}
-use Rattle.mon_schema.specs.Fits.{fits, fits_both, row_fits}
-use Rattle.mon_schema.specs.Names.{SchemaLists, metric_named, target_named}
+use Rattle.mon_schema.specs.Fits.{fits}
+use Rattle.mon_schema.specs.Names.{SchemaLists}
 use Rattle.mql_ast.specs.Rows.{predicate_truth}
-use Rattle.typed_trees.specs.Fetches.{columns_fetched, fetch_columns}
-use Rattle.typed_trees.specs.Meaning.{is_reached, lets_in, load, load_of, meets, points_reached, aligned_rows, grid_of}
-use Rattle.typed_trees.specs.Meaning.{is_fetched, is_point_kept, meaning, points_meant, rows_meant, value_row}
+use Rattle.typed_trees.specs.Meaning.{is_reached, load, load_of, meets, points_reached, aligned_rows, grid_of}
+use Rattle.typed_trees.specs.Meaning.{meaning, points_meant, rows_meant, value_row}
 use Rattle.typed_trees.specs.Nodes as node
 use Rattle.typed_trees.specs.Nodes.{NodeTree, TypedTree, columns_of}
 use Rattle.typed_trees.specs.Plans.{HasFetchColumns, fetches}
 use Rattle.typed_trees.specs.Soundness.{IsTyped}
 use Rattle.typed_trees.proofs.FetchColumnLemmas.{fetches_have_columns}
-use Rattle.typed_rows.proofs.FetchedPoints.{kept_let_in, row_of_schemas}
 use Rattle.typed_rows.proofs.FetchedTrees.{AllFit}
 use Rattle.typed_rows.proofs.JoinedRows.{all-front, all-map}
-use Rattle.mon_meaning.proofs.FilterLemmas.{filter_none, filter_twice}
+use Rattle.mon_meaning.proofs.FilterLemmas.{filter_twice}
+use Rattle.mon_meaning.proofs.FlowLemmas.{flows_met}
+use Rattle.mon_meaning.proofs.SeriesOrders.{points_meant-filter, row_flows}
 use Rattle.mon_value.proofs.PlainLemmas.{and_implied}
 use Rattle.query_traces.specs.Traces.{is_wanted}
 
@@ -50,96 +46,6 @@ pub filter_empty : {A : Type 0} (p : A → Bool) (xs : List A) → AllByRecursio
 filter_empty p [] all = refl
 filter_empty p (x ∷ xs) all = none_by (p x) x (filter p xs) all.0 (filter_empty p xs all.1)
 
--- ---- points that flow into an alignment are of series that meet its fetch
-
-abbrev flows : NodeTree → Row → Bool
-flows (node.Fetch info schema metric) row = is_fetched schema metric row.key
-flows (node.Filter info by input) row = is_point_kept by info.columns row && flows input row
-flows (node.Align info by input) row = false
-flows (node.GroupBy info by with input) row = false
-flows (node.Value info items input) row = false
-flows (node.Top info most column input) row = false
-flows (node.Join info left right) row = false
-flows (node.Union info left right) row = false
-
-points_flow : (input : NodeTree) (rows : List Row) → points_meant input rows ≡ filter (flows input) rows
-points_flow (node.Fetch info schema metric) rows = refl
-points_flow (node.Filter info by input) rows =
-    ap (filter (is_point_kept by info.columns)) (points_flow input rows)
-    ∙ filter_twice (flows input) (is_point_kept by info.columns) rows
-points_flow (node.Align info by input) rows = filter_none rows
-points_flow (node.GroupBy info by with input) rows = filter_none rows
-points_flow (node.Value info items input) rows = filter_none rows
-points_flow (node.Top info most column input) rows = filter_none rows
-points_flow (node.Join info left right) rows = filter_none rows
-points_flow (node.Union info left right) rows = filter_none rows
-
--- the schemas of a row that fits
-record HasSchemas (held : SchemaLists) (row : Row) : Type 0 where
-  target : TargetSchema
-  metric : MetricSchema
-  targeted : target_named row.key.target.schema held.targets ≡ Some target
-  measured : metric_named row.key.metric held.metrics ≡ Some metric
-  of : row_fits target metric row ≡ true
-
-schemas_by : (held : SchemaLists) (row : Row) (t : Option TargetSchema) (m : Option MetricSchema)
-    → target_named row.key.target.schema held.targets ≡ t → metric_named row.key.metric held.metrics ≡ m
-    → fits_both t m row ≡ true → HasSchemas held row
-schemas_by held row (Some target) (Some metric) targeted measured fit = record {
-  target = target;
-  metric = metric;
-  targeted = targeted;
-  measured = measured;
-  of = fit;
-}
-schemas_by held row (Some target) None targeted measured fit = absurd (false≢true fit)
-schemas_by held row None (Some metric) targeted measured fit = absurd (false≢true fit)
-schemas_by held row None None targeted measured fit = absurd (false≢true fit)
-
-schemas : (held : SchemaLists) (row : Row) → fits held row ≡ true → HasSchemas held row
-schemas held row fit =
-    schemas_by held row (target_named row.key.target.schema held.targets) (metric_named row.key.metric held.metrics)
-    refl refl fit
-
-columns_below : (held : SchemaLists) (input : NodeTree) (row : Row) (has : HasSchemas held row) → HasFetchColumns held
-    input
-    → meets input row.key ≡ true → columns_of input ≡ columns_fetched has.target has.metric
-columns_below held (node.Fetch info schema metric) row has named met =
-    let names = and_parts (same_text schema row.key.target.schema) (same_text metric row.key.metric) met in
-    let one : schema ≡ row.key.target.schema = (same_text-Decides schema row.key.target.schema).0 names.0 in
-    let two : metric ≡ row.key.metric = (same_text-Decides metric row.key.metric).0 names.1 in
-    named
-    ∙ (λ i. fetch_columns (target_named (one i) held.targets) (metric_named (two i) held.metrics))
-    ∙ (λ i. fetch_columns (has.targeted i) (has.measured i))
-columns_below held (node.Filter info by input) row has named met =
-    named.0 ∙ columns_below held input row has named.1 (and_parts (lets_in by info.columns row.key)
-    (meets input row.key) met).1
-columns_below held (node.Align info by input) row has named met = absurd (false≢true met)
-columns_below held (node.GroupBy info by with input) row has named met = absurd (false≢true met)
-columns_below held (node.Value info items input) row has named met = absurd (false≢true met)
-columns_below held (node.Top info most column input) row has named met = absurd (false≢true met)
-columns_below held (node.Join info left right) row has named met = absurd (false≢true met)
-columns_below held (node.Union info left right) row has named met = absurd (false≢true met)
-
-flows_met : (held : SchemaLists) (row : Row) → HasSchemas held row → (input : NodeTree) → HasFetchColumns held input
-    → flows input row ≡ true → meets input row.key ≡ true
-flows_met held row has (node.Fetch info schema metric) named flow = flow
-flows_met held row has (node.Filter info by input) named flow =
-    let parts = and_parts (is_point_kept by info.columns row) (flows input row) flow in
-    let below = flows_met held row has input named.1 parts.1 in
-    let columns : info.columns ≡ columns_fetched has.target has.metric = named.0 ∙ columns_below held input row has
-    named.1 below in
-    and_from (lets_in by info.columns row.key) (meets input row.key)
-    (kept_let_in has.target has.metric row (row_of_schemas has.target has.metric row has.of) by info.columns columns
-    parts.0)
-    below
-flows_met held row has (node.Align info by input) named flow = absurd (false≢true flow)
-flows_met held row has (node.GroupBy info by with input) named flow = absurd (false≢true flow)
-flows_met held row has (node.Value info items input) named flow = absurd (false≢true flow)
-flows_met held row has (node.Top info most column input) named flow = absurd (false≢true flow)
-flows_met held row has (node.Join info left right) named flow = absurd (false≢true flow)
-flows_met held row has (node.Union info left right) named flow = absurd (false≢true flow)
-
 -- ---- rows that are kept are all that count
 
 reached_if : (r m k : Bool) → (m ≡ true → k ≡ true) → ((r && m) && k) ≡ (r && m)
@@ -155,14 +61,14 @@ module _ (held : SchemaLists) (keep : Row → Bool) (rows : List Row) (fit : All
   kept_points : (input : NodeTree) → HasFetchColumns held input → KeepsMet keep input
       → points_meant input (filter keep rows) ≡ points_meant input rows
   kept_points input named keeps =
-      points_flow input (filter keep rows)
-      ∙ filter_twice keep (flows input) rows
-      ∙ filter_alike (λ row. flows input row && keep row) (flows input) rows
-      (all-map (λ (row : Row). fits held row ≡ true) (λ (row : Row). (flows input row && keep row) ≡ flows input row)
-      rows
-      (λ row fit. and_implied (flows input row) (keep row)
-      (λ flow. keeps row (flows_met held row (schemas held row fit) input named flow))) fit)
-      ∙ sym (points_flow input rows)
+      points_meant-filter input (filter keep rows)
+      ∙ filter_twice keep (row_flows input) rows
+      ∙ filter_alike (λ row. row_flows input row && keep row) (row_flows input) rows
+      (all-map (λ (row : Row). fits held row ≡ true)
+      (λ (row : Row). (row_flows input row && keep row) ≡ row_flows input row) rows
+      (λ row fit. and_implied (row_flows input row) (keep row)
+      (λ flow. keeps row (flows_met held row fit input named flow))) fit)
+      ∙ sym (points_meant-filter input rows)
 
   every : (P : Row → Type 0) → ((row : Row) → P row) → (some : List Row) → AllByRecursion P some
   every P each [] = tt

@@ -1,0 +1,4 @@
+pub mod AheadLemmas
+pub mod FlowLemmas
+pub mod SeenLemmas
+pub mod TouchedLemmas

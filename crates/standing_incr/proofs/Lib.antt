@@ -1,0 +1,11 @@
+pub mod EnoughLemmas
+pub mod FillLemmas
+pub mod FrontLemmas
+pub mod HeldLemmas
+pub mod KeepLemmas
+pub mod NeedLemmas
+pub mod NeededLemmas
+pub mod ThroughLemmas
+pub mod TurnLemmas
+pub mod WayLemmas
+pub mod WindowLemmas

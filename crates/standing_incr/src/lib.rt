@@ -1,0 +1,18 @@
+//! One query's result that stands: it is changed by each row that comes and each later moment, and says at any time
+//! what the query means over all rows that came.
+#![tactic(auto)]
+
+mod faults;
+mod filling;
+mod kept;
+mod laws;
+mod needs;
+mod replaying;
+mod results;
+mod tables;
+mod ways;
+
+pub use faults::{NotIncremental, ReplayFault};
+pub use kept::Kept;
+pub use laws::held_rows_are_enough;
+pub use replaying::{Turn, Turns, replay};
