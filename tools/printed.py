@@ -7,17 +7,19 @@ from dataclasses import dataclass
 from command_line import Refusal
 
 HEADING = re.compile(r"time(,[A-Za-z_]\w*)*", re.ASCII)
-ASKED = re.compile(r"([A-Za-z_]\w*) at (\d{1,19}):", re.ASCII)
+ASKED = re.compile(r"(?:([A-Za-z_]\w*) )?at (\d{1,19}):", re.ASCII)
 COUNT = re.compile(r"(\d{1,12}) rows", re.ASCII)
 TIME = re.compile(r"\d{1,19}", re.ASCII)
 
 
 @dataclass(frozen=True)
 class Asked:
-    """The standing query that a tick asked, and the moment at which it did."""
+    """The standing query that a tick asked, and the moment; or that of a query that was followed, which has no name, and
+    the number of its first table."""
 
     name: str
     moment: int
+    first: int = 0
 
 
 @dataclass(frozen=True)
@@ -55,20 +57,22 @@ class Lines:
 
 def items(text):
     """The tables of an output and the lines between them, in their order; one that is cut off is refused."""
-    lines, found, asked = Lines(text), 0, None
+    lines, found, asked, last = Lines(text), 0, None, None
     for line in lines:
         line = line[:-1]
         named = ASKED.fullmatch(line)
         if named:
-            asked = Asked(named[1], int(named[2]))
+            moment = int(named[2])
+            goes_on = last and not named[1] and not last.name and last.moment < moment
+            asked = Asked(named[1] or "", moment, last.first if goes_on else (found + 1) * (not named[1]))
         elif HEADING.fullmatch(line):
             found += 1
             columns = tuple(line.split(",")[1:])
             yield Table(found, columns, rows(lines, len(columns) + 1), asked)
-            asked = None
+            asked, last = None, asked
         else:
             yield Line(line, asked)
-            asked = None
+            asked, last = None, asked
 
 
 def rows(lines, width):

@@ -34,10 +34,11 @@ class Panel:
 
 
 def pictures(tables):
-    """The pictures of all tables. Those of one standing query with the same columns are one."""
+    """The pictures of all tables. Those of one standing query with the same columns are one, and so are those of one
+    query that was followed."""
     alike = {}
     for table in tables:
-        key = (table.asked.name, table.columns) if table.asked else table.number
+        key = (table.asked.name, table.asked.first, table.columns) if table.asked else table.number
         alike.setdefault(key, []).append(table)
     return [picture(group) for group in alike.values()]
 

@@ -1,6 +1,7 @@
 -- Why a question was refused, between what its caller had seen before it and has seen behind it.
 use Rattle.std.proofs.Common.{◌≡◌, ◌∙◌, ◌<◌, ℕ, Bool, true, false, cond, List, [], ◌∷◌, length, map}
 use Rattle.std.proofs.Common.{Some, Err, refl, sym, subst}
+use Rattle.std.specs.Prelude.{Contains}
 use Rattle.std.specs.List.{AllByRecursion, filter}
 use Rattle.std.proofs.lemmas.Option.{same_Some}
 use Rattle.know.specs.Knowledge.{Knowledge}
@@ -24,7 +25,7 @@ use Rattle.query_traces.specs.Traces.{IsBetween, lengths_of, source_of}
 use Rattle.query_traces.specs.declared.answers.Trace.{Trace}
 use Rattle.run_traces.specs.LineCauses.{HasCause}
 use Rattle.mon_script.specs.declared.forms.LineForm.{LineForm}
-use Rattle.run_traces.specs.LineAsks.{moment_of, text_of}
+use Rattle.run_traces.specs.LineAsks.{moment_of, moments_of, text_of}
 use Rattle.run_traces.specs.LineSwitches.{found_cuts}
 use Rattle.run_traces.specs.LineTables.{refusal_cuts}
 use Rattle.run_traces.specs.declared.traces.LineFault.{LineFault}
@@ -104,10 +105,14 @@ module _ (config : Config) (what : LineForm) (before after : Knowledge) where
         cuts = λ leaf there. founds_between before.seen after.seen leaf named are;
       }
 
-  over : (setting : QuerySetting) (limit : ℕ) (trace : Trace) → IsSettingOf config (text_of what) config.limit setting
+  -- its table would be told at the moment that it asks at
+  abbrev pub AsksFirst : Type 0
+  AsksFirst = Contains (moments_of what) (moment_of what)
+
+  over : AsksFirst → (setting : QuerySetting) (limit : ℕ) (trace : Trace) → IsSettingOf config (text_of what) config.limit setting
       → IsStoppedRightly (setting_of config) setting (moment_of what) before.seen after.seen limit trace
       → IsRefusedBy (unanswered.StepLimit limit trace)
-  over setting limit trace of_text stopped = record {
+  over first setting limit trace of_text stopped = record {
     cause = record {
       typed = typed_of setting;
       type_is = of_text.typed;
@@ -115,6 +120,8 @@ module _ (config : Config) (what : LineForm) (before after : Knowledge) where
       since = stopped.since;
       down = stopped.down;
       limit_is = stopped.limit_is ∙ of_text.limit_is;
+      at = moment_of what;
+      among = first;
       above = subst (λ most. most < load (typed_of setting) (source_of after.seen trace) (moment_of what)) of_text.limit_is
           stopped.above;
     };
@@ -125,16 +132,16 @@ module _ (config : Config) (what : LineForm) (before after : Knowledge) where
   }
 
   -- of each query that is refused
-  pub has_cause : (refused : QueryFault) → IsQueried config (text_of what) (moment_of what) config.limit before after
+  pub has_cause : AsksFirst → (refused : QueryFault) → IsQueried config (text_of what) (moment_of what) config.limit before after
       (Err refused)
       → (told : QuestionFault) → told_fault refused ≡ Some told → IsRefusedBy told
-  has_cause (fault.Parse parse) queried told is =
+  has_cause first (fault.Parse parse) queried told is =
       subst IsRefusedBy (same_Some (unanswered.Parse parse) told is) (record { cause = queried; cuts = λ leaf there. tt })
-  has_cause (fault.Typing typing) queried told is =
+  has_cause first (fault.Typing typing) queried told is =
       subst IsRefusedBy (same_Some (unanswered.Typing typing) told is) (record { cause = queried; cuts = λ leaf there. tt })
-  has_cause (fault.NoReplica range named) queried told is =
+  has_cause first (fault.NoReplica range named) queried told is =
       subst IsRefusedBy (same_Some (unanswered.NoReplica range named) told is) (none_up queried.setting range named queried.of_text queried.ends.rightly)
-  has_cause (fault.StepLimit limit trace) queried told is =
+  has_cause first (fault.StepLimit limit trace) queried told is =
       subst IsRefusedBy (same_Some (unanswered.StepLimit limit trace) told is)
-      (over queried.setting limit trace queried.of_text queried.ends.rightly)
-  has_cause fault.OutOfMemory queried told is = absurd cc
+      (over first queried.setting limit trace queried.of_text queried.ends.rightly)
+  has_cause first fault.OutOfMemory queried told is = absurd cc

@@ -4,8 +4,8 @@ use Rattle.std.specs.Prelude.{IfOk, Result, sum_by}
 use Rattle.history_book.specs.Numbers.{times_among}
 use Rattle.know.specs.Knowledge.{Knowledge}
 use Rattle.line_runs.proofs.Answered.{look_found}
-use Rattle.line_runs.proofs.Causes.{has_cause}
-use Rattle.line_runs.proofs.Growing.{grown, wider}
+use Rattle.line_runs.proofs.Causes.{AsksFirst, has_cause}
+use Rattle.line_runs.proofs.Growing.{grown, seen_of, wider}
 use Rattle.line_runs.proofs.Wrote.{OwnsAsMuch, asked_wrote, prints_alike, refused_wrote}
 use Rattle.line_runs.specs.LineWrites.{LineWrote, ran_line}
 use Rattle.line_runs.specs.Questions.{IsPrinted, IsRefusedFor, asked_line, question}
@@ -30,12 +30,16 @@ use Rattle.query_traces.specs.Traces.{AreWider, IsFreshSince, IsReadRightly, IsT
 use Rattle.query_traces.specs.Traces.{lengths_of, source_of}
 use Rattle.query_traces.specs.declared.answers.Answer.{Answer}
 use Rattle.query_traces.specs.declared.answers.Trace.{Trace}
-use Rattle.run_traces.specs.LineClaims.{HaveGrown}
+use Rattle.run_traces.specs.LineAsks.{moment_of, text_of}
+use Rattle.run_traces.specs.LineClaims.{HaveGrown, LookFound}
+use Rattle.run_traces.specs.LineForms.{Suits}
 use Rattle.run_traces.specs.LineTexts.{line_text}
 use Rattle.run_traces.specs.declared.traces.LineFault.TheVariants as why
 use Rattle.run_traces.specs.declared.traces.LineTrace.{LineTrace}
 use Rattle.run_traces.specs.declared.traces.LineTrace.TheVariants as came
+use Rattle.run_traces.specs.declared.traces.QuestionFault.{QuestionFault}
 use Rattle.run_traces.specs.declared.line_files.LineFiles.{LineFiles}
+use Rattle.mon_script.specs.declared.forms.LineForm.{LineForm}
 use Rattle.running_query.specs.Looks.{GoesOn}
 use Rattle.running_query.proofs.GoingLemmas.{fronts_through}
 
@@ -73,7 +77,7 @@ module _ (store : Setting) (config : Config) (before : Knowledge)
   }
 
   -- and behind what was gathered then
-  owns_then : (mid after : Knowledge) → AreHeld store.held store.zones store.points after.seen
+  pub owns_then : (mid after : Knowledge) → AreHeld store.held store.zones store.points after.seen
       → GoesOn store before mid → OwnsTheSame mid after → OwnsAsMuch before after
   owns_then mid after is goes same =
       let fronts = fronts_through before.seen mid.seen after.seen goes.fronts same.fronts in
@@ -88,19 +92,21 @@ module _ (store : Setting) (config : Config) (before : Knowledge)
 
   -- ---- a query that is refused
 
-  pub refused_ran : (what : How) (moment : ℤ) (text : List ℕ) (after : Knowledge) (fault : QueryFault)
-      → GoesOn store before after → IsQueried config text moment config.limit before after (Err fault)
+  pub refused_ran : (form : LineForm) (after : Knowledge) (fault : QueryFault)
+      → ((told : QuestionFault) → Suits form (came.Refused (why.Question told))) → AsksFirst config form before after
+      → GoesOn store before after
+      → IsQueried config (text_of form) (moment_of form) config.limit before after (Err fault)
       → {F : Type 0} (result : Result LineRan F)
       → IfOk result (IsRefusedFor config.topology fault)
       → IfOk result (λ ran. (content : LineFiles)
-      → LineWrote config (ran_line (question what moment text) content ran.trace) ran.text before after)
-  refused_ran what moment text after fault goes queried (Ok ran) refused = λ content.
-      subst (λ (r : LineRan). LineWrote config (ran_line (question what moment text) content r.trace) r.text before
-      after) (sym refused.ran_is)
-      (refused_wrote config (question what moment text) content before after (owns_behind after goes)
-      (why.Question refused.told) tt
-      (has_cause config (question what moment text) before after fault queried refused.told refused.told_is))
-  refused_ran what moment text after fault goes queried (Err failed) refused = tt
+      → LineWrote config (ran_line form content ran.trace) ran.text before after)
+  refused_ran form after fault suits first goes queried (Ok ran) refused = λ content.
+      subst (λ (r : LineRan). LineWrote config (ran_line form content r.trace) r.text before after)
+      (sym refused.ran_is)
+      (refused_wrote config form content before after (owns_behind after goes) (why.Question refused.told)
+      (suits refused.told)
+      (has_cause config form before after first fault queried refused.told refused.told_is))
+  refused_ran form after fault suits first goes queried (Err failed) refused = tt
 
   -- ---- a query that is answered
 
@@ -121,24 +127,29 @@ module _ (store : Setting) (config : Config) (before : Knowledge)
       (trace : Trace) (plan : Plan) (buckets_of : SeriesKey → List ℕ) (leaf : Leaf)
       → AreWider from to earlier later seen more → IsTraceBetween typed moment from to seen trace
       → IsReadRightly typed plan buckets_of seen trace leaf → IsReadRightly typed plan buckets_of more trace leaf)
-      (what : How) (moment : ℤ) (text : List ℕ) (mid after : Knowledge) (answer : Answer)
+      (moment : ℤ) (text : List ℕ) (mid after : Knowledge) (answer : Answer)
       (goes : GoesOn store before mid) (same : OwnsTheSame mid after)
       (ended : IsEnded config text moment config.limit before mid (Ok answer)) where
     abbrev pub IsHeld : Type 0
     IsHeld = AreHeld store.held store.zones store.points after.seen
 
-    more : IsHeld → HaveGrown mid.seen after.seen
+    pub more : IsHeld → HaveGrown mid.seen after.seen
     more held = grown mid.seen after.seen same.fronts store.held store.zones store.points goes.sound.held held
 
-    same_rows : IsHeld → source_of after.seen answer.trace ≡ source_of mid.seen answer.trace
+    pub same_rows : IsHeld → source_of after.seen answer.trace ≡ source_of mid.seen answer.trace
     same_rows held =
         stays_rows (typed_of ended.setting) moment (lengths_of before.seen) (lengths_of mid.seen)
         (lengths_of before.seen) (lengths_of after.seen) mid.seen after.seen answer.trace
         (wider before.seen mid.seen after.seen goes.fronts same.fronts (more held)) ended.ends.rightly.of
 
-    wrote : IsHeld → (content : LineFiles) (ran : LineRan) → IsPrinted config what moment text mid answer.trace ran
+    pub look : IsHeld → LookFound config after.seen (seen_of before.seen) (seen_of after.seen) text moment answer.trace
+    look held =
+        look_found config text moment before mid answer ended stays stays_rows stays_found stays_fresh stays_read after
+        goes.fronts same.fronts (more held)
+
+    wrote : (what : How) → IsHeld → (content : LineFiles) (ran : LineRan) → IsPrinted config what moment text mid answer.trace ran
         → LineWrote config (ran_line (question what moment text) content ran.trace) ran.text before after
-    wrote held content ran printed =
+    wrote what held content ran printed =
         let trace : LineTrace = came.Asked moment answer.trace in
         let printed_then : ran.text ≡ line_text config after.seen (asked_line what moment text trace) =
         printed.prints
@@ -149,12 +160,11 @@ module _ (store : Setting) (config : Config) (before : Knowledge)
         (subst (λ w. LineWrote config (ran_line (question what moment text) content trace) w before after)
         (sym printed_then)
         (asked_wrote config what moment text content before after (owns_then mid after held goes same) answer.trace
-        (look_found config text moment before mid answer ended stays stays_rows stays_found stays_fresh stays_read after goes.fronts
-        same.fronts (more held))))
+        (look held)))
 
-    pub answered_ran : {F : Type 0} (result : Result LineRan F)
+    pub answered_ran : (what : How) {F : Type 0} (result : Result LineRan F)
         → IfOk result (IsPrinted config what moment text mid answer.trace) → IfOk result (λ ran. IsHeld)
         → IfOk result (λ ran. (content : LineFiles)
         → LineWrote config (ran_line (question what moment text) content ran.trace) ran.text before after)
-    answered_ran (Ok ran) printed held = λ content. wrote held content ran printed
-    answered_ran (Err failed) printed held = tt
+    answered_ran what (Ok ran) printed held = λ content. wrote what held content ran printed
+    answered_ran what (Err failed) printed held = tt

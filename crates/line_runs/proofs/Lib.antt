@@ -11,6 +11,8 @@ pub mod FeedWrote
 pub mod FileRecords
 mod Growing
 pub mod Offered
+mod FollowTables
+mod FollowWrote
 pub mod OtherLines
 pub mod PourWrote
 mod Printed

@@ -73,6 +73,7 @@ recovery_suits : (what : LineForm) (recovery : Recovery) â†’ recovery_of what â‰
 recovery_suits (form.Feed name) recovery is slot = absurd cc
 recovery_suits (form.Pour first second) recovery is slot = absurd cc
 recovery_suits (form.Ask asked) recovery is slot = absurd cc
+recovery_suits (form.Follow moments text) recovery is slot = absurd cc
 recovery_suits (form.Control control) recovery is slot = subst IsAsked (sym is) tt
 recovery_suits (form.Standing line) recovery is slot = absurd cc
 recovery_suits (form.Block mark) recovery is slot = absurd cc
@@ -82,6 +83,7 @@ unopened_suits : (what : LineForm) (recovery : Recovery) â†’ recovery_of what â‰
 unopened_suits (form.Feed name) recovery is fault = absurd cc
 unopened_suits (form.Pour first second) recovery is fault = absurd cc
 unopened_suits (form.Ask asked) recovery is fault = absurd cc
+unopened_suits (form.Follow moments text) recovery is fault = absurd cc
 unopened_suits (form.Control control) recovery is fault = subst IsAsked (sym is) tt
 unopened_suits (form.Standing line) recovery is fault = absurd cc
 unopened_suits (form.Block mark) recovery is fault = absurd cc

@@ -57,6 +57,7 @@ switch_suits : (what : LineForm) (switch : Switch) → switch_of what ≡ Some s
 switch_suits (form.Feed name) switch is cut = absurd cc
 switch_suits (form.Pour first second) switch is cut = absurd cc
 switch_suits (form.Ask asked) switch is cut = absurd cc
+switch_suits (form.Follow moments text) switch is cut = absurd cc
 switch_suits (form.Control control) switch is cut = subst IsAsked (sym is) tt
 switch_suits (form.Standing line) switch is cut = absurd cc
 switch_suits (form.Block mark) switch is cut = absurd cc
@@ -66,6 +67,7 @@ refusal_suits : (what : LineForm) (switch : Switch) → switch_of what ≡ Some 
 refusal_suits (form.Feed name) switch is fault = absurd cc
 refusal_suits (form.Pour first second) switch is fault = absurd cc
 refusal_suits (form.Ask asked) switch is fault = absurd cc
+refusal_suits (form.Follow moments text) switch is fault = absurd cc
 refusal_suits (form.Control control) switch is fault = subst IsAsked (sym is) tt
 refusal_suits (form.Standing line) switch is fault = absurd cc
 refusal_suits (form.Block mark) switch is fault = absurd cc

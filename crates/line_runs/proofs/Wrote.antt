@@ -104,7 +104,7 @@ module _ (config : Config) (form : LineForm) (content : LineFiles) (before after
   nothing_more history =
       ap (λ own. own_entries own history) owns.own ∙ sym (append-nil (own_entries before.purse.own history))
 
-  between : (leaf : Leaf) (cuts : List ℕ) → AllByRecursion (LiesBetween before.seen after.seen leaf) cuts
+  pub between : (leaf : Leaf) (cuts : List ℕ) → AllByRecursion (LiesBetween before.seen after.seen leaf) cuts
       → AllByRecursion (IsBetween (from (of.Leaf leaf)) (to (of.Leaf leaf))) cuts
   between leaf =
       all_on (LiesBetween before.seen after.seen leaf) (IsBetween (from (of.Leaf leaf)) (to (of.Leaf leaf)))

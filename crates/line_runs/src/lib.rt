@@ -7,11 +7,14 @@ mod controls;
 mod explanations;
 mod feed_texts;
 mod feeds;
+mod followed_tables;
+mod follows;
 mod lines;
 mod pours;
 mod refusals;
 mod standing_lines;
 mod store_writers;
 
+pub use follows::follow;
 pub use lines::{LineRan, run_line, run_query};
 pub use standing_lines::{add_standing, due_heading, refuse_tick};

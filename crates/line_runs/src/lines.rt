@@ -49,6 +49,7 @@ pub fn run_line<N: Names, R: Threads + Wait + Sync>(
         LineForm::Pour { first, second } => pour(rt, alloc, store, p, first, second, content),
         LineForm::Ask(asked) => ask_question(rt, alloc, store, p, asked),
         LineForm::Control(control) => run_control(rt, alloc, store, p, *control),
+        LineForm::Follow { .. } => unreachable!(),
         LineForm::Standing(_) => unreachable!(),
         LineForm::Block(BlockMark::Together) => unreachable!(),
         LineForm::Block(BlockMark::End) => unreachable!(),

@@ -78,6 +78,7 @@ fn fault_text(alloc: Global, topology: &Topology, fault: &LineFault) -> Result<S
         LineFault::Control(fault) => control_text(alloc, topology, fault),
         LineFault::Standing(fault) => standing_text(alloc, *fault),
         LineFault::Due(fault) => due_text(alloc, *fault),
+        LineFault::NotIncremental => String::from_str(alloc, "NotIncremental"),
     }
 }
 

@@ -149,6 +149,7 @@ module _ (schemas : SchemaLists) where
   opens_due state (form.Feed name) is = absurd cc
   opens_due state (form.Pour first second) is = absurd cc
   opens_due state (form.Ask asked) is = absurd cc
+  opens_due state (form.Follow moments text) is = absurd cc
   opens_due state (form.Control control) is = absurd cc
   opens_due state (form.Standing line) is = absurd cc
   opens_due state (form.Block block.Together) is = (refl, refl)
@@ -159,6 +160,7 @@ module _ (schemas : SchemaLists) where
   closes_due state (form.Feed name) is = absurd cc
   closes_due state (form.Pour first second) is = absurd cc
   closes_due state (form.Ask asked) is = absurd cc
+  closes_due state (form.Follow moments text) is = absurd cc
   closes_due state (form.Control control) is = absurd cc
   closes_due state (form.Standing line) is = absurd cc
   closes_due state (form.Block block.Together) is = absurd cc

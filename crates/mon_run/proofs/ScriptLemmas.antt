@@ -387,6 +387,7 @@ opens_none : (what : LineForm) → mark_of what ≡ mark.Opens → files_of what
 opens_none (form.Feed name) is = absurd cc
 opens_none (form.Pour first second) is = absurd cc
 opens_none (form.Ask asked) is = refl
+opens_none (form.Follow moments text) is = refl
 opens_none (form.Control control) is = refl
 opens_none (form.Standing line) is = refl
 opens_none (form.Block what) is = refl
@@ -395,6 +396,7 @@ closes_none : (what : LineForm) → mark_of what ≡ mark.Closes → files_of wh
 closes_none (form.Feed name) is = absurd cc
 closes_none (form.Pour first second) is = absurd cc
 closes_none (form.Ask asked) is = refl
+closes_none (form.Follow moments text) is = refl
 closes_none (form.Control control) is = refl
 closes_none (form.Standing line) is = refl
 closes_none (form.Block what) is = refl

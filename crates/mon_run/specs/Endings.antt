@@ -147,7 +147,8 @@ seen_by = option_map (λ (ended : Ending). ended.seen)
 
 -- The headline holds of the lines that ran, over all that the script's caller had seen at the end; or, where memory ran
 -- out early, over what it had seen before the part in which it did. The histories at the end bear one another out: what
--- a range acknowledged, its leaves took. No line beyond the script came to anything. What the lines' files held is what the reads gave, one after another
+-- a range acknowledged, its leaves took. No line beyond the script came to anything. What the lines' files held is what
+-- the reads gave, one after another
 pub record LinesTell (early : Type 0) (config : Config) (reads : Files) (script : List ScriptLine) (ended : Histories)
     (traces : List LineTrace) : Type 0 where
   pub known : Histories

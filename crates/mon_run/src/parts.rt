@@ -189,6 +189,7 @@ impl<'f, 'o, 'l, F: Folder, O: Sink> Run<'f, 'o, 'l, F, O> {
             LineForm::Feed(name) => self.one_file(name),
             LineForm::Pour { first, second } => self.two_files(first, second),
             LineForm::Ask(_) => Ok(LineFiles::none(self.alloc)),
+            LineForm::Follow { .. } => Ok(LineFiles::none(self.alloc)),
             LineForm::Control(_) => Ok(LineFiles::none(self.alloc)),
             LineForm::Standing(_) => Ok(LineFiles::none(self.alloc)),
             LineForm::Block(_) => Ok(LineFiles::none(self.alloc)),

@@ -188,6 +188,7 @@ fn is_refused(trace: &LineTrace) -> bool
         LineTrace::Fed { .. } => false,
         LineTrace::Poured { .. } => false,
         LineTrace::Asked { .. } => false,
+        LineTrace::Followed { .. } => false,
         LineTrace::Controlled(_) => false,
         LineTrace::Done => false,
     }

@@ -31,6 +31,7 @@ use Rattle.mon_value.specs.Answers.{◌>>=◌}
 use Rattle.mon_value.specs.Values.{number_of}
 use Rattle.mon_value.specs.Same.{same_text}
 use Rattle.mon_script.proofs.ControlLemmas.{behind_lawful}
+use Rattle.mon_script.proofs.FollowLemmas.{follow_lawful}
 use Rattle.mon_script.proofs.StandingLineLemmas.{moment_lawful, standing_lawful, tick_lawful}
 
 -- ---- what a line says
@@ -103,7 +104,8 @@ module _ (zones : List ZoneSpec) where
   said_lawful word rest (Some way) said e = asked_lawful way rest said e
   said_lawful word rest None said e =
       by_lawful (same_text word (codes "standing")) _ _ said (stand_lawful rest said)
-      (plain_lawful word rest (control_word word) said) e
+      (by_lawful (same_text word (codes "follow")) _ _ said (follow_lawful zones rest said)
+      (plain_lawful word rest (control_word word) said)) e
 
   abbrev IsName : List ℕ → Type 0
   IsName name = Unit {0}

@@ -1,5 +1,6 @@
 mod BlockLemmas
 pub mod ControlLemmas
+mod FollowLemmas
 mod Fronts
 mod LawfulLemmas
 mod LineLemmas

@@ -41,7 +41,7 @@ moment_lawful None moment e = cc
 moment_lawful (Some z) moment e =
     in_bounds (pos 0) z moment (int_le (pos 0) z) (int_le z (pos (2 ^ 63 - 1))) refl e
 
-period_lawful : (number : Option ℤ) (period : ℤ)
+pub period_lawful : (number : Option ℤ) (period : ℤ)
     → option_and_then (λ z. cond (is_period z) (Some z) None) number ≡ Some period → pos 1 ≤ℤ period
 period_lawful None period e = cc
 period_lawful (Some z) period e =

@@ -26,6 +26,7 @@ abbrev pub mark_of : LineForm → Mark
 mark_of (form.Feed name) = mark.Acts
 mark_of (form.Pour first second) = mark.Acts
 mark_of (form.Ask question) = mark.Acts
+mark_of (form.Follow moments text) = mark.Lone
 mark_of (form.Control control) = mark.Acts
 mark_of (form.Standing line) = mark.Lone
 mark_of (form.Block what) = block_mark what

@@ -6,6 +6,7 @@ use Rattle.mon_value.specs.Answers.{◌>>=◌}
 use Rattle.mon_topo.specs.declared.zones.ZoneSpec.{ZoneSpec}
 use Rattle.mon_value.specs.Same.{same_text}
 use Rattle.mon_script.specs.Controls.{control_of, control_word}
+use Rattle.mon_script.specs.Follows.{follow_form}
 use Rattle.mon_script.specs.Lines.{cut_at, moment_of, space, is_file_name}
 use Rattle.mon_script.specs.StandingLines.{stand_of, tick_of}
 use Rattle.mon_script.specs.declared.controls.ControlWord.{ControlWord}
@@ -107,7 +108,8 @@ plain_form zones word rest = plain_by zones word rest (control_word word)
 -- what the rest says behind a word that asks nothing and names no file
 abbrev pub other_form : List ZoneSpec → List ℕ → List ℕ → Said
 other_form zones word rest =
-    if same_text word (codes "standing") then stand_form rest else plain_form zones word rest
+    if same_text word (codes "standing") then stand_form rest
+    else if same_text word (codes "follow") then follow_form rest else plain_form zones word rest
 
 -- what the rest says behind a word that asks, or behind any other
 abbrev pub said_by : List ZoneSpec → List ℕ → List ℕ → Option How → Said

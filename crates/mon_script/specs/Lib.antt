@@ -1,5 +1,6 @@
 pub mod Blocks
 pub mod Controls
+pub mod Follows
 pub mod Forms
 pub mod Lawful
 pub mod Lines

@@ -5,6 +5,7 @@ ghost use Rattle.mon_script.specs.Forms as spec;
 
 use crate::controls::{ControlForm, control_of, control_word};
 use crate::faults::ScriptKind;
+use crate::follows::{Moments, follow_form};
 use crate::lines::cut_at;
 use crate::questions::{How, Question, how_named, question_of};
 use crate::standing_lines::{StandingLine, stand_of, tick_of};
@@ -21,6 +22,8 @@ pub enum LineForm {
     Pour { first: Text, second: Text },
     /// Ask a text.
     Ask(Question),
+    /// Ask a text at the first of some moments, and tell what its rows mean at each.
+    Follow { moments: Moments, text: Text },
     /// Switch a leaf, or open a replica of a range.
     Control(ControlForm),
     /// Have a query stand, or ask those that are due.
@@ -147,6 +150,9 @@ fn other_form(
 {
     if word == b"standing".as_slice() {
         return Ok(LineForm::Standing(stand_of(alloc, rest)?));
+    }
+    if word == b"follow".as_slice() {
+        return follow_form(alloc, rest);
     }
     match plain_form(topology, word, rest) {
         Ok(form) => Ok(form),

@@ -35,6 +35,7 @@ pub fn mark_of(form: &LineForm) -> Mark
         LineForm::Pour { .. } => Mark::Acts,
         LineForm::Ask(_) => Mark::Acts,
         LineForm::Control(_) => Mark::Acts,
+        LineForm::Follow { .. } => Mark::Lone,
         LineForm::Standing(_) => Mark::Lone,
         LineForm::Block(mark) => block_mark(*mark),
     }

@@ -91,8 +91,8 @@ fn timed(name: Text, period: &[u8], text: Text) -> Result<StandingLine, Refusal<
     }
 }
 
-// The period that a word spells, in seconds.
-fn period_of(word: &[u8]) -> Option<i64>
+/// The period that a word spells, in seconds.
+pub(crate) fn period_of(word: &[u8]) -> Option<i64>
     ensures period { result ≡ spec.period_of word.now }
 {
     let number = read_number(word)?;

@@ -144,6 +144,14 @@ module _ {E : Type 0} (setting : Setting) (config : Config) (what : LineForm) (c
       ended wrote borne_out every
   answer_did (Err e) wrote = tt
 
+-- whatever the files of a line hold that names none
+pub with_content : {E : Type 0} (config : Config) (what : LineForm) (content : LineFiles) (before after : Knowledge)
+    (answer : Result LineRan E)
+    → IfOk answer (λ ran. (held : LineFiles) → LineWrote config (ran_line what held ran.trace) ran.text before after)
+    → IfOk answer (λ ran. LineWrote config (ran_line what content ran.trace) ran.text before after)
+with_content config what content before after (Ok ran) wrote = wrote content
+with_content config what content before after (Err e) wrote = tt
+
 pub answer_stock : {E : Type 0} (config : Config) (what : LineForm) (content : LineFiles) (before after : Knowledge)
     (answer : Result LineRan E)
     → IfOk answer (λ ran. LineWrote config (ran_line what content ran.trace) ran.text before after)

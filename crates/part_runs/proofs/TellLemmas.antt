@@ -65,6 +65,7 @@ module _ (config : Config) (seen : Histories) (from to : History → ℕ) (numbe
   plain_by (came.Fed pass accepted refused) found = (refl, refl)
   plain_by (came.Poured pass ends) found = (refl, refl)
   plain_by (came.Asked moment trace) found = (refl, refl)
+  plain_by (came.Followed moment trace) found = (refl, refl)
   plain_by (came.Ticked dues) found = absurd found
   plain_by (came.Controlled done) found = (refl, refl)
   plain_by (came.Refused fault) found = (refl, refl)
@@ -143,6 +144,7 @@ pub acting_due : (schemas : SchemaLists) (state : StandingState) (what : LineFor
 acting_due schemas state (form.Feed name) trace acts plain = (plain, refl)
 acting_due schemas state (form.Pour first second) trace acts plain = (plain, refl)
 acting_due schemas state (form.Ask asked) trace acts plain = (plain, refl)
+acting_due schemas state (form.Follow moments text) trace acts plain = absurd cc
 acting_due schemas state (form.Control control) trace acts plain = (plain, refl)
 acting_due schemas state (form.Standing line) trace acts plain = absurd cc
 acting_due schemas state (form.Block block.Together) trace acts plain = absurd cc

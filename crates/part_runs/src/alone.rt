@@ -3,6 +3,7 @@ ghost use Rattle.std.specs.Prelude.{◌≡◌, ◌≤ℤ◌, pos, ◌∷◌, [],
 ghost use Rattle.history_book.specs.Histories.{AreFronts};
 ghost use Rattle.history_book.specs.Seats.{HasEveryNumber};
 ghost use Rattle.line_runs.specs.LineWrites.{ran_line};
+ghost use Rattle.mon_script.specs.Follows.{AreLawfulMoments};
 ghost use Rattle.mon_script.specs.Lawful.{IsLawfulForm};
 ghost use Rattle.mon_script.specs.StandingLines.{IsLawfulStanding};
 ghost use Rattle.mon_script.specs.Blocks.{mark_of};
@@ -14,8 +15,8 @@ ghost use Rattle.run_traces.specs.RanLines.{acts_by};
 
 use crate::ticks::tick;
 use know::Names;
-use line_runs::{LineRan, add_standing, run_line};
-use mon_script::{BlockMark, LineForm, Mark, StandingLine, mark_of};
+use line_runs::{LineRan, add_standing, follow, run_line};
+use mon_script::{BlockMark, LineForm, Mark, Moments, StandingLine, mark_of};
 use mon_store::{Pass, Store};
 use mon_value::{OutOfMemory, Text};
 use run_traces::{LineFiles, runs_go_on, texts_stay};
@@ -95,6 +96,9 @@ fn lone<N: Names, R: Wait>(
 {
     match what {
         LineForm::Standing(line) => { stand_or_tick(rt, alloc, store, p, standing, line, content) }
+        LineForm::Follow { moments, text } => following(
+            rt, alloc, store, p, *moments, text, content,
+        ),
         LineForm::Feed(_) => unreachable!(),
         LineForm::Pour { .. } => unreachable!(),
         LineForm::Ask(_) => unreachable!(),
@@ -102,6 +106,32 @@ fn lone<N: Names, R: Wait>(
         LineForm::Block(BlockMark::Together) => unreachable!(),
         LineForm::Block(BlockMark::End) => unreachable!(),
     }
+}
+
+// A query that is followed.
+fn following<N: Names, R: Wait>(
+    rt: &R,
+    alloc: Global,
+    store: &Store<N>,
+    p: &mut Pass<N>,
+    moments: Moments,
+    text: &Text,
+    content: &LineFiles,
+) -> Result<LineRan, OutOfMemory>
+    requires moments { AreLawfulMoments moments }
+    requires every { HasEveryNumber p.old.purse }
+    ensures ran { IfOk result (λ ran. PartTells store.now
+        (Alone (ran_line (LineForm.Follow moments text.now) content.now ran.trace)) (ran.text ∷ []) p.old p.new) }
+    ensures plain { IfOk result (λ ran. is_ticked ran.trace ≡ false) }
+    ensures stock { OnOk result (p.new.purse.stock ≡ p.old.purse.stock) }
+    ensures fronts { AreFronts p.old.seen p.new.seen }
+{
+    runs_go_on();
+    texts_stay();
+    p.is_sound();
+    let ran = follow(rt, alloc, store, p, moments, text);
+    p.is_sound();
+    ran
 }
 
 // A query is to stand, or those that are due are asked.

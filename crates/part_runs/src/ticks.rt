@@ -201,6 +201,7 @@ fn due_trace(due: Due, trace: LineTrace) -> DueTrace
         },
         LineTrace::Fed { .. } => unreachable!(),
         LineTrace::Poured { .. } => unreachable!(),
+        LineTrace::Followed { .. } => unreachable!(),
         LineTrace::Ticked(_) => unreachable!(),
         LineTrace::Controlled(_) => unreachable!(),
         LineTrace::Done => unreachable!(),

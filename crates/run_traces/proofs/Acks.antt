@@ -56,6 +56,7 @@ module _ (config : Config) where
   own_by n line (came.Poured pass ends) made range makes =
       makes.1.acks range ∙ sym (feed_tells n pass (filter (lies_in config range) ends.accepted) makes.0)
   own_by n line (came.Asked moment trace) made range makes = ap (flat_map book_row) (makes (of.Range range))
+  own_by n line (came.Followed moment trace) made range makes = ap (flat_map book_row) (makes (of.Range range))
   own_by n line (came.Controlled done) made range makes = done_tells config line.what done (of.Range range) made makes
   own_by n line (came.Refused why) made range makes = ap (flat_map book_row) (makes (of.Range range))
   own_by n line (came.Ticked dues) made range makes = ap (flat_map book_row) (makes (of.Range range))
@@ -66,6 +67,7 @@ module _ (config : Config) where
   leaf_by n line (came.Fed pass rows refused) made leaf makes = makes.1.puts leaf
   leaf_by n line (came.Poured pass ends) made leaf makes = makes.1.puts leaf
   leaf_by n line (came.Asked moment trace) made leaf makes = ap (flat_map book_row) (makes (of.Leaf leaf))
+  leaf_by n line (came.Followed moment trace) made leaf makes = ap (flat_map book_row) (makes (of.Leaf leaf))
   leaf_by n line (came.Controlled done) made leaf makes = done_tells config line.what done (of.Leaf leaf) made makes
   leaf_by n line (came.Refused why) made leaf makes = ap (flat_map book_row) (makes (of.Leaf leaf))
   leaf_by n line (came.Ticked dues) made leaf makes = ap (flat_map book_row) (makes (of.Leaf leaf))
@@ -82,6 +84,7 @@ module _ (config : Config) where
   other_by number n what (came.Poured pass ends) made range makes differ =
       ap (λ b. cond b (filter (lies_in config range) ends.accepted) []) (ap (nat_eq n) makes.0 ∙ differ)
   other_by number n what (came.Asked moment trace) made range makes differ = refl
+  other_by number n what (came.Followed moment trace) made range makes differ = refl
   other_by number n what (came.Controlled done) made range makes differ = refl
   other_by number n what (came.Refused why) made range makes differ = refl
   other_by number n what (came.Ticked dues) made range makes differ = refl

@@ -38,14 +38,14 @@ use Rattle.run_theory.specs.Parts.{RanBefore, RanBehind}
 use Rattle.run_theory.proofs.Lists.{first_place_behind, last_end_within}
 use Rattle.run_traces.specs.LineCauses.{FileIsCaused, HasCause, HasNoSource, HasNoTarget, HasNoneUp, HasRowCause}
 use Rattle.run_traces.specs.LineCauses.{HasSwitchedEnough}
-use Rattle.run_traces.specs.LineCauses.{IsCaused, IsDenied, IsLeftWithout, IsOverLimit, IsRefusedByRange, IsUnwritten, LineIsCaused}
+use Rattle.run_traces.specs.LineCauses.{IsCaused, IsDenied, IsLeftWithout, IsNotKept, IsOverLimit, IsRefusedByRange, IsUnwritten, LineIsCaused}
 use Rattle.run_traces.specs.LineCauses.{ControlCause, QuestionCause, RecoveryCause, StandingCause, SwitchCause, WasAlready}
 use Rattle.run_traces.specs.LineCauses.{RowHasCause, RowIsTaken, RowsAreTaken, RowsHaveCauses, WereMissed, fed, rows_before}
 use Rattle.run_traces.specs.LineClaims.{AllTakenFound, FileFound, FoundAmid, HasFound, Makes, PourFound, RowFound}
 use Rattle.run_traces.specs.LineClaims.{RowsFound, TakenFound, marked}
 use Rattle.run_traces.specs.LineFeeds.{IsTold, PourIsTold}
 use Rattle.run_traces.specs.LineSwitches.{first_length, high, highs, is_entry_of, is_fed, is_row, is_traced, low, lows}
-use Rattle.run_traces.specs.LineAsks.{moment_of, text_of}
+use Rattle.run_traces.specs.LineAsks.{moment_of, moments_of, text_of}
 use Rattle.run_traces.specs.RanLines.{RanLine}
 use Rattle.run_traces.specs.declared.traces.ControlFault.{ControlFault}
 use Rattle.run_traces.specs.declared.traces.ControlFault.TheVariants as undone
@@ -181,10 +181,10 @@ module _ (widen : (typed : TypedTree) (moment : ℤ) (from to earlier later : Le
       none_up = none_wider range founds left.none_up;
     }
 
-    over_wider : (text : List ℕ) (moment : ℤ) (limit : ℕ) (trace : Trace)
-        → IsOverLimit config seen from to text moment limit trace
-        → IsOverLimit config more first last text moment limit trace
-    over_wider text moment limit trace cause = record {
+    over_wider : (text : List ℕ) (moment : ℤ) (moments : List ℤ) (limit : ℕ) (trace : Trace)
+        → IsOverLimit config seen from to text moment moments limit trace
+        → IsOverLimit config more first last text moment moments limit trace
+    over_wider text moment moments limit trace cause = record {
       typed = cause.typed;
       type_is = cause.type_is;
       of = widen cause.typed moment from to first last seen more trace wide cause.of;
@@ -194,8 +194,22 @@ module _ (widen : (typed : TypedTree) (moment : ℤ) (from to earlier later : Le
       down = all_as (IsFoundBetween from to seen) (IsFoundBetween first last more)
           (λ found is. find from to first last seen more found wide is) trace.down cause.down;
       limit_is = cause.limit_is;
-      above = subst (λ w. config.limit < load cause.typed w moment)
+      at = cause.at;
+      among = cause.among;
+      above = subst (λ w. config.limit < load cause.typed w cause.at)
           (sym (rows cause.typed moment from to first last seen more trace wide cause.of)) cause.above;
+    }
+
+    not_kept_wider : (text : List ℕ) (moment : ℤ) → IsNotKept config seen from to text moment
+        → IsNotKept config more first last text moment
+    not_kept_wider text moment cause = record {
+      typed = cause.typed;
+      type_is = cause.type_is;
+      trace = cause.trace;
+      of = widen cause.typed moment from to first last seen more cause.trace wide cause.of;
+      within = subst (λ w. load cause.typed w moment ≤ config.limit)
+          (sym (rows cause.typed moment from to first last seen more cause.trace wide cause.of)) cause.within;
+      form = cause.form;
     }
 
     -- ---- of leaves that are switched
@@ -290,7 +304,7 @@ module _ (widen : (typed : TypedTree) (moment : ℤ) (from to earlier later : Le
     question_wider what (unanswered.Typing typing) cause = cause
     question_wider what (unanswered.NoReplica range founds) cause = left_wider (text_of what) range founds cause
     question_wider what (unanswered.StepLimit limit trace) cause =
-        over_wider (text_of what) (moment_of what) limit trace cause
+        over_wider (text_of what) (moment_of what) (moments_of what) limit trace cause
 
     switch_wider : (what : LineForm) (fault : SwitchFault) → SwitchCause config seen from to what fault
         → SwitchCause config more first last what fault
@@ -323,6 +337,7 @@ module _ (widen : (typed : TypedTree) (moment : ℤ) (from to earlier later : Le
     line_wider what (why.Control fault) cause = control_wider what fault cause
     line_wider what (why.Standing fault) cause = standing_wider what fault cause
     line_wider what (why.Due fault) cause = cause
+    line_wider what why.NotIncremental cause = not_kept_wider (text_of what) (moment_of what) cause
 
     range_wider : (row : Row) (told : Refused) → IsRefusedByRange config seen from to row told
         → IsRefusedByRange config more first last row told
@@ -542,6 +557,7 @@ module _ (widen : (typed : TypedTree) (moment : ℤ) (from to earlier later : Le
         (λ h k e mine. owned (came.Fed pass rows refusals) is h k e mine) line.content.first refusals found.file
     caused_by (came.Poured pass ends) is told found = poured_caused pass ends is told found
     caused_by (came.Asked moment trace) is told found = tt
+    caused_by (came.Followed moment trace) is told found = tt
     caused_by (came.Controlled done) is told found = tt
     caused_by (came.Refused fault) is told found = line_wider ended ended (marked place.from) (marked place.to)
         (lows config.topology ended seen) (highs config.topology ended later)

@@ -34,6 +34,7 @@ module _ (config : Config) (ended : Histories) (seen later : List RanLine) (line
   controlled_by (came.Fed pass rows refused) found = tt
   controlled_by (came.Poured pass ends) found = tt
   controlled_by (came.Asked moment trace) found = tt
+  controlled_by (came.Followed moment trace) found = tt
   controlled_by (came.Controlled done) found = (
     place.number,
     done_wider ended ended place.from place.to (low config.topology ended seen) (high config.topology ended later)

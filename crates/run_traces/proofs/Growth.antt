@@ -1,7 +1,7 @@
 -- What lines made and found stays so as histories grow, and a part more runs behind the others.
 use Rattle.std.proofs.Common.{◌≡◌, ℕ, zero, suc, ◌+◌, ◌<◌, ◌≤◌, false, List, [], ◌∷◌, ◌++◌, length, take}
 use Rattle.std.proofs.Common.{drop, slice_get, Some, refl, sym, ap, ◌∙◌, subst, arith}
-use Rattle.std.specs.Prelude.{ℤ}
+use Rattle.std.specs.Prelude.{ℤ, Ok}
 use Rattle.std.specs.List.{AllByRecursion}
 use mathlib.Core.List.{IsPrefix}
 use Rattle.history_book.proofs.ListLemmas.{prefix_contains}
@@ -28,11 +28,12 @@ use Rattle.typed_trees.specs.declared.plans.Plan.{Plan}
 use Rattle.query_traces.specs.Founds.{IsFoundBetween}
 use Rattle.query_traces.specs.Traces.{AreWider, IsFreshSince, IsReadRightly, IsTraceBetween, Lengths, source_of}
 use Rattle.query_traces.specs.declared.answers.Trace.{Trace}
-use Rattle.query_texts.specs.TextTypes.{plan_type}
+use Rattle.query_texts.specs.TextTypes.{plan_type, text_type}
 use Rattle.run_theory.specs.Parts.{AreBelow, GoesOn, GrowAlong, IsWithin, Part}
 use Rattle.run_theory.proofs.Writings.{one_more}
 use Rattle.run_traces.specs.LineClaims.{AllRan, AreNew, FileFound, Finds, HasFound, HasRange, HasWritten, HaveGrown}
-use Rattle.run_traces.specs.LineClaims.{IsNewIn, Makes}
+use Rattle.run_traces.specs.LineAsks.{moments_of, text_of}
+use Rattle.run_traces.specs.LineClaims.{IsNewIn, LookFound, Makes}
 use Rattle.run_traces.specs.LineCauses.{HasRowCause, WereMissed}
 use Rattle.run_traces.specs.LineClaims.{AllTakenFound, FoundAmid, RowFound, RowsFound, StandsAmong, TakenFound, marked}
 use Rattle.run_traces.specs.LineSwitches.{first_length, is_row}
@@ -236,6 +237,41 @@ module _ (widen : (typed : TypedTree) (moment : ℤ) (from to earlier later : Le
       leaf_goes_on : (leaf : Leaf) → IsPrefix (leaf_history seen leaf) (leaf_history more leaf)
       leaf_goes_on leaf = front_of (leaf_history seen leaf) (leaf_history more leaf) (grown.within.leaves leaf)
 
+      same_source : (typed : TypedTree) (moment : ℤ) (trace : Trace)
+          → IsTraceBetween typed moment (marked from) (marked to) seen trace → source_of more trace ≡ source_of seen trace
+      same_source typed moment trace of =
+          rows typed moment (marked from) (marked to) (marked from) (marked to) seen more trace wide of
+
+      same_type : (text : List ℕ) (typed : TypedTree) (plan : Plan) → text_type config.schemas text ≡ Ok typed
+          → text_type config.schemas text ≡ Ok (plan_type plan) → plan_type plan ≡ typed
+      same_type text typed plan here there = cc
+
+      abbrev look_still : (text : List ℕ) (moment : ℤ) (trace : Trace) → LookFound config seen from to text moment trace
+          → LookFound config more from to text moment trace
+      look_still text moment trace found = record {
+        typed = found.typed;
+        type_is = found.type_is;
+        of = widen found.typed moment (marked from) (marked to) (marked from) (marked to) seen more trace wide found.of;
+        fresh = freshen found.typed moment (marked from) (marked to) (marked from) (marked to) seen more trace wide
+            found.of found.fresh;
+        down = all_as (IsFoundBetween (marked from) (marked to) seen) (IsFoundBetween (marked from) (marked to) more)
+            (λ one is. find (marked from) (marked to) (marked from) (marked to) seen more one wide is) trace.down
+            found.down;
+        within = subst (λ w. load found.typed w moment ≤ config.limit)
+            (sym (same_source found.typed moment trace found.of)) found.within;
+        read = record {
+          plan = found.read.plan;
+          planned = found.read.planned;
+          type_is = found.read.type_is;
+          read = λ leaf there.
+              let same = same_type text found.typed found.read.plan found.type_is found.read.type_is in
+              reread (plan_type found.read.plan) moment (marked from) (marked to) (marked from) (marked to) seen more
+              trace found.read.plan (key_buckets config.buckets config.schemas) leaf wide
+              (subst (λ w. IsTraceBetween w moment (marked from) (marked to) seen trace) (sym same) found.of)
+              (found.read.read leaf (subst (λ w. leaf.0 < w) grown.leaves there));
+        };
+      }
+
       found_still : (number : ℕ) (trace : LineTrace) → HasFound config seen from to number line trace
           → HasFound config more from to number line trace
       found_still number (came.Fed pass accepted refusals) found = record {
@@ -247,29 +283,12 @@ module _ (widen : (typed : TypedTree) (moment : ℤ) (from to earlier later : Le
         first = file_still line.content.first pass ends.first.accepted ends.first.refused found.first;
         second = file_still line.content.second pass ends.second.accepted ends.second.refused found.second;
       }
-      found_still number (came.Asked moment trace) found = record {
-        typed = found.typed;
-        type_is = found.type_is;
-        of = widen found.typed moment (marked from) (marked to) (marked from) (marked to) seen more trace wide found.of;
-        fresh = freshen found.typed moment (marked from) (marked to) (marked from) (marked to) seen more trace wide
-            found.of found.fresh;
-        down = all_as (IsFoundBetween (marked from) (marked to) seen) (IsFoundBetween (marked from) (marked to) more)
-            (λ one is. find (marked from) (marked to) (marked from) (marked to) seen more one wide is) trace.down
-            found.down;
-        within = subst (λ w. load found.typed w moment ≤ config.limit)
-            (sym (rows found.typed moment (marked from) (marked to) (marked from) (marked to) seen more trace wide
-            found.of)) found.within;
-        read = record {
-          plan = found.read.plan;
-          planned = found.read.planned;
-          type_is = found.read.type_is;
-          read = λ leaf there.
-              let same : plan_type found.read.plan ≡ found.typed = cc in
-              reread (plan_type found.read.plan) moment (marked from) (marked to) (marked from) (marked to) seen more
-              trace found.read.plan (key_buckets config.buckets config.schemas) leaf wide
-              (subst (λ w. IsTraceBetween w moment (marked from) (marked to) seen trace) (sym same) found.of)
-              (found.read.read leaf (subst (λ w. leaf.0 < w) grown.leaves there));
-        };
+      found_still number (came.Asked moment trace) found = look_still (text_of line.what) moment trace found
+      found_still number (came.Followed moment trace) found = record {
+        look = look_still (text_of line.what) moment trace found.look;
+        kept = found.kept;
+        each = subst (λ w. AllByRecursion (λ at. load found.look.typed w at ≤ config.limit) (moments_of line.what))
+            (sym (same_source found.look.typed moment trace found.look.of)) found.each;
       }
       found_still number (came.Controlled done) found = done_wider seen more from to from to (λ h. omega arith)
           (λ h. omega arith) leaf_goes_on range_goes_on number line.what done found

@@ -66,6 +66,7 @@ module _ (config : Config) (ended : Histories)
   under_by from to number line h k e (came.Poured pass ends) made makes found there is =
       fed_pass pass ends.accepted e is ∙ makes.0
   under_by from to number line h k e (came.Asked moment trace) made makes found there is = absurd (false≢true is)
+  under_by from to number line h k e (came.Followed moment trace) made makes found there is = absurd (false≢true is)
   under_by from to number line h k e (came.Controlled done) made makes found there is =
       (control_place from to number line done h k e found there is).under
   under_by from to number line h k e (came.Refused why) made makes found there is = absurd (false≢true is)
@@ -89,6 +90,8 @@ module _ (config : Config) (ended : Histories)
   made_by from to number line (came.Poured pass ends) made h k j e makes found exact there low high mine at =
       all_at (λ x. is_fed pass ends.accepted x ≡ true) (made h) j e (makes.1.own h) at
   made_by from to number line (came.Asked moment trace) made h k j e makes found exact there low high mine at =
+      absurd (none_made made h j e makes at)
+  made_by from to number line (came.Followed moment trace) made h k j e makes found exact there low high mine at =
       absurd (none_made made h j e makes at)
   made_by from to number line (came.Controlled done) made h k j e makes found exact there low high mine at =
       done_made config ended whole fronts held from to number line.what done h k j e made makes found exact there low
@@ -149,6 +152,7 @@ module _ (config : Config) (ended : Histories)
         two_feeds pass' pass ends.accepted rows e makes.1 found.rows found'
         (all_at (λ x. is_fed pass' ends.accepted x ≡ true) (one.made h) j e (makes.1.own h) at) is
     made_sooner (came.Asked moment trace) pass rows h j e makes found found' at is = none_made one.made h j e makes at
+    made_sooner (came.Followed moment trace) pass rows h j e makes found found' at is = none_made one.made h j e makes at
     made_sooner (came.Controlled done) pass rows h j e makes found found' at is =
         done_not_fed config pass rows sooner.what done h j e one.made makes at is
     made_sooner (came.Refused why) pass rows h j e makes found found' at is = none_made one.made h j e makes at
@@ -168,6 +172,8 @@ module _ (config : Config) (ended : Histories)
         (all_at (λ x. is_fed pass' ends.accepted x ≡ true) (other.made h) j e (makes.1.own h) at)
     made_later (came.Asked moment trace) pass rows h j e makes found makes' found' at is =
         none_made other.made h j e makes at
+    made_later (came.Followed moment trace) pass rows h j e makes found makes' found' at is =
+        none_made other.made h j e makes at
     made_later (came.Controlled done) pass rows h j e makes found makes' found' at is =
         done_not_fed config pass rows later.what done h j e other.made makes at is
     made_later (came.Refused why) pass rows h j e makes found makes' found' at is = none_made other.made h j e makes at
@@ -183,6 +189,7 @@ module _ (config : Config) (ended : Histories)
     not_later (came.Poured pass ends) h j k e found there at less is =
         made_sooner sooner.trace pass ends.accepted h j e one.makes one.found.found found.rows at is
     not_later (came.Asked moment trace) h j k e found there at less is = false≢true is
+    not_later (came.Followed moment trace) h j k e found there at less is = false≢true is
     not_later (came.Controlled done) h j k e found there at less is =
         let theirs = control_place c d m later done h k e found there is in
         let low = theirs.low in let apart = behind h in omega arith
@@ -200,6 +207,7 @@ module _ (config : Config) (ended : Histories)
     not_sooner (came.Poured pass ends) h j k e makes found there at more is =
         made_later later.trace pass ends.accepted h j e other.makes other.found.found makes.1 found.rows at is
     not_sooner (came.Asked moment trace) h j k e makes found there at more is = false≢true is
+    not_sooner (came.Followed moment trace) h j k e makes found there at more is = false≢true is
     not_sooner (came.Controlled done) h j k e makes found there at more is =
         let theirs = control_place a b n sooner done h k e found there is in
         let high = theirs.high in let apart = behind h in omega arith
@@ -305,6 +313,7 @@ module _ (config : Config) (ended : Histories) (begun : AreFronts (first_histori
       (firsts_open config.topology h) (ap (λ w. slice_get w k) p.1 ∙ there) less in
       false≢true (sym (opens pass ends.accepted) ∙ is)
   not_first from to number line (came.Asked moment trace) h k e found low there less is = false≢true is
+  not_first from to number line (came.Followed moment trace) h k e found low there less is = false≢true is
   not_first from to number line (came.Controlled done) h k e found low there less is =
       let theirs = control_place config ended whole fronts held from to number line done h k e found there is in
       let a = theirs.low in let b = low h in omega arith

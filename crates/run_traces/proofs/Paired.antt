@@ -84,6 +84,7 @@ module _ (config : Config) (ended : Histories) (seen later : List RanLine) (line
   paired_by h k e there own (came.Poured pass ends) makes mine =
       fed_paired h k e there own pass ends.accepted makes.0 makes.1 mine
   paired_by h k e there own (came.Asked moment trace) makes mine = absurd (false≢true mine)
+  paired_by h k e there own (came.Followed moment trace) makes mine = absurd (false≢true mine)
   paired_by h k e there own (came.Ticked dues) makes mine = absurd (false≢true mine)
   paired_by h k e there own (came.Controlled done) makes mine =
       done_paired line.what done (entries ended) h k e mine

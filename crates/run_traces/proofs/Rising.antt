@@ -2,6 +2,7 @@
 use Rattle.std.proofs.Common.{◌≡◌, ℕ, zero, suc, ◌-◌, ◌<◌, ◌≤◌, nat_eq, false, List, [], ◌∷◌, ◌++◌, length}
 use Rattle.std.proofs.Common.{filter, slice_get, Some, Ok, Err, refl, sym, ap, ◌∙◌, subst, arith}
 use Rattle.std.specs.Prelude.{ℤ, ◌+◌, Result}
+use Rattle.std.specs.List.{flat_map}
 use Rattle.std.proofs.lemmas.Bool.Decides.{nat_tests}
 use Rattle.std.proofs.lemmas.List.{append-nil, take_all, length-append}
 use mathlib.Core.List.{IsPrefix}
@@ -32,13 +33,14 @@ use Rattle.query_texts.specs.declared.faults.TextFault.{TextFault}
 use Rattle.run_theory.specs.Parts.{AreBelow, IsWithin}
 use Rattle.run_theory.proofs.Callers.{none_between, none_passes}
 use Rattle.run_traces.specs.LineCauses.{HasRowCause, WereMissed}
-use Rattle.run_traces.specs.LineClaims.{AllTakenFound, AreNew, FileFound, Finds, FoundAmid, HasFound, HaveGrown, Makes}
-use Rattle.run_traces.specs.LineClaims.{RowsFound}
+use Rattle.run_traces.specs.LineClaims.{AllTakenFound, AreNew, FileFound, Finds, FoundAmid, HasFound, HaveGrown, LookFound}
+use Rattle.run_traces.specs.LineClaims.{Makes, RowsFound}
 use Rattle.run_traces.specs.LineClaims.{StandsAmong}
 use Rattle.run_traces.specs.LineClaims.{marked}
-use Rattle.run_traces.specs.LineAsks.{text_of}
+use Rattle.run_traces.specs.LineAsks.{moments_of, text_of}
 use Rattle.run_traces.specs.LineTables.{cuts_named}
-use Rattle.run_traces.specs.LineTexts.{asked_text, explanation, line_text, shown_text, typed_text}
+use Rattle.run_traces.specs.LineTexts.{asked_text, explanation, followed_text, line_text, moment_heading, shown_text}
+use Rattle.run_traces.specs.LineTexts.{typed_text}
 use Rattle.run_traces.specs.RanLines.{RanLine}
 use Rattle.run_traces.specs.declared.line_files.LineFiles.{LineFiles}
 use Rattle.run_traces.specs.declared.traces.LineTrace.{LineTrace}
@@ -204,6 +206,22 @@ module _ (widen : (typed : TypedTree) (moment : ℤ) (from to earlier later : Le
     range_itself : (range : Range) → IsPrefix (range_history more range) (range_history more range)
     range_itself range = ([], append-nil (range_history more range))
 
+    abbrev look_raised : (text : List ℕ) (moment : ℤ) (trace : Trace) → LookFound config more from to text moment trace
+        → LookFound config more from later text moment trace
+    look_raised text moment trace found = record {
+      typed = found.typed;
+      type_is = found.type_is;
+      of = widen found.typed moment (marked from) (marked to) (marked from) (marked later) more more trace raised
+          found.of;
+      fresh = freshen found.typed moment (marked from) (marked to) (marked from) (marked later) more more trace raised
+          found.of found.fresh;
+      down = all_as (IsFoundBetween (marked from) (marked to) more) (IsFoundBetween (marked from) (marked later) more)
+          (λ one is. find (marked from) (marked to) (marked from) (marked later) more more one raised is) trace.down
+          found.down;
+      within = found.within;
+      read = found.read;
+    }
+
     found_raised : (number : ℕ) (made : History → List BookEntry) (trace : LineTrace) → HasNoneUnder number
         → Makes config number (record { what = line.what; content = line.content; trace = trace }) made
         → HasFound config more from to number line trace → HasFound config more from later number line trace
@@ -218,18 +236,12 @@ module _ (widen : (typed : TypedTree) (moment : ℤ) (from to earlier later : Le
       second = file_raised line.content.second pass ends.second.accepted ends.second.refused
           (subst HasNoneUnder (sym makes.0) none) found.second;
     }
-    found_raised number made (came.Asked moment trace) none makes found = record {
-      typed = found.typed;
-      type_is = found.type_is;
-      of = widen found.typed moment (marked from) (marked to) (marked from) (marked later) more more trace raised
-          found.of;
-      fresh = freshen found.typed moment (marked from) (marked to) (marked from) (marked later) more more trace raised
-          found.of found.fresh;
-      down = all_as (IsFoundBetween (marked from) (marked to) more) (IsFoundBetween (marked from) (marked later) more)
-          (λ one is. find (marked from) (marked to) (marked from) (marked later) more more one raised is) trace.down
-          found.down;
-      within = found.within;
-      read = found.read;
+    found_raised number made (came.Asked moment trace) none makes found =
+        look_raised (text_of line.what) moment trace found
+    found_raised number made (came.Followed moment trace) none makes found = record {
+      look = look_raised (text_of line.what) moment trace found.look;
+      kept = found.kept;
+      each = found.each;
     }
     found_raised number made (came.Controlled done) none makes found = done_wider more more from to from later
         (λ h. omega arith) up leaf_itself range_itself number line.what done found
@@ -302,6 +314,7 @@ module _ (widen : (typed : TypedTree) (moment : ℤ) (from to earlier later : Le
     typed_same (form.Feed name) moment trace typed e = refl
     typed_same (form.Pour first second) moment trace typed e = refl
     typed_same (form.Ask asked) moment trace typed e = shown_same asked.how moment trace typed e
+    typed_same (form.Follow moments text) moment trace typed e = refl
     typed_same (form.Control what) moment trace typed e = refl
     typed_same (form.Standing what) moment trace typed e = refl
     typed_same (form.Block mark) moment trace typed e = refl
@@ -311,6 +324,13 @@ module _ (widen : (typed : TypedTree) (moment : ℤ) (from to earlier later : Le
         → asked_text config more what moment trace typed ≡ asked_text config seen what moment trace typed
     asked_same what moment trace (Ok typed) e = typed_same what moment trace typed e
     asked_same what moment trace (Err fault) e = refl
+
+    followed_same : (moments : List ℤ) (trace : Trace) (typed : Result TypedTree TextFault)
+        → source_of more trace ≡ source_of seen trace
+        → followed_text config more moments trace typed ≡ followed_text config seen moments trace typed
+    followed_same moments trace (Ok typed) e = ap (λ (some : List Row). flat_map (λ at. moment_heading at
+        ++ table_text (column_names (columns_of typed.tree)) (meaning typed some at)) moments) e
+    followed_same moments trace (Err fault) e = refl
 
     wide : (from to : History → ℕ) → AreBelow from to → IsWithin entries to seen
         → AreWider (marked from) (marked to) (marked from) (marked to) seen more
@@ -345,6 +365,10 @@ module _ (widen : (typed : TypedTree) (moment : ℤ) (from to earlier later : Le
         asked_same what moment trace (text_type config.schemas (text_of what))
         (rows found.typed moment (marked from) (marked to) (marked from) (marked to) seen more trace
         (wide from to forth within) found.of)
+    text_same from to number what content (came.Followed moment trace) forth within found =
+        followed_same (moments_of what) trace (text_type config.schemas (text_of what))
+        (rows found.look.typed moment (marked from) (marked to) (marked from) (marked to) seen more trace
+        (wide from to forth within) found.look.of)
     text_same from to number what content (came.Controlled done) forth within found = refl
     text_same from to number what content (came.Refused fault) forth within found = refl
     text_same from to number what content (came.Ticked dues) forth within found = absurd found

@@ -24,9 +24,9 @@ use Rattle.run_theory.specs.InPlace.{FoundThere, RanInPlace}
 use Rattle.run_theory.specs.InPlace as theory
 use Rattle.run_theory.specs.Parts.{RanBefore, Each, Part, all_lines, lines_of}
 use Rattle.run_traces.specs.LineAsks.{text_of}
-use Rattle.run_traces.specs.LineClaims.{AreNew, FeedMade, Finds, HasFound, HasMade, HasRange, Makes, marked}
+use Rattle.run_traces.specs.LineClaims.{AreNew, FeedMade, Finds, HasFound, HasMade, HasRange, LookFound, Makes, marked}
 use Rattle.run_traces.specs.LineFeeds.{lies_in}
-use Rattle.run_traces.specs.LineTables.{CutsRise, HoldsRows, LineIsFresh, cuts_named, IsRead, LineIsRead, IsTabled}
+use Rattle.run_traces.specs.LineTables.{CutsRise, HoldsRows, LineIsFresh, cuts_named, IsLookedAt, IsRead, LineIsRead, IsTabled}
 use Rattle.run_traces.specs.LineTables.{LineIsPlaced, LineIsTabled}
 use Rattle.run_traces.specs.LineSwitches.{LineStands, first_length, high, highs, is_entry_of, low, lows}
 use Rattle.run_traces.specs.RanLines.{RanLine, accepted_rows, trace_rows}
@@ -158,6 +158,7 @@ module _ (config : Config) (ended : Histories) where
       rows_by other (came.Fed pass rows refused) before makes found = fed_by other pass rows before makes.1 found.rows
       rows_by other (came.Poured pass ends) before makes found = fed_by other pass ends.accepted before makes.1 found.rows
       rows_by other (came.Asked moment trace) before makes found = tt
+      rows_by other (came.Followed moment trace) before makes found = tt
       rows_by other (came.Controlled done) before makes found = tt
       rows_by other (came.Refused fault) before makes found = tt
       rows_by other (came.Ticked dues) before makes found = tt
@@ -173,6 +174,7 @@ module _ (config : Config) (ended : Histories) where
     holds_rows (came.Fed pass rows refused) found = tt
     holds_rows (came.Poured pass ends) found = tt
     holds_rows (came.Asked moment trace) found = rows_of (Contains (source_of ended trace)) found.fresh.rows
+    holds_rows (came.Followed moment trace) found = rows_of (Contains (source_of ended trace)) found.look.fresh.rows
     holds_rows (came.Controlled done) found = tt
     holds_rows (came.Refused fault) found = tt
     holds_rows (came.Ticked dues) found = tt
@@ -204,6 +206,7 @@ module _ (config : Config) (ended : Histories) where
     read_by (came.Fed pass rows refused) found = tt
     read_by (came.Poured pass ends) found = tt
     read_by (came.Asked moment trace) found = found.read
+    read_by (came.Followed moment trace) found = found.look.read
     read_by (came.Controlled done) found = tt
     read_by (came.Refused fault) found = tt
     read_by (came.Ticked dues) found = tt
@@ -220,11 +223,10 @@ module _ (config : Config) (ended : Histories) where
         (find : (from to earlier later : Lengths) (seen more : Histories) (found : FoundDown)
         → AreWider from to earlier later seen more → IsFoundBetween from to seen found
         → IsFoundBetween earlier later more found) where
-      tabled_by : (trace : LineTrace) → HasFound config ended place.from place.to place.number line trace
-          → IsTabled config ended seen later (text_of line.what) trace
-      tabled_by (came.Fed pass rows refused) found = tt
-      tabled_by (came.Poured pass ends) found = tt
-      tabled_by (came.Asked moment trace) found = record {
+      abbrev looked_at : (text : List ℕ) (moment : ℤ) (trace : Trace)
+          → LookFound config ended place.from place.to text moment trace
+          → IsLookedAt config ended seen later text moment trace
+      looked_at text moment trace found = record {
         typed = found.typed;
         type_is = found.type_is;
         of = widen found.typed moment (marked place.from) (marked place.to) (lows config.topology ended seen)
@@ -234,6 +236,17 @@ module _ (config : Config) (ended : Histories) where
             (λ one is. find (marked place.from) (marked place.to) (lows config.topology ended seen)
             (highs config.topology ended later) ended ended one wider is) trace.down found.down;
         within = found.within;
+      }
+
+      tabled_by : (trace : LineTrace) → HasFound config ended place.from place.to place.number line trace
+          → IsTabled config ended seen later line.what trace
+      tabled_by (came.Fed pass rows refused) found = tt
+      tabled_by (came.Poured pass ends) found = tt
+      tabled_by (came.Asked moment trace) found = looked_at (text_of line.what) moment trace found
+      tabled_by (came.Followed moment trace) found = record {
+        look = looked_at (text_of line.what) moment trace found.look;
+        kept = found.kept;
+        within = found.each;
       }
       tabled_by (came.Controlled done) found = tt
       tabled_by (came.Refused fault) found = tt

@@ -1,5 +1,5 @@
 -- What holds of a whole run.
-use Rattle.std.proofs.Common.{◌≡◌, ℕ, ◌<◌, List, [], ◌∷◌, length, refl}
+use Rattle.std.proofs.Common.{◌≡◌, ℕ, List, [], length, refl}
 use Rattle.std.specs.Prelude.{ℤ}
 use Rattle.history_book.specs.Histories.{AreFronts, book_entry_pass, entries}
 use Rattle.history_book.specs.declared.views.History.{History}

@@ -1,5 +1,5 @@
 -- Lists that are woven together.
-use Rattle.std.proofs.Common.{◌≡◌, ◌||◌, Bool, true, false, List, ◌∷◌, refl}
+use Rattle.std.proofs.Common.{◌≡◌, ◌||◌, Bool, true, false, List, refl}
 use Rattle.std.specs.List.{list_any}
 use Rattle.std.proofs.lemmas.Bool.{or_right}
 use Rattle.ingest_queue.specs.Weaves.{IsWeave, ended, from_one, from_other}

@@ -1,8 +1,10 @@
 -- What a line asks for.
-use Rattle.std.specs.Prelude.{ℕ, ℤ, pos, Bool, true, false, List, [], Option, Some, None}
+use Rattle.std.specs.Prelude.{ℕ, ℤ, pos, Bool, true, false, List, [], ◌∷◌, Option, Some, None}
+use Rattle.mon_script.specs.Follows.{all_moments}
 use Rattle.mon_script.specs.Forms.{question}
 use Rattle.mon_script.specs.declared.controls.ControlForm.{ControlForm}
 use Rattle.mon_script.specs.declared.controls.ControlForm.TheVariants as control
+use Rattle.mon_script.specs.declared.follows.Moments.{Moments}
 use Rattle.mon_script.specs.declared.forms.LineForm.{LineForm}
 use Rattle.mon_script.specs.declared.forms.LineForm.TheVariants as form
 use Rattle.mon_script.specs.declared.questions.How.TheVariants as how
@@ -29,11 +31,13 @@ pub record FileNames : Type 0 where
 abbrev pub unnamed : FileNames
 unnamed = record { first = None; second = None }
 
--- A text that is asked or is to stand, the moment at which a text or the standing queries are asked, the names of files,
--- the leaf that something is done to or on, and what is to be done: each as far as the line has it
+-- A text that is asked or is to stand, the moment at which a text or the standing queries are asked, all moments at which
+-- its table is told, the names of files, the leaf that something is done to or on, and what is to be done: each as far as
+-- the line has it
 pub record Asks : Type 0 where
   pub text : List ℕ
   pub moment : ℤ
+  pub moments : List ℤ
   pub files : FileNames
   pub leaf : Option Leaf
   pub switch : Option Switch
@@ -41,13 +45,39 @@ pub record Asks : Type 0 where
 
 -- a text and a moment
 abbrev pub asking : List ℕ → ℤ → Asks
-asking text moment =
-    record { text = text; moment = moment; files = unnamed; leaf = None; switch = None; recovery = None }
+asking text moment = record {
+  text = text;
+  moment = moment;
+  moments = moment ∷ [];
+  files = unnamed;
+  leaf = None;
+  switch = None;
+  recovery = None;
+}
+
+-- a text that is asked at the first of some moments
+abbrev pub following : Moments → List ℕ → Asks
+following moments text = record {
+  text = text;
+  moment = moments.first;
+  moments = all_moments moments;
+  files = unnamed;
+  leaf = None;
+  switch = None;
+  recovery = None;
+}
 
 -- files
 abbrev pub feeding : FileNames → Asks
-feeding names =
-    record { text = []; moment = pos 0; files = names; leaf = None; switch = None; recovery = None }
+feeding names = record {
+  text = [];
+  moment = pos 0;
+  moments = [];
+  files = names;
+  leaf = None;
+  switch = None;
+  recovery = None;
+}
 
 -- a leaf that is switched, or a range that is recovered onto a leaf
 abbrev pub control_leaf : ControlForm → Leaf
@@ -69,6 +99,7 @@ abbrev pub controlling : ControlForm → Asks
 controlling what = record {
   text = [];
   moment = pos 0;
+  moments = [];
   files = unnamed;
   leaf = Some (control_leaf what);
   switch = control_switch what;
@@ -88,6 +119,7 @@ abbrev pub asks_of : LineForm → Asks
 asks_of (form.Feed name) = feeding (record { first = Some name; second = None })
 asks_of (form.Pour first second) = feeding (record { first = Some first; second = Some second })
 asks_of (form.Ask asked) = asking asked.text asked.moment
+asks_of (form.Follow moments text) = following moments text
 asks_of (form.Control what) = controlling what
 asks_of (form.Standing what) = asking (standing_text what) (standing_moment what)
 asks_of (form.Block mark) = asking [] (pos 0)
@@ -99,6 +131,9 @@ text_of what = (asks_of what).text
 
 abbrev pub moment_of : LineForm → ℤ
 moment_of what = (asks_of what).moment
+
+abbrev pub moments_of : LineForm → List ℤ
+moments_of what = (asks_of what).moments
 
 abbrev pub files_of : LineForm → FileNames
 files_of what = (asks_of what).files

@@ -33,7 +33,8 @@ use Rattle.query_texts.specs.declared.faults.TextFault.TheVariants as fault
 use Rattle.range_cell.specs.declared.answers.WriteFault.{WriteFault}
 use Rattle.range_cell.specs.declared.answers.WriteFault.TheVariants as unwritten
 use Rattle.mon_script.specs.declared.forms.LineForm.{LineForm}
-use Rattle.run_traces.specs.LineAsks.{moment_of, Recovery, recovery_of, Switch, switch_of, text_of}
+use Rattle.mon_meaning.specs.Incremental.{is_incremental}
+use Rattle.run_traces.specs.LineAsks.{moment_of, moments_of, Recovery, recovery_of, Switch, switch_of, text_of}
 use Rattle.run_traces.specs.LineSwitches.{highs, lows}
 use Rattle.run_traces.specs.RanLines.{RanLine}
 use Rattle.run_traces.specs.declared.traces.ControlFault.{ControlFault}
@@ -87,15 +88,27 @@ module _ (config : Config) (ended : Histories) (from to : Lengths) where
     pub named : AllByRecursion (λ (found : FoundDown). has_leaf (area_of config.topology zone.0) found.leaf ≡ true) founds
     pub none_up : HasNoneUp range founds
 
-  -- the load over the rows of what was looked at is above the limit
-  pub record IsOverLimit (text : List ℕ) (moment : ℤ) (limit : ℕ) (trace : Trace) : Type 0 where
+  -- the load over the rows of what was looked at at a moment is above the limit, at one of the moments at which the table
+  -- would be told
+  pub record IsOverLimit (text : List ℕ) (moment : ℤ) (moments : List ℤ) (limit : ℕ) (trace : Trace) : Type 0 where
     pub typed : TypedTree
     pub type_is : text_type config.schemas text ≡ Ok typed
     pub of : IsTraceBetween typed moment from to ended trace
     pub since : (leaf : Leaf) → leaf.0 < length ended.leaves → from.leaves leaf ≤ cut_of trace leaf
     pub down : AllByRecursion (IsFoundBetween from to ended) trace.down
     pub limit_is : limit ≡ config.limit
-    pub above : config.limit < load typed (source_of ended trace) moment
+    pub at : ℤ
+    pub among : Contains moments at
+    pub above : config.limit < load typed (source_of ended trace) at
+
+  -- a text has a table at a moment, and a form whose result isn't kept for later ones
+  pub record IsNotKept (text : List ℕ) (moment : ℤ) : Type 0 where
+    pub typed : TypedTree
+    pub type_is : text_type config.schemas text ≡ Ok typed
+    pub trace : Trace
+    pub of : IsTraceBetween typed moment from to ended trace
+    pub within : load typed (source_of ended trace) moment ≤ config.limit
+    pub form : is_incremental typed.tree ≡ false
 
   -- at this length between them the leaf was as it was to be, down or up
   pub record WasAlready (what : LineForm) (down : Bool) (cut : ℕ) : Type 0 where
@@ -154,7 +167,8 @@ module _ (config : Config) (ended : Histories) (from to : Lengths) where
   QuestionCause what (unanswered.Parse parse) = text_type config.schemas (text_of what) ≡ Err (fault.Parse parse)
   QuestionCause what (unanswered.Typing typing) = text_type config.schemas (text_of what) ≡ Err (fault.Typing typing)
   QuestionCause what (unanswered.NoReplica range founds) = IsLeftWithout (text_of what) range founds
-  QuestionCause what (unanswered.StepLimit limit trace) = IsOverLimit (text_of what) (moment_of what) limit trace
+  QuestionCause what (unanswered.StepLimit limit trace) = IsOverLimit (text_of what) (moment_of what) (moments_of what)
+      limit trace
 
   -- why a control isn't done
   abbrev pub SwitchCause : LineForm → SwitchFault → Type 0
@@ -185,6 +199,7 @@ module _ (config : Config) (ended : Histories) (from to : Lengths) where
   HasCause what (why.Control fault) = ControlCause what fault
   HasCause what (why.Standing fault) = StandingCause what fault
   HasCause what (why.Due fault) = Unit {0}
+  HasCause what why.NotIncremental = IsNotKept (text_of what) (moment_of what)
 
   -- the range's history at a length between them refuses the row so
   pub record IsRefusedByRange (row : Row) (told : Refused) : Type 0 where

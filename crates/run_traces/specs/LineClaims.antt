@@ -32,7 +32,8 @@ use Rattle.run_theory.specs.Writings.{PartWrote}
 use Rattle.run_traces.specs.LineCauses.{HasCause, HasRowCause, WereMissed, rows_before}
 use Rattle.run_traces.specs.LineFeeds.{HasItsAck, IsTold, lies_in}
 use Rattle.run_traces.specs.LineForms.{LineSuits}
-use Rattle.run_traces.specs.LineAsks.{text_of}
+use Rattle.mon_meaning.specs.Incremental.{is_incremental}
+use Rattle.run_traces.specs.LineAsks.{moments_of, text_of}
 use Rattle.run_traces.specs.LineTables.{cuts_named, IsReadByPlan}
 use Rattle.run_traces.specs.LineSwitches.{DoneMade, first_length, is_fed, is_row, IsDoneBetween}
 use Rattle.run_traces.specs.RanLines.{RanLine}
@@ -163,11 +164,18 @@ module _ (config : Config) (seen : Histories) (from to : History → ℕ) where
     pub within : load typed (source_of seen trace) moment ≤ config.limit
     pub read : IsReadByPlan config seen text trace
 
+  -- the same for a query that was followed over moments
+  pub record FollowFound (text : List ℕ) (moments : List ℤ) (moment : ℤ) (trace : Trace) : Type 0 where
+    pub look : LookFound text moment trace
+    pub kept : is_incremental look.typed.tree ≡ true
+    pub each : AllByRecursion (λ at. load look.typed (source_of seen trace) at ≤ config.limit) moments
+
   -- under its caller's number; a tick stands as the queries that it asked
   abbrev pub HasFound : ℕ → RanLine → LineTrace → Type 0
   HasFound n line (came.Fed pass accepted refused) = FeedFound line.content.first pass accepted refused
   HasFound n line (came.Poured pass ends) = PourFound line.content pass ends
   HasFound n line (came.Asked moment trace) = LookFound (text_of line.what) moment trace
+  HasFound n line (came.Followed moment trace) = FollowFound (text_of line.what) (moments_of line.what) moment trace
   HasFound n line (came.Ticked dues) = ⊥
   HasFound n line (came.Controlled done) = IsDoneBetween seen from to n line.what done
   HasFound n line (came.Refused why) = HasCause config seen (marked from) (marked to) line.what why

@@ -32,6 +32,17 @@ IsAnswered moment (came.Asked at trace) = at ≡ moment
 IsAnswered moment (came.Refused fault) = IsQuestionFault fault
 IsAnswered moment other = ⊥
 
+-- a query is followed from the moment that it is asked at, or the line is refused as a question is, or for its form
+abbrev pub IsFollowFault : LineFault → Type 0
+IsFollowFault (why.Question fault) = Unit {0}
+IsFollowFault why.NotIncremental = Unit {0}
+IsFollowFault other = ⊥
+
+abbrev pub IsFollowed : ℤ → LineTrace → Type 0
+IsFollowed moment (came.Followed at trace) = at ≡ moment
+IsFollowed moment (came.Refused fault) = IsFollowFault fault
+IsFollowed moment other = ⊥
+
 -- a control is done, or refused, in its own way
 abbrev pub IsUndone : ControlForm → LineFault → Type 0
 IsUndone what (why.Control fault) = UndoneSuits what fault
@@ -74,6 +85,7 @@ abbrev pub Suits : LineForm → LineTrace → Type 0
 Suits (form.Feed name) trace = IsFed trace
 Suits (form.Pour first second) trace = IsPoured trace
 Suits (form.Ask asked) trace = IsAnswered asked.moment trace
+Suits (form.Follow moments text) trace = IsFollowed moments.first trace
 Suits (form.Control what) trace = IsDone what trace
 Suits (form.Standing what) trace = StandingSuits what trace
 Suits (form.Block mark) trace = IsIdle trace

@@ -1,7 +1,8 @@
 -- What each table stands on: replicas that served, all that had been accepted before, and every leaf that it wants.
-use Rattle.std.specs.Prelude.{◌≡◌, ℕ, ℤ, List, [], Ok, ◌<◌, ◌≤◌, ◌∷◌, ◌++◌, Contains, length}
+use Rattle.std.specs.Prelude.{◌≡◌, ℕ, ℤ, true, List, [], Ok, ◌<◌, ◌≤◌, ◌∷◌, ◌++◌, Contains, length}
 use Rattle.std.specs.List.{AllByRecursion, flat_map}
 use Rattle.mon_config.specs.declared.config.Config.{Config}
+use Rattle.mon_meaning.specs.Incremental.{is_incremental}
 use Rattle.mon_value.specs.declared.histories.Histories.{Histories}
 use Rattle.typed_trees.specs.Nodes.{TypedTree}
 use Rattle.query_traces.specs.Founds.{IsFoundBetween}
@@ -15,7 +16,7 @@ use Rattle.range_cell.specs.declared.answers.WriteFault.{WriteFault}
 use Rattle.range_cell.specs.declared.answers.WriteFault.TheVariants as unwritten
 use Rattle.leaf_store.specs.LeafStates.{key_buckets}
 use Rattle.typed_trees.specs.declared.plans.Plan.{Plan}
-use Rattle.run_traces.specs.LineAsks.{text_of}
+use Rattle.run_traces.specs.LineAsks.{moments_of, text_of}
 use Rattle.run_traces.specs.LineSwitches.{done_cuts, found_cuts, highs, lows, undone_cuts}
 use Rattle.run_traces.specs.RanLines.{RanLine, accepted_rows}
 use Rattle.run_traces.specs.declared.traces.LineTrace.{LineTrace}
@@ -42,13 +43,23 @@ module _ (config : Config) (ended : Histories) where
         (IsFoundBetween (lows config.topology ended seen) (highs config.topology ended later) ended) trace.down
     pub within : load typed (source_of ended trace) moment ≤ config.limit
 
-  abbrev pub IsTabled : List RanLine → List RanLine → List ℕ → LineTrace → Type 0
-  IsTabled seen later text (came.Asked moment trace) = IsLookedAt seen later text moment trace
-  IsTabled seen later text other = Unit {0}
+  -- the same of a query that was followed: its form is one whose result is kept, and at each moment the load over the
+  -- rows that it stands on is within the limit
+  pub record IsFollowedOver (seen later : List RanLine) (text : List ℕ) (moments : List ℤ) (moment : ℤ) (trace : Trace)
+      : Type 0 where
+    pub look : IsLookedAt seen later text moment trace
+    pub kept : is_incremental look.typed.tree ≡ true
+    pub within : AllByRecursion (λ at. load look.typed (source_of ended trace) at ≤ config.limit) moments
+
+  abbrev pub IsTabled : List RanLine → List RanLine → LineForm → LineTrace → Type 0
+  IsTabled seen later what (came.Asked moment trace) = IsLookedAt seen later (text_of what) moment trace
+  IsTabled seen later what (came.Followed moment trace) =
+      IsFollowedOver seen later (text_of what) (moments_of what) moment trace
+  IsTabled seen later what other = Unit {0}
 
   -- of each line, with those that its caller had seen and those whose callers had seen it
   abbrev pub LineIsTabled : List RanLine → List RanLine → RanLine → Type 0
-  LineIsTabled seen later line = IsTabled seen later (text_of line.what) line.trace
+  LineIsTabled seen later line = IsTabled seen later line.what line.trace
 
 -- Each table stands on all rows that had been accepted before, as far as its line's caller had seen.
 
@@ -76,6 +87,7 @@ refusal_cuts leaf what (why.Question fault) = question_cuts leaf fault
 refusal_cuts leaf what (why.Control fault) = undone_cuts leaf what fault
 refusal_cuts leaf what (why.Standing fault) = []
 refusal_cuts leaf what (why.Due fault) = []
+refusal_cuts leaf what why.NotIncremental = []
 
 abbrev pub file_cuts : Leaf → List RowRefusal → List ℕ
 file_cuts leaf refusals = flat_map (λ (refusal : RowRefusal). row_cuts leaf refusal.fault) refusals
@@ -86,6 +98,7 @@ cuts_named leaf what (came.Fed pass accepted refusals) = file_cuts leaf refusals
 cuts_named leaf what (came.Poured pass ends) =
     file_cuts leaf ends.first.refused ++ file_cuts leaf ends.second.refused
 cuts_named leaf what (came.Asked moment trace) = cut_of trace leaf ∷ found_cuts leaf trace.down
+cuts_named leaf what (came.Followed moment trace) = cut_of trace leaf ∷ found_cuts leaf trace.down
 cuts_named leaf what (came.Ticked dues) = []
 cuts_named leaf what (came.Controlled done) = done_cuts leaf what done
 cuts_named leaf what (came.Refused fault) = refusal_cuts leaf what fault
@@ -101,9 +114,13 @@ CutsRise seen line leaf = AllByRecursion
 
 module _ (ended : Histories) where
   -- a table stands on each row that these lines accepted
-  abbrev pub HoldsRows : List RanLine → LineTrace → Type 0
-  HoldsRows seen (came.Asked moment trace) =
+  abbrev pub StandsOnRows : List RanLine → Trace → Type 0
+  StandsOnRows seen trace =
       AllByRecursion (λ line. AllByRecursion (Contains (source_of ended trace)) (accepted_rows line)) seen
+
+  abbrev pub HoldsRows : List RanLine → LineTrace → Type 0
+  HoldsRows seen (came.Asked moment trace) = StandsOnRows seen trace
+  HoldsRows seen (came.Followed moment trace) = StandsOnRows seen trace
   HoldsRows seen other = Unit {0}
 
   -- of each line, with those that its caller had seen
@@ -133,6 +150,7 @@ module _ (config : Config) (ended : Histories) where
 
   abbrev pub IsRead : List ℕ → LineTrace → Type 0
   IsRead text (came.Asked moment trace) = IsReadByPlan text trace
+  IsRead text (came.Followed moment trace) = IsReadByPlan text trace
   IsRead text other = Unit {0}
 
   abbrev pub LineIsRead : List RanLine → List RanLine → RanLine → Type 0

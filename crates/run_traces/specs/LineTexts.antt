@@ -26,7 +26,7 @@ use Rattle.query_texts.specs.TextTypes.{text_type}
 use Rattle.query_texts.specs.declared.faults.TextFault.{TextFault}
 use Rattle.range_cell.specs.declared.answers.WriteFault.{WriteFault}
 use Rattle.range_cell.specs.declared.answers.WriteFault.TheVariants as unwritten
-use Rattle.run_traces.specs.LineAsks.{files_of, query_form, text_of}
+use Rattle.run_traces.specs.LineAsks.{files_of, moments_of, query_form, text_of}
 use Rattle.run_traces.specs.LineSwitches.{control_done_text, control_fault_text}
 use Rattle.run_traces.specs.RanLines.{RanLine}
 use Rattle.run_traces.specs.declared.traces.DueEnd.{DueEnd}
@@ -142,6 +142,12 @@ done_text other = []
 abbrev pub due_heading : Due → List ℕ
 due_heading due = due.name ++ (codes " at " ++ (signed_decimal due.at ++ (codes ":" ++ newline)))
 
+-- ---- queries that are followed
+
+-- a moment at which the table of such a query is told
+abbrev pub moment_heading : ℤ → List ℕ
+moment_heading at = codes "at " ++ (signed_decimal at ++ (codes ":" ++ newline))
+
 -- ---- lines
 
 abbrev pub question_fault_text : List ZoneSpec → QuestionFault → List ℕ
@@ -164,6 +170,7 @@ line_fault_text zones (why.Question fault) = question_fault_text zones fault
 line_fault_text zones (why.Control fault) = control_fault_text zones fault
 line_fault_text zones (why.Standing fault) = standing_fault_text fault
 line_fault_text zones (why.Due fault) = due_fault_text fault
+line_fault_text zones why.NotIncremental = codes "NotIncremental"
 
 abbrev pub refused_line : List ZoneSpec → LineFault → List ℕ
 refused_line zones fault = codes "refused: " ++ (line_fault_text zones fault ++ newline)
@@ -189,6 +196,14 @@ module _ (config : Config) (ended : Histories) where
   asked_text what moment trace (Ok typed) = typed_text what moment trace typed
   asked_text what moment trace (Err fault) = []
 
+  -- what a query prints that was followed: at each moment its table over the same rows
+  abbrev pub table_at : Trace → TypedTree → ℤ → List ℕ
+  table_at trace typed at = moment_heading at ++ trace_table typed at trace
+
+  abbrev pub followed_text : List ℤ → Trace → Result TypedTree TextFault → List ℕ
+  followed_text moments trace (Ok typed) = flat_map (table_at trace typed) moments
+  followed_text moments trace (Err fault) = []
+
   -- what a query that was due prints: its name and its time, and then its table or its refusal
   abbrev pub due_end_text : Due → DueEnd → List ℕ
   due_end_text due (end.Answered trace) =
@@ -204,6 +219,8 @@ module _ (config : Config) (ended : Histories) where
   text_by what text (came.Poured pass ends) =
       pour_text config.topology (file_name (files_of what).first) (file_name (files_of what).second) ends
   text_by what text (came.Asked moment trace) = asked_text what moment trace (text_type config.schemas text)
+  text_by what text (came.Followed moment trace) =
+      followed_text (moments_of what) trace (text_type config.schemas text)
   text_by what text (came.Ticked dues) = flat_map due_text dues
   text_by what text (came.Controlled done) = control_done_text config.topology what done
   text_by what text (came.Refused fault) = refused_line config.topology fault

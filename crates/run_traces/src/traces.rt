@@ -63,6 +63,8 @@ pub enum LineFault {
     Standing(StandingFault),
     /// A moment is not taken at which standing queries may be due.
     Due(DueFault),
+    /// A query that has a table is not followed, since its form is none whose result is kept.
+    NotIncremental,
 }
 
 /// What a standing query came to at a time at which it was due.
@@ -109,6 +111,11 @@ pub enum LineTrace {
     },
     /// What was looked at for a table, at a moment in seconds from the epoch.
     Asked {
+        moment: i64,
+        trace: Trace,
+    },
+    /// What was looked at for a query that was followed from a moment on.
+    Followed {
         moment: i64,
         trace: Trace,
     },

@@ -103,6 +103,7 @@ fn push_line<'a>(
         }),
         LineTrace::Asked { .. } => push_table(alloc, text, at),
         LineTrace::Refused(_) => push_refusal(alloc, text, at),
+        LineTrace::Followed { .. } => Ok(at),
         LineTrace::Ticked(_) => Ok(at),
         LineTrace::Controlled(_) => Ok(at),
         LineTrace::Done => Ok(at),

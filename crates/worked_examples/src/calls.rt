@@ -32,7 +32,7 @@ pub(crate) fn hints(alloc: Global) -> Result<bool, OutOfMemory> {
     Ok(listed.as_slice() == [41, 192, 343, 345, 803, 872, 1022].as_slice())
 }
 
-fn key(alloc: Global) -> Result<SeriesKey, OutOfMemory> {
+pub(crate) fn key(alloc: Global) -> Result<SeriesKey, OutOfMemory> {
     let mut fields = FieldValues::new(alloc);
     for text in ["a", "e"] {
         fields.push(FieldValue::Text(Text::from_str(alloc, text)?))?;
@@ -47,7 +47,7 @@ fn key(alloc: Global) -> Result<SeriesKey, OutOfMemory> {
     })
 }
 
-fn fields(alloc: Global) -> Result<Fields, OutOfMemory> {
+pub(crate) fn fields(alloc: Global) -> Result<Fields, OutOfMemory> {
     let mut fields = Fields::new(alloc);
     for (name, location) in [("u", false), ("z", true)] {
         fields.push(Field {
@@ -59,7 +59,7 @@ fn fields(alloc: Global) -> Result<Fields, OutOfMemory> {
     Ok(fields)
 }
 
-fn metric(alloc: Global) -> Result<MetricSchema, OutOfMemory> {
+pub(crate) fn metric(alloc: Global) -> Result<MetricSchema, OutOfMemory> {
     Ok(MetricSchema {
         name: Text::from_str(alloc, "/m")?,
         kind: Kind::Gauge,

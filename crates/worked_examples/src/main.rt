@@ -3,7 +3,10 @@
 
 mod calls;
 mod examples;
+mod kept_parts;
+mod kept_results;
 
+use crate::kept_results::{Way, has_row};
 use std::alloc::Global;
 use std::io;
 use std::process::ExitCode;
@@ -31,7 +34,13 @@ fn make_all(rt: &impl Print, alloc: Global) -> io::Result<bool> {
     let fold = say(rt, "mon_fold::fold_pieces", calls::fold(alloc)?)?;
     let entry = say(rt, "leaf_store::may_follow", calls::entry(alloc)?)?;
     let tables = say(rt, "mon_table::union and sorted", calls::tables(alloc)?)?;
-    Ok(hints & pattern & query & formula & fold & entry & tables)
+    let kept = say(rt, "standing_incr::Kept", has_row(alloc, Way::Added)?)?;
+    let replayed = say(rt, "standing_incr::replay", has_row(alloc, Way::Replayed)?)?;
+    let numbers = say(rt, "kept_numbers::Numbers", kept_parts::numbers(alloc)?)?;
+    let placed = say(rt, "placed_rows::PlacedRows", kept_parts::placed(alloc)?)?;
+    let change = say(rt, "kept_groups::change_of", kept_parts::change(alloc)?)?;
+    let calls = hints & pattern & query & formula & fold & entry & tables;
+    Ok(calls & kept & replayed & numbers & placed & change)
 }
 
 // Prints a line that says whether a call answered as it should, and gives that back.

@@ -1,7 +1,7 @@
-use Rattle.std.proofs.Common.{rules, ◌≡◌, ℤ, IfOk, Ok, Err, sym, ap, subst, to_z, of_z, w64}
+use Rattle.std.proofs.Common.{rules, ◌≡◌, ◌<◌, ℤ, [], ◌∷◌, length, IfOk, Ok, Err, arith, refl, sym, ap, subst, to_z, of_z, w64}
 use Rattle.line_runs.proofs.Answered.{answer_is}
 use Rattle.line_runs.proofs.Ended.{answered_ran, at_limit, refused_ran}
-use Rattle.line_runs.specs.Questions.{IsAnswerTo, IsPrinted, IsRefusedFor}
+use Rattle.line_runs.specs.Questions.{IsAnswerTo, IsPrinted, IsRefusedFor, question}
 use Rattle.mon_config.specs.declared.config.Config.{Config}
 use Rattle.mon_store.specs.Queries.{IsEnded}
 use Rattle.line_runs.proofs.asks.ask.Goals as goal
@@ -29,9 +29,9 @@ returns-in-Ok-clause-wrote g c =
     at_limit c.args.store.now c.args.text.now c.as_bytes.result.now _ c.args.moment _ c.args.p.now c.query.new.p
     (Ok c.in-Ok.answer) c.as_bytes.ensures.bytes same most c.in-Ok.ensures.queried in
     answered_ran g.N.Names.setting c.args.store.now c.args.p.now c.is_sound.ensures.held c.traces_stay.ensures.of
-    c.traces_stay.ensures.rows c.traces_stay.ensures.found c.traces_stay.ensures.fresh c.traces_stay.ensures.read c.args.what c.args.moment
+    c.traces_stay.ensures.rows c.traces_stay.ensures.found c.traces_stay.ensures.fresh c.traces_stay.ensures.read c.args.moment
     c.args.text.now c.query.new.p c.answered.new.p c.in-Ok.answer c.query.ensures.still c.answered.ensures.same ended
-    c.answered.result
+    c.args.what c.answered.result
     (subst (λ (m : ℤ). IfOk c.answered.result (IsPrinted c.args.store.now c.args.what m c.args.text.now c.query.new.p
     c.in-Ok.answer.trace)) same c.answered.ensures.printed) c.answered.ensures.held
 
@@ -45,8 +45,10 @@ returns-in-Err-clause-wrote g c =
     let same : to_z w64 (of_z w64 c.args.moment) ≡ c.args.moment = search rules in
     let most : c.config.result.now.limit ≡ c.args.store.now.limit =
     ap (λ (config : Config). config.limit) c.config.ensures.config in
-    refused_ran g.N.Names.setting c.args.store.now c.args.p.now c.is_sound.ensures.held c.args.what c.args.moment
-    c.args.text.now c.query.new.p c.in-Err.fault c.query.ensures.still
+    let lone : 0 < length (c.args.moment ∷ []) = omega arith in
+    refused_ran g.N.Names.setting c.args.store.now c.args.p.now c.is_sound.ensures.held
+    (question c.args.what c.args.moment c.args.text.now) c.query.new.p c.in-Err.fault (λ told. tt) (0, lone, refl)
+    c.query.ensures.still
     (at_limit c.args.store.now c.args.text.now c.as_bytes.result.now _ c.args.moment _ c.args.p.now c.query.new.p
     (Err c.in-Err.fault) c.as_bytes.ensures.bytes same most c.in-Err.ensures.queried)
     c.refused.result

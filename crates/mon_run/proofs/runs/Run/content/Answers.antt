@@ -39,6 +39,11 @@ returns-in-Ask-clause-read g c =
     other_read c.args.what.now _ _ (seen g.F.Folder.state g.O.Sink.state c.args.self.now) c.in-Ask.is refl
     c.none.ensures.none
 
+pub returns-in-Follow-clause-read : goal.returns-in-Follow-clause-read
+returns-in-Follow-clause-read g c =
+    other_read c.args.what.now _ _ (seen g.F.Folder.state g.O.Sink.state c.args.self.now) c.in-Follow.is refl
+    c.none-in-Follow.ensures.none
+
 pub returns-in-Control-clause-read : goal.returns-in-Control-clause-read
 returns-in-Control-clause-read g c =
     other_read c.args.what.now _ _ (seen g.F.Folder.state g.O.Sink.state c.args.self.now) c.in-Control.is refl
