@@ -27,6 +27,7 @@ REFUSED = {
     "fetch Task::/work | group_by [cell], sum(work)": "Typing 30 UnknownColumn",
 }
 PERIODS = [20, 50, 60, 90, 400, 1_000_000_000]
+STEPS = [1, 7, 20, 60, 400, 1_000_000_000]
 NAMES = ["s", "hourly", "_1"]
 MOST_DUE = 1000
 MOST_ROWS = 10
@@ -95,8 +96,8 @@ class Script:
 
     def a_line(self, chance, is_block, begun, part):
         kinds = {"feed": 5, "pour": 2, "ask": 4, "switch": 6 * self.has_switches, "recover": 4 * self.has_switches}
-        if self.has_ticks and not is_block:
-            kinds |= {"standing": 3, "tick": 10}
+        if not is_block:
+            kinds |= {"follow": 3, "standing": 3 * self.has_ticks, "tick": 10 * self.has_ticks}
         kind = chance.choices(list(kinds), list(kinds.values()))[0]
         if kind == "feed":
             return self.a_feed(chance, begun, part)
@@ -105,6 +106,9 @@ class Script:
         if kind == "ask":
             moment = chance.choice([sql.MOMENT, sql.MOMENT, self.end])
             return Line(chance.choice(QUESTIONS), (moment, chance.choice([SUMS, SUMS, *TEXTS])))
+        if kind == "follow":
+            moment = chance.choice([sql.MOMENT, self.end, begun, 0])
+            return Line("follow", (moment, chance.choice(STEPS), chance.randint(1, 6), chance.choice([*TEXTS])))
         if kind == "switch":
             leaves, _ = self.setting.zones[0]
             leaf = chance.choice([*leaves, *leaves[:2]])
@@ -223,6 +227,8 @@ class Course:
             return self.feeds(line.given, state)
         if line.word in QUESTIONS:
             return state, self.ask(line.word, *line.given, state), []
+        if line.word == "follow":
+            return state, self.follow(*line.given, state), []
         state, outcome = self.setting.alone(state, self.operation(line))
         return state, outcome + "\n", []
 
@@ -267,15 +273,13 @@ class Course:
 
     def ask(self, word, moment, text, state):
         """What a query prints over all that was accepted."""
-        span, operations = TEXTS[text]
+        operations = TEXTS[text][1]
         sizes = {place: [0, 0] for place in range(len(self.setting.ranges))}
         rows = {}
-        for fields, points in self.points.items():
-            values = in_reach(points, moment, span)
-            if values:
-                rows[fields] = sum(values)
-                sizes[self.range_of(fields)][0] += len(values)
-                sizes[self.range_of(fields)][1] += 1
+        for fields, values in self.found_at(moment, text).items():
+            rows[fields] = sum(values)
+            sizes[self.range_of(fields)][0] += len(values)
+            sizes[self.range_of(fields)][1] += 1
         sent = self.setting.look(state, sizes, self.limit)
         if isinstance(sent, str):
             return sent + "\n"
@@ -284,6 +288,24 @@ class Course:
         names = enumerate(self.setting.leaves)
         told = [f"leaf {name} read {sent[leaf]}" if leaf in sent else f"leaf {name} unread 0" for leaf, name in names]
         return table(rows, moment) + "".join(f"{line}\n" for line in operations + told)
+
+    def found_at(self, moment, text):
+        """The values in the reach of a query of each series that has some."""
+        found = {fields: in_reach(points, moment, TEXTS[text][0]) for fields, points in self.points.items()}
+        return {fields: values for fields, values in found.items() if values}
+
+    def follow(self, moment, period, count, text, state):
+        """What a query prints that is followed: its table at each moment over the same points."""
+        asked = self.ask("query", moment, text, state)
+        if asked.startswith("refused: "):
+            return asked
+        printed = ""
+        for at in range(moment, moment + count * period, period):
+            found = self.found_at(at, text)
+            if load(found) > self.limit:
+                return f"refused: StepLimit {self.limit}\n"
+            printed += f"at {at}:\n{table({fields: sum(values) for fields, values in found.items()}, at)}"
+        return printed
 
     # ---- standing queries
 
