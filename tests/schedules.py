@@ -1,5 +1,6 @@
-"""Makes schedules by chance: writes, queries, switches of leaves and recoveries by up to fourteen actors beside one
-another, over one leaf, over three leaves with ranges on one to three of them, and over two zones with three leaves each.
+"""Makes schedules by chance: writes, queries, switches of leaves, recoveries, trims and retirements by up to fourteen
+actors beside one another, over one leaf, over three leaves with ranges on one to three of them, and over two zones with
+three leaves each.
 """
 
 import weaving
@@ -8,8 +9,17 @@ import weaving
 SETTINGS = [("one_leaf.json", "e", 1), ("three_leaves.json", "e", 2), ("six_leaves.json", "efw", 3)]
 USERS = ["alpha", "gamma", "kappa", "omega", "psi", "tau", ""]
 WRITE_EVENTS = ["reserve", "enter", "raise_root", "raise_zone", "put", "ack"]
+TRIM_EVENTS = ["reserve", "enter", "put", "ack"]
 RECOVERY_EVENTS = ["reserve", "reserve", "enter", "raise_root", "raise_zone", "put", "ack"]
 QUERY_EVENTS = ["load_zone", "resolve", "visit", "visit", "visit"]
+EVENTS = {
+    "write": WRITE_EVENTS,
+    "trim": TRIM_EVENTS,
+    "recovery": RECOVERY_EVENTS,
+    "query": QUERY_EVENTS,
+    "switch": ["switch"],
+    "retirement": ["retire"],
+}
 
 QUERIES = [
     "fetch T::/m",
@@ -66,7 +76,7 @@ class Maker:
     def is_lawful(self, line):
         word, number, *_ = line.split(" ")
         actor = self.weave.actors.get(int(number))
-        return word in ("write", "query", "down", "up", "recover", "meet") or actor.ended is None
+        return word not in ("step", "until", "finish") or actor.ended is None
 
     def make(self):
         for _ in range(self.chance.randint(1, 4)):
@@ -83,14 +93,18 @@ class Maker:
         if not self.waiting:
             return
         how = self.chance.random()
-        if how < 0.4:
+        if how < 0.36:
             self.declare_write()
-        elif how < 0.7:
+        elif how < 0.62:
             self.declare_query()
-        elif how < 0.87:
+        elif how < 0.75:
             self.declare_switch()
-        else:
+        elif how < 0.84:
             self.declare_recovery()
+        elif how < 0.93:
+            self.declare_trim()
+        else:
+            self.declare_retirement()
 
     def declare_write(self):
         number = self.waiting.pop(0)
@@ -118,9 +132,26 @@ class Maker:
         self.kinds[number] = "recovery"
         _, leaves, ranges = self.chance.choice(self.setting.zones)
         place = self.chance.choice(ranges)
-        others = [leaf for leaf in leaves if leaf not in self.weave.serving[place]]
+        others = [leaf for leaf in leaves if self.weave.serving_on(place, leaf) is None]
         leaf = self.chance.choice(others if others and self.chance.random() < 0.8 else leaves)
-        self.add(f"recover {number} {self.setting.range_names[place]} {self.setting.leaf_names[leaf]}")
+        self.add(f"recover {number} {self.weave.named(place, leaf)}")
+        return number
+
+    def declare_trim(self):
+        number = self.waiting.pop(0)
+        self.kinds[number] = "trim"
+        bound = max(0, self.now + self.chance.choice([-9, -4, -2, -1, 0, 0, 1, 5]))
+        self.add(f"trim {number} {self.chance.choice(self.setting.range_names)} {bound}")
+        return number
+
+    def declare_retirement(self):
+        number = self.waiting.pop(0)
+        self.kinds[number] = "retirement"
+        place = self.chance.randrange(len(self.setting.ranges))
+        leaves = [self.weave.slots[place][slot] for slot in self.weave.serving[place]]
+        is_likely = self.chance.random() < 0.85
+        leaf = self.chance.choice(leaves) if is_likely else self.chance.randrange(len(self.setting.leaves))
+        self.add(f"retire {number} {self.weave.named(place, leaf)}")
         return number
 
     def row(self):
@@ -149,8 +180,7 @@ class Maker:
         if not numbers:
             return
         number = self.chance.choice(numbers)
-        kinds = {"write": WRITE_EVENTS, "query": QUERY_EVENTS, "switch": ["switch"], "recovery": RECOVERY_EVENTS}
-        events = kinds[self.kinds[number]]
+        events = EVENTS[self.kinds[number]]
         how = self.chance.random()
         if how < 0.35:
             self.add(f"step {number}", self.chance.choice([1, 1, 2, 3, 5]))
@@ -160,9 +190,9 @@ class Maker:
             self.add(f"finish {number}")
 
     def tangle(self):
-        """Lets a query come to a leaf, a write go on beside it, and the query look."""
+        """Lets a query come to a leaf, a write or a trim go on beside it, and the query look."""
         queries = [number for number in self.open() if self.kinds[number] == "query"]
-        writes = [number for number in self.open() if self.kinds[number] == "write"]
+        writes = [number for number in self.open() if self.kinds[number] in ("write", "trim")]
         if not queries or not writes:
             return
         query, write = self.chance.choice(queries), self.chance.choice(writes)
@@ -201,6 +231,8 @@ class Maker:
         lines = [f"step {other}", f"until {other} put", f"meet {number} {other}", f"meet {number} {number}"]
         lines += [f"query {number} 1 fetch T::/m", f"until {number} nothing", "step 0", "finish 65", f"down {other} e9"]
         lines += [f"recover {other} {self.setting.range_names[0]} e9", f"recover {other} east/9 e1"]
+        lines += [f"trim {other} east/9 5", f"trim {other} east/0 -1", f"trim {other} east/0", f"trim {number} east/0 5"]
+        lines += [f"retire {other} east/0 e9", f"retire {other} east/9 e1", f"retire {number} east/0 e1"]
         ended = [number for number, actor in self.weave.actors.items() if actor.ended is not None]
         if ended:
             lines += [f"step {self.chance.choice(ended)}", f"meet {self.chance.choice(ended)} {self.chance.choice(ended)}"]

@@ -14,7 +14,7 @@ MOST_REPLICAS = 3
 MOST_SLOTS = 64
 MOST_LINES = 100_000
 SPAN = 60
-EVENTS = "lock reserve enter raise_root raise_zone put ack load_root load_zone resolve visit switch".split()
+EVENTS = "lock reserve enter raise_root raise_zone put ack load_root load_zone resolve visit switch retire".split()
 NUMBER = re.compile(rb"-?[0-9]{1,32}")
 TOKEN = re.compile(r'\s*("(?:\\.|[^"])*"|::|/[\w./]+|-?\d+s?|\w+|=~|==|!=|<=|>=|\|\||&&|[<>|{};\[\](),:!])')
 
@@ -443,17 +443,23 @@ def folded(word, name, group):
 
 
 class Asked:
-    """A query that was asked: the rows that were acknowledged by its first event, and those that its visits found."""
+    """A query that was asked: the rows that were acknowledged by its first event, with their ranges, those that its
+    visits found, and for each range the bounds of the trims that its replica had had then, or that were acknowledged by
+    its last event."""
 
     def __init__(self, number, query, moment, text):
         self.number, self.query, self.moment, self.text = number, query, moment, text
-        self.earlier, self.rows, self.is_over = [], None, False
+        self.earlier, self.rows, self.is_over, self.bounds = [], None, False, {}
+
+    def may_lack(self, place, row):
+        """Whether a row is hidden by a trim, or counts for nothing."""
+        return any(row.end < bound for bound in self.bounds.get(place, [])) or not self.query.wants(row, self.moment)
 
     def lacks(self):
         """The rows that its table should have been of and was not."""
         if self.rows is None or self.is_over:
             return []
-        return [row for row in self.earlier if row not in self.rows and self.query.wants(row, self.moment)]
+        return [row for place, row in self.earlier if row not in self.rows and not self.may_lack(place, row)]
 
 
 class Weave:
@@ -464,13 +470,15 @@ class Weave:
         self.root = [0] * setting.buckets
         self.words = [[0] * setting.buckets for _ in setting.zones]
         self.raised = [set() for _ in setting.leaves]
-        self.kept = {}
+        self.kept = {(place, slot): [] for place, (_, leaves) in enumerate(setting.ranges) for slot in range(len(leaves))}
+        self.trimmed = {}
         self.down = [False] * len(setting.leaves)
         self.switches = [0] * len(setting.leaves)
         self.lengths = [sum(leaf in replicas for _, replicas in setting.ranges) for leaf in range(len(setting.leaves))]
-        self.serving = [list(replicas) for _, replicas in setting.ranges]
         self.slots = [list(replicas) for _, replicas in setting.ranges]
+        self.serving = [list(range(len(replicas))) for _, replicas in setting.ranges]
         self.acked = [[] for _ in setting.ranges]
+        self.bounds = [[] for _ in setting.ranges]
         self.holders = {}
         self.actors = {}
         self.asked = []
@@ -483,32 +491,55 @@ class Weave:
             return "refused: NoZone\n"
         yield "lock", ("range", place)
         self.holders["range", place] = number
-        refused = self.refusal(place, row)
-        if refused is None:
-            leaves, missed = list(self.serving[place]), {}
-            for leaf in leaves:
-                yield "reserve", ("leaf", leaf)
-                if self.down[leaf]:
-                    missed[leaf] = self.lengths[leaf]
-            for leaf in leaves:
-                if leaf not in missed:
-                    cut = yield from self.put(number, place, leaf, row)
-                    if cut is not None:
-                        missed[leaf] = cut
+        told = self.refusal(place, row)
+        missed = {} if told else (yield from self.bring(number, place, [row], lambda slot: self.put(place, slot, row)))
         yield "ack", None
-        if refused is None:
-            refused = self.acknowledge(place, row, leaves, missed)
+        told = told or self.acknowledge(place, missed)
+        if told is None:
+            self.acked[place].append(row)
+            told = f"written: {self.taken(place, missed)}"
         del self.holders["range", place]
-        return refused
+        return told
 
-    def acknowledge(self, place, row, leaves, missed):
-        """A row is acknowledged, if some replica took it; those that missed it serve no more."""
-        if len(missed) == len(leaves):
-            name = self.setting.range_names[place]
-            return f"refused: Unavailable {self.setting.named_down(name, [(leaf, missed[leaf]) for leaf in leaves])}\n"
-        self.acked[place].append(row)
-        self.serving[place] = [leaf for leaf in leaves if leaf not in missed]
-        return f"written: took {len(leaves) - len(missed)}, missed {len(missed)}\n"
+    def trim(self, number, place, before):
+        """A trim of a range, likewise: it raises nothing."""
+        yield "lock", ("range", place)
+        self.holders["range", place] = number
+        missed = yield from self.bring(number, place, [], lambda slot: self.hide(place, slot, before))
+        yield "ack", None
+        told = self.acknowledge(place, missed)
+        if told is None:
+            self.bounds[place].append(before)
+            told = f"trim {self.setting.range_names[place]}: {self.taken(place, missed)}"
+        del self.holders["range", place]
+        return told
+
+    def bring(self, number, place, rows, do):
+        """The events between a lock and its end by which something comes to each replica whose leaf is up. It gives the
+        slots that missed it, with how long their leaves' histories are."""
+        missed = {}
+        for slot in self.serving[place]:
+            leaf = self.slots[place][slot]
+            yield "reserve", ("leaf", leaf)
+            if self.down[leaf]:
+                missed[slot] = self.lengths[leaf]
+        for slot in self.serving[place]:
+            if slot not in missed:
+                cut = yield from self.inside(number, self.slots[place][slot], rows, lambda: do(slot))
+                if cut is not None:
+                    missed[slot] = cut
+        return missed
+
+    def acknowledge(self, place, missed):
+        """Why nothing is acknowledged: no replica took it. Else those that missed it serve no more."""
+        if len(missed) == len(self.serving[place]):
+            founds = [(self.slots[place][slot], missed[slot]) for slot in self.serving[place]]
+            return f"refused: Unavailable {self.setting.named_down(self.setting.range_names[place], founds)}\n"
+        self.serving[place] = [slot for slot in self.serving[place] if slot not in missed]
+        return None
+
+    def taken(self, place, missed):
+        return f"took {len(self.serving[place])}, missed {len(missed)}\n"
 
     def refusal(self, place, row):
         ends = [other.end for other in self.acked[place] if other.series == row.series]
@@ -518,16 +549,16 @@ class Weave:
             return f"refused: RangeFull {self.setting.room}\n"
         return None
 
-    def put(self, number, place, leaf, row):
-        """The events of a write within a leaf; where that is down, how long its history is."""
-        cut = yield from self.inside(number, leaf, [row])
-        if cut is None:
-            self.kept.setdefault((place, leaf), []).append(row)
-        return cut
+    def put(self, place, slot, row):
+        self.kept[place, slot].append(row)
 
-    def inside(self, number, leaf, rows):
-        """The events by which rows come to a leaf at once, up to and with the put; where the leaf is down, how long its
-        history is."""
+    def hide(self, place, slot, before):
+        self.kept[place, slot] = [row for row in self.kept[place, slot] if row.end >= before]
+        self.trimmed.setdefault((place, slot), []).append(before)
+
+    def inside(self, number, leaf, rows, do):
+        """The events by which rows come to a leaf at once, or a bound, up to and with the put; where the leaf is down,
+        how long its history is."""
         zone, bit = self.setting.leaves[leaf]
         yield "enter", ("leaf", leaf)
         if self.down[leaf]:
@@ -544,6 +575,7 @@ class Weave:
         yield "put", None
         self.raised[leaf] |= hints
         self.lengths[leaf] += 1
+        do()
         del self.holders["leaf", leaf]
         return None
 
@@ -556,17 +588,23 @@ class Weave:
             told = yield from self.copy(number, place, leaf)
         yield "ack", None
         if told is None:
-            told = f"recover {self.setting.range_names[place]} {self.setting.leaf_names[leaf]}: "
-            told += f"slot {len(self.slots[place])}\n"
-            self.serving[place].append(leaf)
+            told = f"recover {self.named(place, leaf)}: slot {len(self.slots[place])}\n"
+            self.serving[place].append(len(self.slots[place]))
             self.slots[place].append(leaf)
         del self.holders["range", place]
         return told
 
+    def named(self, place, leaf):
+        return f"{self.setting.range_names[place]} {self.setting.leaf_names[leaf]}"
+
+    def serving_on(self, place, leaf):
+        """The slot of the replica of a range that serves on a leaf, if there is one."""
+        return next((slot for slot in self.serving[place] if self.slots[place][slot] == leaf), None)
+
     def denial(self, place, leaf):
         """Why a range opens no replica on a leaf, by what serves there now."""
-        if leaf in self.serving[place]:
-            slot = max(slot for slot, other in enumerate(self.slots[place]) if other == leaf)
+        slot = self.serving_on(place, leaf)
+        if slot is not None:
             return f"refused: Serving {slot}\n"
         if len(self.serving[place]) == MOST_REPLICAS:
             return "refused: ThreeServing\n"
@@ -578,10 +616,11 @@ class Weave:
         """The events of a recovery between its lock and its end: the rows of the first replica whose leaf is up come to
         the leaf at once. Where that can't be, why."""
         founds = []
-        for source in self.serving[place]:
+        for slot in self.serving[place]:
+            source = self.slots[place][slot]
             yield "reserve", ("leaf", source)
             if not self.down[source]:
-                rows = list(self.kept.get((place, source), []))
+                rows = list(self.kept[place, slot])
                 break
             founds.append((source, self.lengths[source]))
         else:
@@ -589,11 +628,22 @@ class Weave:
         yield "reserve", ("leaf", leaf)
         cut = self.lengths[leaf] if self.down[leaf] else None
         if cut is None:
-            cut = yield from self.inside(number, leaf, rows)
-        if cut is not None:
-            return f"refused: TargetDown {cut}\n"
-        self.kept[place, leaf] = rows
-        return None
+            cut = yield from self.inside(number, leaf, rows, lambda: self.open(place, rows))
+        return None if cut is None else f"refused: TargetDown {cut}\n"
+
+    def open(self, place, rows):
+        self.kept[place, len(self.slots[place])] = rows
+
+    def retire(self, place, leaf):
+        """The one event by which the replica of a range on a leaf serves no more, while another one does."""
+        yield "retire", ("range", place)
+        slot = self.serving_on(place, leaf)
+        if slot is None:
+            return "refused: NotServing\n"
+        if self.serving[place] == [slot]:
+            return f"refused: LastServing {slot}\n"
+        self.serving[place].remove(slot)
+        return f"retire {self.named(place, leaf)}: slot {slot}\n"
 
     def switch(self, leaf, down):
         """The one event by which a leaf goes down, or comes up."""
@@ -621,23 +671,25 @@ class Weave:
         for hint in buckets:
             yield "load_root", None
             if not root:
-                asked.earlier = [row for acked in self.acked for row in acked]
+                asked.earlier = [(place, row) for place, acked in enumerate(self.acked) for row in acked]
             root[hint] = self.root[hint]
         for zone in range(len(self.setting.zones)):
             if any(holds_of(formula, root, zone) for formula in formulas):
-                found = yield from self.look(query, formulas, buckets, moment, zone)
+                found = yield from self.look(asked, formulas, buckets, zone)
                 if isinstance(found, str):
                     return found
                 rows += found
                 if query.load(found, moment) > self.setting.limit:
                     break
         asked.rows = rows
+        for place, bounds in enumerate(self.bounds):
+            asked.bounds.setdefault(place, []).extend(bounds)
         asked.is_over = query.load(rows, moment) > self.setting.limit
         if asked.is_over:
             return f"refused: StepLimit {self.setting.limit}\n"
         return query.text(rows, moment)
 
-    def look(self, query, formulas, buckets, moment, zone):
+    def look(self, asked, formulas, buckets, zone):
         """The events of a query in a zone, and the rows that it found there, or why it ends there. Where a leaf is
         found down the zone begins again, at its first range, without that leaf."""
         leaves = self.setting.zones[zone][1]
@@ -646,10 +698,10 @@ class Weave:
             return []
         founds, rows = [], None
         while rows is None:
-            rows = yield from self.round(query, formulas, buckets, moment, zone, founds)
+            rows = yield from self.round(asked, formulas, buckets, zone, founds)
         return rows
 
-    def round(self, query, formulas, buckets, moment, zone, founds):
+    def round(self, asked, formulas, buckets, zone, founds):
         """The events of a round in a zone, and the rows that it found, or why the query ends. Where it finds a leaf
         down it notes it, and there are no rows."""
         _, leaves, ranges = self.setting.zones[zone]
@@ -657,10 +709,10 @@ class Weave:
         for place in ranges:
             yield "resolve", ("range", place)
             avoided = [leaf for leaf, _ in founds]
-            first = next((leaf for leaf in self.serving[place] if leaf not in avoided), None)
+            first = next((slot for slot in self.serving[place] if self.slots[place][slot] not in avoided), None)
             if first is None:
                 return f"refused: NoReplica {self.setting.named_down(self.setting.range_names[place], founds)}\n"
-            slots.setdefault(first, []).append(place)
+            slots.setdefault(self.slots[place][first], []).append((place, first))
         words = yield from self.load(buckets, zone)
         rows = []
         for bit, leaf in enumerate(leaves):
@@ -672,9 +724,10 @@ class Weave:
                 return None
             own = {hint: int(hint in self.raised[leaf]) for hint in buckets}
             if any(holds_of(formula, own, 0) for formula in formulas):
-                found = [row for place in slots[leaf] for row in self.kept.get((place, leaf), [])]
+                found = [row for one in slots[leaf] for row in self.kept[one]]
                 rows += found
-                if query.load(found, moment) > self.setting.limit:
+                asked.bounds.update({one[0]: list(self.trimmed.get(one, [])) for one in slots[leaf]})
+                if asked.query.load(found, asked.moment) > self.setting.limit:
                     break
         return rows
 
@@ -743,7 +796,7 @@ def run_line(weave, line):
     word, rest = cut(line)
     if word in (b"step", b"finish"):
         return go(weave, number_in(rest, 1, MOST_ACTORS), word.decode())
-    if word not in (b"write", b"query", b"down", b"up", b"recover", b"meet", b"until"):
+    if word not in (b"write", b"query", b"down", b"up", b"recover", b"trim", b"retire", b"meet", b"until"):
         raise Refused("BadLine")
     first, rest = cut(rest)
     number = number_in(first, 1, MOST_ACTORS)
@@ -756,11 +809,15 @@ def run_line(weave, line):
     if word == b"write":
         events = weave.write(number, row_in(weave.setting, rest))
     elif word in (b"down", b"up"):
-        if rest.decode() not in weave.setting.leaf_names:
-            raise Refused("BadLine")
-        events = weave.switch(weave.setting.leaf_names.index(rest.decode()), word == b"down")
+        events = weave.switch(named_in(weave.setting.leaf_names, rest), word == b"down")
     elif word == b"recover":
-        events = weave.recover(number, *range_and_leaf(weave.setting, rest))
+        events = weave.recover(number, *of_one_zone(weave.setting, *range_and_leaf(weave.setting, rest)))
+    elif word == b"trim":
+        name, bound = cut(rest)
+        place = named_in(weave.setting.range_names, name)
+        events = weave.trim(number, place, number_in(bound, 0, LAST))
+    elif word == b"retire":
+        events = weave.retire(*range_and_leaf(weave.setting, rest))
     else:
         moment, text = cut(rest)
         events = weave.query(number, number_in(moment, 0, LAST), text.decode())
@@ -776,12 +833,20 @@ def cut(line):
     return line.split(b" ", 1)
 
 
-def range_and_leaf(setting, text):
-    """A range and a leaf of its zone, by their names."""
-    place, leaf = (part.decode() for part in cut(text))
-    if place not in setting.range_names or leaf not in setting.leaf_names:
+def named_in(names, text):
+    """The place of a name."""
+    if text.decode() not in names:
         raise Refused("BadLine")
-    place, leaf = setting.range_names.index(place), setting.leaf_names.index(leaf)
+    return names.index(text.decode())
+
+
+def range_and_leaf(setting, text):
+    """A range and a leaf, by their names."""
+    place, leaf = cut(text)
+    return named_in(setting.range_names, place), named_in(setting.leaf_names, leaf)
+
+
+def of_one_zone(setting, place, leaf):
     if not any(leaf in leaves and place in ranges for _, leaves, ranges in setting.zones):
         raise Refused("BadLine")
     return place, leaf

@@ -1,4 +1,4 @@
--- A write's turn at its acknowledgement: its range is told what became of the row.
+-- A write's turn at its acknowledgement: its range is told what became of what it brought.
 use Rattle.std.proofs.Common.{◌≡◌, ℕ, ◌<◌, ◌≢◌, Bool, true, false, cond, None, Some, List, [], ◌∷◌, ◌++◌, length, refl}
 use Rattle.std.proofs.Common.{sym, ap, subst, ◌∙◌}
 use Rattle.std.specs.Prelude.{is_some}
@@ -9,7 +9,8 @@ use Rattle.mon_topo.specs.Settings.{Setting}
 use Rattle.mon_value.specs.Histories.{range_numbered}
 use Rattle.mon_value.specs.declared.histories.Ack.{Ack}
 use Rattle.mon_value.specs.declared.histories.RangeEntry.{RangeEntry}
-use Rattle.mon_value.specs.declared.histories.RangeEntry.TheVariants as range_entry
+use Rattle.mon_topo.specs.RangeHistories.{turn_ack}
+use Rattle.mon_value.specs.Turns.{Turn}
 use Rattle.mon_value.specs.declared.positions.FoundDown.{FoundDown}
 use Rattle.mon_value.specs.declared.positions.Leaf.{Leaf}
 use Rattle.mon_value.specs.declared.positions.Range.{Range}
@@ -25,7 +26,7 @@ use Rattle.core_store.specs.Agreements.{store_of}
 use Rattle.core_store.specs.WriteEvents.{ChangesRange, LetsGo}
 use Rattle.core_store.specs.WriteEvents as events
 use Rattle.core_store.specs.WriteTurns.{IsAtWork, WriteEnded, ended_write}
-use Rattle.core_store.specs.Writers.{writer_of}
+use Rattle.core_store.specs.Writers.{change_turn, writer_of}
 use Rattle.core_store.specs.declared.ranges.RangeSeat.{RangeSeat}
 use Rattle.mon_topo.specs.declared.sights.Sight.{Sight}
 use Rattle.core_store.specs.declared.store.Store.{Store}
@@ -60,6 +61,9 @@ module _ (config : Config) (world : World) (i : ℕ) (store : Store) (writing : 
   abbrev range : Range
   range = writing.range
 
+  abbrev turn : Turn
+  turn = change_turn writing.change
+
   abbrev met : View
   met = joined_view view (world.ranges range.0)
 
@@ -86,9 +90,9 @@ module _ (config : Config) (world : World) (i : ℕ) (store : Store) (writing : 
     leaves_same : (leaf : Leaf) → of_leaf (change world.truth) leaf ≡ of_leaf world.truth leaf
     ranges_same : (n : ℕ) → n ≢ range.0
         → of_range (change world.truth) (range_numbered n) ≡ of_range world.truth (range_numbered n)
-    history : events.with_end_entry seat.state.history writing.number writing.row last
+    history : events.with_end_entry seat.state.history writing.number turn last
         ≡ of_range (change world.truth) range
-    seen : sight_at_range range (events.with_end_entry seat.state.history writing.number writing.row last) sight
+    seen : sight_at_range range (events.with_end_entry seat.state.history writing.number turn last) sight
         seat.sight
         ≡ sight_of (change met).seen
 
@@ -97,7 +101,7 @@ module _ (config : Config) (world : World) (i : ℕ) (store : Store) (writing : 
   met_is = range_met setting world view range work.kept (own config world i store writing sight work).part
 
   quiet : (last : WriteEnd)
-      → events.with_end_entry seat.state.history writing.number writing.row last ≡ seat.state.history
+      → events.with_end_entry seat.state.history writing.number turn last ≡ seat.state.history
       → IsChangeSo (λ seen. seen) last
   quiet last same = record {
     bits = refl;
@@ -107,13 +111,13 @@ module _ (config : Config) (world : World) (i : ℕ) (store : Store) (writing : 
     seen = (λ k. sight_at_range range ((same ∙ so.history) k) (work.writer.seen k) (so.sight k)) ∙ met_is;
   }
 
-  appends : (ack : Ack) → IsChangeSo (with_range_entry range (range_entry.Acked i writing.row ack)) (end.Written ack)
+  appends : (ack : Ack) → IsChangeSo (with_range_entry range (turn_ack i turn ack)) (end.Written ack)
   appends ack =
-      let entry : RangeEntry = range_entry.Acked i writing.row ack in
+      let entry : RangeEntry = turn_ack i turn ack in
       let there : range.0 < length world.truth.seen.ranges = range_in_truth config world i store writing sight work in
-      let grown : seat.state.history ++ range_entry.Acked writing.number writing.row ack ∷ []
+      let grown : seat.state.history ++ turn_ack writing.number turn ack ∷ []
       ≡ of_range world.truth range ++ entry ∷ []
-      = (λ k. so.history k ++ range_entry.Acked (work.writer.number k) writing.row ack ∷ []) in
+      = (λ k. so.history k ++ turn_ack (work.writer.number k) turn ack ∷ []) in
       let whole : of_range met range ≡ of_range world.truth range
       = joined_whole_range view (world.ranges range.0) world.truth
       (own config world i store writing sight work).part.within (work.kept.ranges range).within range
@@ -135,7 +139,7 @@ module _ (config : Config) (world : World) (i : ℕ) (store : Store) (writing : 
       }
 
   change_by : (b : Bool) (ack : Ack) (founds : List FoundDown)
-      → IsChangeSo (λ seen. cond b (with_range_entry range (range_entry.Acked i writing.row ack) seen) seen)
+      → IsChangeSo (λ seen. cond b (with_range_entry range (turn_ack i turn ack) seen) seen)
       (cond b (end.Written ack) (end.Unavailable founds))
   change_by true ack founds = appends ack
   change_by false ack founds = quiet (end.Unavailable founds) refl
@@ -150,7 +154,7 @@ module _ (config : Config) (world : World) (i : ℕ) (store : Store) (writing : 
   module _ (last : WriteEnd) (last_is : last ≡ end_of_verdict range verdict) (new : Store) (other : RangeSeat)
       (now : Sight)
       (changes : ChangesRange range other store new)
-      (goes : LetsGo last writing.number writing.row range seat other sight now) where
+      (goes : LetsGo last writing.number turn range seat other sight now) where
     abbrev change : View → View
     change = with_acknowledgement writer verdict
 

@@ -5,6 +5,7 @@ use Rattle.std.specs.Prelude.{option_map}
 use Rattle.std.proofs.lemmas.Option.{none-some, same_Some}
 use Rattle.mon_topo.specs.Settings.{Setting, zone_of_leaf}
 use Rattle.mon_value.specs.declared.positions.Leaf.{Leaf}
+use Rattle.mon_value.specs.declared.positions.Range.{Range}
 use Rattle.core_store.specs.Holders.{AreHolders, HoldsLeaf, HoldsRange, IsHolding, leaf_inside}
 use Rattle.write_core.proofs.KeepsLemmas.{changed_by, changed_same}
 use Rattle.write_core.specs.Program.{Acking, Ended, Entering, Inside, Locking, Marked, Reserving, Stage, Verdict}
@@ -14,7 +15,9 @@ use Rattle.write_core.specs.Marks.{waiting}
 use Rattle.write_core.specs.Steps.{CanCome, CanComeAt, CanGo, with_acknowledgement, entrant, step, step_at}
 use Rattle.write_core.specs.Steps.{after_answer, same_view}
 use Rattle.mon_topo.specs.Views.{View, joined_view, with_entry, with_root_bit, with_zone_bit}
-use Rattle.write_core.specs.Events.{SwitchTold, after_switch, switched, switches_with}
+use Rattle.write_core.specs.Events.{SwitchTold, after_retirement, after_switch, retired, retires_with, switched}
+use Rattle.write_core.specs.Events.{switches_with}
+use Rattle.write_core.specs.declared.retirements.Retirement.{Retirement}
 use Rattle.write_core.specs.World.{Actor, Recovers, Stands, World, Writer, Writes, at_leaf, at_range, put_of}
 use Rattle.write_core.specs.World.{stands_on, with_value_at, writes_on}
 use Rattle.write_core.specs.declared.asks.WriteTold.{WriteTold}
@@ -294,3 +297,25 @@ switched_held world i (Stands who) leaf down answer is h =
 pub switch_held : (world : World) (i : ℕ) (leaf : Leaf) (down : Bool) (answer : SwitchTold) → AreHolders world
     → AreHolders (after_switch world i leaf down answer)
 switch_held world i leaf down answer = switched_held world i (world.actors i) leaf down answer refl
+
+-- ---- a retirement
+
+-- nor does who retires a replica of a range that nobody holds then
+retired_held : (world : World) (i : ℕ) (actor : Actor) (range : Range) (leaf : Leaf) (answer : Retirement)
+    → world.actors i ≡ actor → AreHolders world → AreHolders (retired world i actor range leaf answer)
+retired_held world i (Writes writer) range leaf answer is h = h
+retired_held world i (Recovers recovery) range leaf answer is h = h
+retired_held world i (Stands who) range leaf answer is h =
+    let new : Actor = stands_on who (retires_with range who.pass answer
+    (joined_view who.view (world.ranges range.0))) in
+    record {
+      range = range_changed world i h new range.0 None
+          (λ r apart held. absurd (subst (λ (actor : Actor). HoldsRange r actor) is held))
+          (λ j e. absurd (none-some j e));
+      leaf = leaf_kept world i h new
+          (λ l held. absurd (subst (λ (actor : Actor). HoldsLeaf l actor) is held));
+    }
+
+pub retire_held : (world : World) (i : ℕ) (range : Range) (leaf : Leaf) (answer : Retirement) → AreHolders world
+    → AreHolders (after_retirement world i range leaf answer)
+retire_held world i range leaf answer = retired_held world i (world.actors i) range leaf answer refl

@@ -1,6 +1,6 @@
 -- A write's turn at a leaf: it asks for room there, or enters it.
 use Rattle.std.proofs.Common.{◌≡◌, ℕ, Bool, true, false, cond, Option, Some, None, List, [], ◌∷◌, length, refl, sym}
-use Rattle.std.proofs.Common.{ap, subst, ◌∙◌}
+use Rattle.std.proofs.Common.{ap, arith, subst, ◌∙◌}
 use Rattle.std.specs.Prelude.{option_map}
 use Rattle.std.proofs.lemmas.Option.{none-some}
 use Rattle.mon_config.specs.declared.config.Config.{Config}
@@ -16,16 +16,18 @@ use Rattle.core_store.proofs.MeetingLemmas.{leaf_met}
 use Rattle.core_store.proofs.SeatLemmas.{leaf_so_then, same_at_leaf, shared_at_leaf}
 use Rattle.leaf_store.proofs.BucketLemmas.{AllBelow}
 use Rattle.core_store.proofs.RaiseLemmas.{all_below}
+use Rattle.mon_value.specs.Turns.{Turn, Adds, Hides}
 use Rattle.core_store.proofs.WriteTurnLemmas.{can_come, not_mine_leaf, step_is, waits_so, went_so, writer_then}
-use Rattle.core_store.specs.Agreements.{IsLeafSo}
+use Rattle.core_store.specs.Agreements.{IsLeafSo, IsServed}
 use Rattle.core_store.specs.Holders.{leaf_inside}
 use Rattle.core_store.specs.Meetings.{sight_at_leaf}
 use Rattle.mon_topo.specs.Sights.{sight_of}
 use Rattle.core_store.specs.NextAsks.{holder_for_actor, holder_for_write}
 use Rattle.core_store.specs.Agreements.{store_of}
-use Rattle.core_store.specs.WriteEvents.{ChangesLeaf, Enters, EntersIf, IsHeldUp, Reserves, ReservesIf, up_or_down}
+use Rattle.core_store.specs.WriteEvents.{AreTurnsToRaise, ChangesLeaf, Enters, EntersIf, IsHeldUp, Reserves}
+use Rattle.core_store.specs.WriteEvents.{ReservesIf, up_or_down}
 use Rattle.core_store.specs.WriteTurns.{IsAtWork, WentSo, WriteWaits, WriteWent}
-use Rattle.core_store.specs.Writers.{RaisesBelow, writer_of}
+use Rattle.core_store.specs.Writers.{RaisesBelow, change_turn, writer_of}
 use Rattle.core_store.specs.declared.leaves.LeafSeat.{LeafSeat}
 use Rattle.mon_topo.specs.declared.sights.Sight.{Sight}
 use Rattle.core_store.specs.declared.store.Store.{Store}
@@ -33,7 +35,7 @@ use Rattle.core_store.specs.declared.writes.Writing.{Writing}
 use Rattle.write_core.proofs.KeepsLemmas.{changed_same}
 use Rattle.write_core.specs.Program.{Entering, Reserving, Stage, after, ask_of}
 use Rattle.write_core.specs.Rounds.{Round, after_look}
-use Rattle.write_core.specs.Steps.{AreUnraised, IsToldAtEntry, IsToldByLeaf, entrant, same_view}
+use Rattle.write_core.specs.Steps.{AreUnraised, IsToldAtEntry, IsToldByLeaf, entrant, same_view, turn_buckets}
 use Rattle.mon_topo.specs.Views.{View, joined_view, of_leaf}
 use Rattle.write_core.specs.World.{Actor, World, Writer, at_leaf, view_of, writes_on}
 use Rattle.write_core.specs.declared.asks.WriteTold.{WriteTold}
@@ -182,12 +184,29 @@ reserve_turn config world i store writing sight work slot leaf at seat so new ot
 
 -- ---- entering
 
-told_at_entry : (store : Setting) (b : Bool) (history : List Entry) (writing : Writing) (buckets : List ℕ)
+told_at_entry : (store : Setting) (b : Bool) (history : List Entry) (turn : Turn) (buckets : List ℕ)
     → is_down history ≡ b
-    → (is_down history ≡ false → AreUnraised store history (store.buckets_of writing.row.key) buckets)
-    → IsToldAtEntry store history writing.row (cond b (told.Down (length history)) (told.Up buckets))
-told_at_entry store true history writing buckets down unraised = (down, refl)
-told_at_entry store false history writing buckets up unraised = (up, unraised up)
+    → (is_down history ≡ false → AreUnraised store history (turn_buckets store turn) buckets)
+    → IsToldAtEntry store history turn (cond b (told.Down (length history)) (told.Up buckets))
+told_at_entry store true history turn buckets down unraised = (down, refl)
+told_at_entry store false history turn buckets up unraised = (up, unraised up)
+
+-- the buckets that a leaf's seat tells for a turn are those that are still to be raised, and there are such buckets
+module _ (config : Config) (world : World) (leaf : Leaf) (seat : LeafSeat) (so : IsLeafSo config world leaf seat) where
+  turns_unraised : (turn : Turn) (buckets : List ℕ) → AreTurnsToRaise seat.state turn buckets
+      → AreUnraised (store_of config) seat.state.history (turn_buckets (store_of config) turn) buckets
+  turns_unraised (Adds row) buckets raise = record {
+    rising = raise.rising;
+    same = λ bucket. raise.same bucket ∙ (λ k. is_unraised (so.buckets k) (so.schemas k) seat.state.history row.key bucket);
+  }
+  turns_unraised (Hides before) buckets none =
+      subst (AreUnraised (store_of config) seat.state.history []) (sym none)
+      (record { rising = λ k l. absurd (omega (arith, l)); same = λ bucket. refl })
+
+  turns_below : IsServed config → (turn : Turn) (buckets : List ℕ) → AreTurnsToRaise seat.state turn buckets
+      → AllBelow config.buckets buckets
+  turns_below served (Adds row) buckets raise = all_below config seat row.key buckets served so.buckets raise
+  turns_below served (Hides before) buckets none = subst (AllBelow config.buckets) (sym none) tt
 
 going_entered : (b : Bool) (done left : List Mark) (n : ℕ) (buckets : List ℕ)
     → IsGoingOn (after (Entering (record { done = done; left = left })) (cond b (told.Down n) (told.Up buckets)))
@@ -243,20 +262,17 @@ module _ (config : Config) (world : World) (i : ℕ) (store : Store) (writing : 
     entry_seen : now ≡ sight_of (joined_view entrant_view (world.leaves mark.leaf.0)).seen
     entry_seen = enters.seen ∙ met_is config world i store writing sight work mark.leaf seat so
 
-    unraised_there : is_down seat.state.history ≡ false
-        → AreUnraised (store_of config) seat.state.history ((store_of config).buckets_of writing.row.key) enters.buckets
-    unraised_there up =
-        let raise = enters.to_raise up in
-        record {
-          rising = raise.rising;
-          same = λ bucket. raise.same bucket
-              ∙ (λ k. is_unraised (so.buckets k) (so.schemas k) seat.state.history writing.row.key bucket);
-        }
+    abbrev turn : Turn
+    turn = change_turn writing.change
 
-    entry_told : IsToldAtEntry (store_of config) (of_leaf world.truth mark.leaf) writing.row entry_answer
-    entry_told = subst (λ (history : List Entry). IsToldAtEntry (store_of config) history writing.row entry_answer)
+    unraised_there : is_down seat.state.history ≡ false
+        → AreUnraised (store_of config) seat.state.history (turn_buckets (store_of config) turn) enters.buckets
+    unraised_there up = turns_unraised config world mark.leaf seat so turn enters.buckets (enters.to_raise up)
+
+    entry_told : IsToldAtEntry (store_of config) (of_leaf world.truth mark.leaf) turn entry_answer
+    entry_told = subst (λ (history : List Entry). IsToldAtEntry (store_of config) history turn entry_answer)
         so.history
-        (told_at_entry (store_of config) (is_down seat.state.history) seat.state.history writing enters.buckets refl
+        (told_at_entry (store_of config) (is_down seat.state.history) seat.state.history turn enters.buckets refl
         unraised_there)
 
     pub entered : WriteWent config world i new writing next now
@@ -282,7 +298,7 @@ module _ (config : Config) (world : World) (i : ℕ) (store : Store) (writing : 
         (work.writer.inside ∙ ap leaf_inside at))
         (below_entered config.buckets (is_down seat.state.history) entered_round (length seat.state.history)
         enters.buckets
-        (λ up. all_below config seat writing.row.key enters.buckets work.shared.served so.buckets (enters.to_raise up)))
+        (λ up. turns_below config world mark.leaf seat so work.shared.served turn enters.buckets (enters.to_raise up)))
         entry_seen)
         (subst IsGoingOn (sym (enters.told_so.stage ∙ ap (λ (s : Stage). after s entry_answer) at))
         (going_entered (is_down seat.state.history) done (mark ∷ left) (length seat.state.history) enters.buckets))

@@ -18,6 +18,7 @@ pub mod RecoveryLemmas
 pub mod RecoveryRangeLemmas
 pub mod RecoveryReturns
 pub mod RecoveryTurnLemmas
+pub mod RetirementLemmas
 pub mod SeatingLemmas
 pub mod SeatLemmas
 pub mod SwitchEntryLemmas

@@ -10,14 +10,14 @@ use Rattle.core_store.proofs.LockLemmas.{lock_true}
 use Rattle.core_store.proofs.MeetingLemmas.{range_met}
 use Rattle.core_store.proofs.SeatLemmas.{same_at_range, shared_at_range}
 use Rattle.core_store.proofs.WriteTurnLemmas.{can_come, not_mine_range, step_is, waits_so, went_so, writer_then}
-use Rattle.core_store.specs.Writers.{writer_of}
+use Rattle.core_store.specs.Writers.{change_turn, writer_of}
 use Rattle.core_store.specs.Agreements.{IsRangeSo}
 use Rattle.core_store.specs.Holders.{HoldsRange, IsHolding, leaf_inside}
 use Rattle.core_store.specs.Meetings.{sight_at_range}
 use Rattle.mon_topo.specs.Sights.{sight_of}
 use Rattle.core_store.specs.NextAsks.{holder_for_actor, holder_for_write}
 use Rattle.core_store.specs.Agreements.{store_of}
-use Rattle.core_store.specs.WriteEvents.{ChangesRange, IsHeldUp, Locks, LocksIf}
+use Rattle.core_store.specs.WriteEvents.{ChangesRange, IsHeldUp, Locks, LocksIf, turn_answer}
 use Rattle.core_store.specs.WriteTurns.{IsAtWork, WentSo, WriteWaits, WriteWent}
 use Rattle.core_store.specs.declared.ranges.RangeSeat.{RangeSeat}
 use Rattle.mon_topo.specs.declared.sights.Sight.{Sight}
@@ -25,7 +25,6 @@ use Rattle.core_store.specs.declared.store.Store.{Store}
 use Rattle.core_store.specs.declared.writes.Writing.{Writing}
 use Rattle.write_core.proofs.KeepsLemmas.{changed_same}
 use Rattle.write_core.specs.Program.{Locking, Stage, after, ask_of}
-use Rattle.write_core.specs.RangeAnswers.{lock_answer}
 use Rattle.write_core.specs.Replays.{HasAckRoom}
 use Rattle.write_core.specs.Steps.{IsToldByRange, same_view}
 use Rattle.mon_topo.specs.Views.{View, joined_view, of_range}
@@ -54,16 +53,17 @@ module _ (config : Config) (world : World) (i : ℕ) (store : Store) (writing : 
       new)
       (locks : Locks config.range_points seat taken writing next sight now) where
     abbrev answer : WriteTold
-    answer = lock_answer config.range_points seat.state.history writing.row
+    answer = turn_answer config.range_points seat.state.history (change_turn writing.change)
 
     abbrev then' : World
     then' = at_range world i view range same_view (Some i) (writes_on writer (after Locking answer))
 
-    told_truly : IsToldByRange setting (of_range world.truth range) writing.row answer
+    told_truly : IsToldByRange setting (of_range world.truth range) (change_turn writing.change) answer
     told_truly =
-        subst (λ (history : List RangeEntry). IsToldByRange setting (of_range world.truth range) writing.row
-        (lock_answer config.range_points history writing.row)) (sym so.history)
-        (lock_true setting range (of_range world.truth range) writing.row
+        subst (λ (history : List RangeEntry). IsToldByRange setting (of_range world.truth range)
+        (change_turn writing.change)
+        (turn_answer config.range_points history (change_turn writing.change))) (sym so.history)
+        (lock_true setting range (of_range world.truth range) (change_turn writing.change)
         (work.kept.truth.held.legal range (range_in_truth config world i store writing sight work)))
 
     seen_is : now ≡ sight_of (joined_view view (world.ranges range.0)).seen

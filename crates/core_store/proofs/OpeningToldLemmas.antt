@@ -1,15 +1,15 @@
 -- Of a history that a range can have, what a recovery is told by the lock is what the core lets it be told.
 use Rattle.std.proofs.lemmas.Bool.{ltb-true}
-use Rattle.std.proofs.lemmas.Option.{same_Some}
-use Rattle.std.proofs.Common.{◌≡◌, ◌∙◌, ℕ, ◌+◌, ◌<◌, ◌≤◌, nat_lt, zero, suc, Bool, true, false, cond, ◌||◌, Option}
+use Rattle.std.proofs.Common.{◌≡◌, ◌∙◌, ℕ, ◌+◌, ◌<◌, ◌≤◌, nat_lt, zero, suc, Bool, true, false, cond, Option}
 use Rattle.std.proofs.Common.{Some, None, List, [], ◌∷◌, ◌++◌, take, length, length-append, refl, sym, ap, subst, arith}
 use Rattle.std.proofs.Common.{append_assoc}
-use Rattle.std.specs.Prelude.{Contains, filter, slice_get}
+use Rattle.std.specs.Prelude.{filter, slice_get}
 use Rattle.std.specs.List.{list_any}
+use Rattle.write_core.proofs.FirstOnLemmas.{first_on, none_on, placed_on}
 use Rattle.std.proofs.lemmas.Bool.Decides.{nat_tests}
 use Rattle.mon_topo.proofs.FirstLemmas as begun
 use Rattle.mon_topo.proofs.HeldLemmas.{seen_within_through}
-use Rattle.mon_topo.proofs.RangeHistoryLemmas.{not_missed, serving-push}
+use Rattle.mon_topo.proofs.RangeHistoryLemmas.{not_missed, not_slot, serving-push, serving-retired, serving-trimmed}
 use Rattle.mon_topo.specs.HeldHistories.{first_histories, AreWithin}
 use Rattle.mon_topo.specs.RangeHistories as range_spec
 use Rattle.mon_topo.specs.RangeHistories.{IsInZoneOf, is_on, opened_slots, serving}
@@ -20,76 +20,20 @@ use Rattle.mon_topo.specs.declared.limits.TheConstants.{MOST_REPLICAS, MOST_SLOT
 use Rattle.mon_topo.specs.declared.zones.ZoneSpec.{ZoneSpec}
 use Rattle.mon_schema.specs.Names.{SchemaLists}
 use Rattle.mon_value.specs.Histories.{range_history}
-use Rattle.mon_value.specs.declared.histories.Ack.{Ack}
 use Rattle.mon_value.specs.declared.histories.Histories.{Histories}
 use Rattle.mon_value.specs.declared.histories.RangeEntry.{RangeEntry}
 use Rattle.mon_value.specs.declared.histories.RangeEntry.TheVariants as range_entry
-use Rattle.mon_value.specs.declared.positions.Leaf.{Leaf}
 use Rattle.mon_value.specs.declared.positions.Range.{Range}
 use Rattle.mon_value.specs.declared.positions.SlotLeaf.{SlotLeaf}
 use Rattle.core_store.specs.RecoveryEvents.{opening_told, told_by_denial}
 use Rattle.write_core.proofs.CopyAnswers.{may_open}
-use Rattle.write_core.proofs.OpeningLemmas.{opened-acked, opened-opened, serving-opened}
+use Rattle.write_core.proofs.OpeningLemmas.{opened-acked, opened-opened, opened-retired, opened-trimmed, serving-opened}
 use Rattle.mon_topo.proofs.FirstLemmas.{opened_count}
 use Rattle.mon_value.proofs.PlainLemmas.{filter-few, at_least}
 use Rattle.write_core.specs.CopySteps.{IsToldOfRange}
 use Rattle.write_core.specs.Recovering.{denied_by}
 use Rattle.write_core.specs.declared.copies.Denial.TheVariants.{ServesFully, SlotsSpent}
 use Rattle.write_core.specs.World.{Recovery}
-
--- ---- the first replica that serves on a leaf
-
--- one that serves, and is on the leaf
-record IsFirstOn (leaf : Leaf) (replicas : List SlotLeaf) (replica : SlotLeaf) : Type 0 where
-  pub there : Contains replicas replica
-  pub on : is_on leaf replica ≡ true
-
-first_on : (leaf : Leaf) (replicas : List SlotLeaf) (replica : SlotLeaf)
-    → slice_get (filter (is_on leaf) replicas) 0 ≡ Some replica → IsFirstOn leaf replicas replica
-first_on leaf [] replica e = absurd cc
-first_on leaf (one ∷ replicas) replica e = by (λ k. first_on leaf replicas replica k) (is_on leaf one) refl e
-  where
-    behind : IsFirstOn leaf replicas replica → IsFirstOn leaf (one ∷ replicas) replica
-    behind h = record {
-      there = (suc h.there.0, (let l : h.there.0 < length replicas = h.there.1 in omega arith), h.there.2);
-      on = h.on;
-    }
-
-    by : (slice_get (filter (is_on leaf) replicas) 0 ≡ Some replica → IsFirstOn leaf replicas replica) → (b : Bool)
-        → is_on leaf one ≡ b
-        → slice_get (cond b (one ∷ filter (is_on leaf) replicas) (filter (is_on leaf) replicas)) 0 ≡ Some replica
-        → IsFirstOn leaf (one ∷ replicas) replica
-    by rest true is e =
-        let same : one ≡ replica = same_Some one replica e in
-        record {
-          there = (zero, omega arith, same);
-          on = ap (λ (x : SlotLeaf). is_on leaf x) (sym same) ∙ is;
-        }
-    by rest false is e = behind (rest e)
-
-none_on : (leaf : Leaf) (replicas : List SlotLeaf) → slice_get (filter (is_on leaf) replicas) 0 ≡ None
-    → list_any (is_on leaf) replicas ≡ false
-none_on leaf [] e = refl
-none_on leaf (one ∷ replicas) e = by (λ k. none_on leaf replicas k) (is_on leaf one) refl e
-  where
-    by : (slice_get (filter (is_on leaf) replicas) 0 ≡ None → list_any (is_on leaf) replicas ≡ false) → (b : Bool)
-        → is_on leaf one ≡ b
-        → slice_get (cond b (one ∷ filter (is_on leaf) replicas) (filter (is_on leaf) replicas)) 0 ≡ None
-        → (is_on leaf one || list_any (is_on leaf) replicas) ≡ false
-    by rest true is e = absurd cc
-    by rest false is e = ap (λ (b : Bool). b || list_any (is_on leaf) replicas) is ∙ rest e
-
-on_leaf : (leaf : Leaf) (replica : SlotLeaf) → is_on leaf replica ≡ true → replica.leaf.0 ≡ leaf.0
-on_leaf leaf replica is = grind (arith, nat_tests)
-
-abbrev leaf_of : ℕ → Leaf
-leaf_of n = record { 0 = n }
-
-placed_on : (leaf : Leaf) (replicas : List SlotLeaf) (replica : SlotLeaf) → IsFirstOn leaf replicas replica
-    → Contains replicas (record { slot = replica.slot; leaf = leaf })
-placed_on leaf replicas replica h =
-    let same : replica.leaf ≡ leaf = ap leaf_of (on_leaf leaf replica h.on) in
-    subst (λ (l : Leaf). Contains replicas (record { slot = replica.slot; leaf = l })) same h.there
 
 -- ---- how many serve and were opened
 
@@ -132,12 +76,13 @@ module _ (held : SchemaLists) (zones : List ZoneSpec) (points : ℕ) (range : Ra
           let few = (may.2.1 at_least).few in
           omega (arith, few, grown)
 
-  few_acked : (before : List RangeEntry) (e : RangeEntry) (ack : Ack)
-      → serving (before ++ e ∷ []) ≡ filter (not_missed ack) (serving before)
+  -- an entry that opens none, behind which some serve no longer
+  few_fewer : (before : List RangeEntry) (e : RangeEntry) (test : SlotLeaf → Bool)
+      → serving (before ++ e ∷ []) ≡ filter test (serving before)
       → opened_slots (before ++ e ∷ []) ≡ opened_slots before → AreFew before → AreFew (before ++ e ∷ [])
-  few_acked before e ack serves opens h =
-      let fewer : length (filter (not_missed ack) (serving before)) ≤ length (serving before)
-      = filter-few (not_missed ack) (serving before) in
+  few_fewer before e test serves opens h =
+      let fewer : length (filter test (serving before)) ≤ length (serving before)
+      = filter-few test (serving before) in
       let serve = ap (λ (xs : List SlotLeaf). length xs) serves in
       let opened = ap (λ (xs : List SlotLeaf). length xs) opens in
       record {
@@ -162,7 +107,19 @@ module _ (held : SchemaLists) (zones : List ZoneSpec) (points : ℕ) (range : Ra
       let e = range_entry.Acked pass row ack in
       subst AreFew (append_assoc before (e ∷ []) history)
       (few_on (before ++ e ∷ []) history
-      (few_acked before e ack (serving-push before pass row ack) (opened-acked before pass row ack) h) goes.1)
+      (few_fewer before e (not_missed ack) (serving-push before pass row ack) (opened-acked before pass row ack) h)
+      goes.1)
+  few_on before (range_entry.Trimmed pass bound ack ∷ history) h goes =
+      let e = range_entry.Trimmed pass bound ack in
+      subst AreFew (append_assoc before (e ∷ []) history)
+      (few_on (before ++ e ∷ []) history
+      (few_fewer before e (not_missed ack) (serving-trimmed before pass bound ack) (opened-trimmed before pass bound ack)
+      h) goes.1)
+  few_on before (range_entry.Retired pass slot ∷ history) h goes =
+      let e = range_entry.Retired pass slot in
+      subst AreFew (append_assoc before (e ∷ []) history)
+      (few_on (before ++ e ∷ []) history
+      (few_fewer before e (not_slot slot) (serving-retired before pass slot) (opened-retired before pass slot) h) goes.1)
 
   few_legal : (history : List RangeEntry) → range_spec.IsLegal held zones points range history → AreFew history
   few_legal history legal =
@@ -215,6 +172,8 @@ opened_front zero history = omega arith
 opened_front (suc n) [] = omega arith
 opened_front (suc n) (range_entry.Opened pass slot leaf ∷ history) = let h = opened_front n history in omega (arith, h)
 opened_front (suc n) (range_entry.Acked pass row ack ∷ history) = opened_front n history
+opened_front (suc n) (range_entry.Trimmed pass before ack ∷ history) = opened_front n history
+opened_front (suc n) (range_entry.Retired pass slot ∷ history) = opened_front n history
 
 firsts_opened : (zones : List ZoneSpec) (range : Range) (seen truth : Histories)
     → range.0 < length (ranges_in zones) → AreWithin (first_histories zones) seen → AreWithin seen truth

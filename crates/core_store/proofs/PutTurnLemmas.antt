@@ -1,13 +1,12 @@
--- A write's turn inside a leaf: its row is put.
+-- A write's turn inside a leaf: what it brings comes to a replica.
 use Rattle.std.proofs.Common.{◌≡◌, ℕ, ◌+◌, ◌<◌, None, List, [], ◌∷◌, ◌++◌, length, refl, sym, ap, subst, ◌∙◌}
 use Rattle.std.proofs.Common.{length-append}
 use Rattle.mon_config.specs.declared.config.Config.{Config}
 use Rattle.mon_topo.proofs.HeldLemmas.{leaf_entry_other, leaf_entry_same}
 use Rattle.mon_value.specs.Histories.{leaf_history, leaf_numbered}
 use Rattle.mon_topo.specs.Settings.{Setting}
-use Rattle.mon_value.specs.LeafHistories.{IsWellFormed}
+use Rattle.mon_value.specs.LeafHistories.{IsWellFormed, turn_entry}
 use Rattle.mon_value.specs.declared.histories.Entry.{Entry}
-use Rattle.mon_value.specs.declared.histories.Entry.TheVariants as entry
 use Rattle.mon_value.specs.declared.positions.Leaf.{Leaf}
 use Rattle.mon_value.specs.declared.positions.Slot.{Slot}
 use Rattle.core_store.proofs.AtWorkLemmas.{IsGoingOn, StandsBefore, below_entering, going_entering, leaf_in_truth}
@@ -22,7 +21,7 @@ use Rattle.mon_topo.specs.Sights.{sight_of, with_leaf_sight}
 use Rattle.core_store.specs.Agreements.{store_of}
 use Rattle.core_store.specs.WriteEvents.{ChangesLeaf, Puts}
 use Rattle.core_store.specs.WriteTurns.{IsAtWork, WriteWent}
-use Rattle.core_store.specs.Writers.{writer_of}
+use Rattle.core_store.specs.Writers.{change_turn, writer_of}
 use Rattle.core_store.specs.declared.leaves.LeafSeat.{LeafSeat}
 use Rattle.mon_topo.specs.declared.sights.Sight.{Sight}
 use Rattle.core_store.specs.declared.store.Store.{Store}
@@ -64,10 +63,10 @@ module _ (config : Config) (world : World) (i : ℕ) (store : Store) (writing : 
   last = put_of writer mark
 
   abbrev pub last_kept : Entry
-  last_kept = entry.Put writing.number writing.range mark.slot writing.row
+  last_kept = turn_entry writing.number writing.range mark.slot (change_turn writing.change)
 
   last_is : last_kept ≡ last
-  last_is = ap (λ (n : ℕ). entry.Put n writing.range mark.slot writing.row) work.writer.number
+  last_is = ap (λ (n : ℕ). turn_entry n writing.range mark.slot (change_turn writing.change)) work.writer.number
 
   abbrev then' : World
   then' = at_leaf world i view mark.leaf (with_entry mark.leaf last) None (writes_on writer stage)
@@ -162,10 +161,10 @@ module _ (config : Config) (world : World) (i : ℕ) (store : Store) (writing : 
     (work : IsAtWork config world i store writing sight) (slot : Slot) (leaf : Leaf)
     (at : StandsBefore (λ round. Inside round [] []) writing.machine.stage slot leaf) (seat : LeafSeat) where
   pub follows : IsLeafSo config world leaf seat
-      → IsWellFormed (seat.state.history ++ entry.Put writing.number writing.range slot writing.row ∷ [])
+      → IsWellFormed (seat.state.history ++ turn_entry writing.number writing.range slot (change_turn writing.change) ∷ [])
   follows so =
-      subst (λ (s : Slot). IsWellFormed (seat.state.history ++ entry.Put writing.number writing.range s writing.row
-      ∷ []))
+      subst (λ (s : Slot). IsWellFormed (seat.state.history
+      ++ turn_entry writing.number writing.range s (change_turn writing.change) ∷ []))
       at.slot_is
       (put_follows config world i store writing sight work at.done at.left at.mark at.is seat
       (subst (λ (l : Leaf). IsLeafSo config world l seat) (sym at.leaf_is) so))

@@ -26,7 +26,7 @@ use Rattle.mon_topo.specs.Sights.{sight_of}
 use Rattle.core_store.specs.Agreements.{store_of}
 use Rattle.core_store.specs.WriteEvents.{RaisesBit, RaisesWord}
 use Rattle.core_store.specs.WriteTurns.{IsAtWork, WriteWent}
-use Rattle.core_store.specs.Writers.{IsWriterSo, RaisesBelow, writer_of}
+use Rattle.core_store.specs.Writers.{IsWriterSo, RaisesBelow, change_turn, writer_of}
 use Rattle.core_store.specs.declared.leaves.LeafSeat.{LeafSeat}
 use Rattle.mon_topo.specs.declared.sights.Sight.{Sight}
 use Rattle.mon_topo.proofs.LawfulLemmas.{few}
@@ -38,6 +38,7 @@ use Rattle.write_core.proofs.KeepsLemmas.{changed_same}
 use Rattle.write_core.specs.Invariant.{IsAt, IsInside}
 use Rattle.write_core.specs.Program.{Inside, Stage, after}
 use Rattle.write_core.specs.Rounds.{Round}
+use Rattle.write_core.specs.Steps.{turn_buckets}
 use Rattle.mon_topo.specs.Views.{View, joined_view, with_root_bit, with_zone_bit}
 use Rattle.write_core.specs.World.{World, Writer, at_leaf, view_of, writes_on}
 use Rattle.write_core.specs.declared.asks.WriteTold.TheVariants as told
@@ -194,7 +195,7 @@ module _ (config : Config) (world : World) (i : ℕ) (store : Store) (writing : 
       = (own config world i store writing sight work).at in
       subst (λ (s : Stage). IsAt setting world i writer s) at own_at
 
-  pub inside_is : IsInside setting world i view mark.leaf (setting.buckets_of writing.row.key) at_root in_zone
+  pub inside_is : IsInside setting world i view mark.leaf (turn_buckets setting (change_turn writing.change)) at_root in_zone
   inside_is = here.1
 
   pub inside_there : mark.leaf.0 < length world.truth.seen.leaves

@@ -5,8 +5,7 @@ use Rattle.std.specs.Prelude.{slice_get}
 use Rattle.std.proofs.lemmas.Option.{same_Some, slice_get_read}
 use Rattle.mon_config.specs.declared.config.Config.{Config}
 use Rattle.mon_topo.specs.Settings.{zone_of_leaf}
-use Rattle.mon_value.specs.LeafHistories.{IsWellFormed}
-use Rattle.mon_value.specs.declared.histories.Entry.TheVariants as entry
+use Rattle.mon_value.specs.LeafHistories.{IsWellFormed, turn_entry}
 use Rattle.mon_value.specs.declared.positions.Leaf.{Leaf}
 use Rattle.mon_value.specs.declared.positions.Range.{Range}
 use Rattle.mon_value.specs.declared.positions.Slot.{Slot}
@@ -28,7 +27,7 @@ use Rattle.core_store.specs.Agreements.{store_of}
 use Rattle.core_store.specs.WriteEvents.{ChangesLeaf, ChangesRange, EntersIf, LetsGo, LocksIf, Puts, RaisesBit}
 use Rattle.core_store.specs.WriteEvents.{RaisesWord, ReservesIf}
 use Rattle.core_store.specs.WriteTurns.{IsAtWork, IsInSomeWorld, WentSo, WriteEnded, WriteWent, WritesSo, turn_of}
-use Rattle.core_store.specs.Writers.{writer_of}
+use Rattle.core_store.specs.Writers.{IsKeyed, change_turn, writer_of}
 use Rattle.core_store.specs.declared.leaves.LeafSeat.{LeafSeat}
 use Rattle.core_store.specs.declared.ranges.RangeSeat.{RangeSeat}
 use Rattle.mon_topo.specs.declared.sights.Sight.{Sight}
@@ -169,7 +168,7 @@ module _ (config : Config) (world : World) (i : ℕ) (store : Store) (writing : 
       → (seat : RangeSeat) → slice_get store.ranges.items writing.range.0 ≡ Some seat
       → (new : Store) (other : RangeSeat)
       (now : Sight) → ChangesRange writing.range other store new
-      → LetsGo end writing.number writing.row writing.range seat other sight now
+      → LetsGo end writing.number (change_turn writing.change) writing.range seat other sight now
       → WriteEnded config world i new writing now writing.range end
   acknowledge_returns e range stage end ranges stages ends seat got new other now changes goes =
       let at : (verdict : Verdict) × (writing.machine.stage ≡ Acking verdict) = at_ask ask.Ack e in
@@ -187,7 +186,7 @@ module _ (config : Config) (world : World) (i : ℕ) (store : Store) (writing : 
   pub put_follows_so : (slot : Slot) (leaf : Leaf) → ask_of writing.machine.stage ≡ ask.Put slot leaf
       → (seat : LeafSeat)
       → slice_get store.leaves.items leaf.0 ≡ Some seat
-      → IsWellFormed (seat.state.history ++ entry.Put writing.number writing.range slot writing.row ∷ [])
+      → IsWellFormed (seat.state.history ++ turn_entry writing.number writing.range slot (change_turn writing.change) ∷ [])
   put_follows_so slot leaf e seat got =
       follows config world i store writing sight work slot leaf (at_ask (ask.Put slot leaf) e) seat
       (leaf_so leaf seat got)
@@ -348,7 +347,7 @@ module _ (store : Store) (writing : Writing) (sight : Sight) (some : IsInSomeWor
   pub putting_follows : (slot : Slot) (leaf : Leaf) → ask_of writing.machine.stage ≡ ask.Put slot leaf
       → (seat : LeafSeat)
       → slice_get store.leaves.items leaf.0 ≡ Some seat
-      → IsWellFormed (seat.state.history ++ entry.Put writing.number writing.range slot writing.row ∷ [])
+      → IsWellFormed (seat.state.history ++ turn_entry writing.number writing.range slot (change_turn writing.change) ∷ [])
   putting_follows slot leaf e seat got =
       put_follows_so some.config some.world some.i store writing sight some.at_work slot leaf e seat got
 
@@ -356,7 +355,7 @@ module _ (store : Store) (writing : Writing) (sight : Sight) (some : IsInSomeWor
       → slice_get store.ranges.items writing.range.0 ≡ Some seat → HasAckRoom seat.state
   acking_room = room_so some.config some.world some.i store writing sight some.at_work
 
-  pub own_key : writing.key ≡ writing.row.key
+  pub own_key : IsKeyed writing.change
   own_key = some.at_work.writer.key
 
   -- where a bit is set

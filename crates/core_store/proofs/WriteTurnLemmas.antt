@@ -3,9 +3,8 @@ use Rattle.std.proofs.Common.{◌≡◌, ℕ, true, Option, Some, None, refl, sy
 use Rattle.std.specs.Prelude.{◌≢◌, is_some}
 use Rattle.mon_config.specs.declared.config.Config.{Config}
 use Rattle.mon_value.specs.declared.positions.Leaf.{Leaf}
-use Rattle.mon_value.specs.declared.rows.Row.{Row}
 use Rattle.core_store.proofs.AtWorkLemmas.{looks_after}
-use Rattle.core_store.specs.Writers.{IsWriterSo, LooksAtOne, RaisesBelow, writer_of}
+use Rattle.core_store.specs.Writers.{IsKeyed, IsWriterSo, LooksAtOne, RaisesBelow, change_turn, writer_of}
 use Rattle.core_store.specs.Agreements.{AreShared}
 use Rattle.core_store.specs.Holders.{HoldsLeaf, HoldsRange, leaf_inside}
 use Rattle.mon_topo.specs.Sights.{sight_of}
@@ -61,10 +60,10 @@ module _ (config : Config) (world : World) (i : ℕ) (store : Store) (writing : 
       let view_is : view_of doer ≡ seen = ap view_of doer_is in
       record {
         number = told.number ∙ work.writer.number;
-        key = told.key ∙ work.writer.key ∙ ap (λ (row : Row). row.key) (sym told.row);
+        key = subst IsKeyed (sym told.change) work.writer.key;
         writer = doer_is ∙ (λ k. Writes (record {
           pass = i;
-          row = sym told.row k;
+          turn = change_turn (sym told.change k);
           range = sym told.range k;
           stage = sym goes k;
           view = sym view_is k;

@@ -8,6 +8,7 @@ pub mod Openings
 pub mod Recoverers
 pub mod RecoverTurns
 pub mod RecoveryEvents
+pub mod Retirements
 pub mod Switches
 pub mod WriteEvents
 pub mod Writers

@@ -1,18 +1,18 @@
 -- What an event of a write does to the seat that it needs, to the write, and to how far this has seen.
 use Rattle.std.specs.Prelude.{ℕ, ◌≡◌, Bool, true, false, is_some, List, [], ◌∷◌, ◌++◌, length, Option, Some, None}
 use Rattle.std.specs.Prelude.{set, if◌then◌else◌}
-use Rattle.leaf_store.specs.LeafStates.{AreToRaise}
-use Rattle.mon_value.specs.LeafHistories.{is_down}
+use Rattle.leaf_store.specs.LeafStates.{AreToRaise, LeafView}
+use Rattle.mon_topo.specs.RangeHistories.{serving, turn_ack}
+use Rattle.mon_value.specs.LeafHistories.{is_down, turn_entry}
+use Rattle.mon_value.specs.Turns.{Turn, Adds, Hides}
 use Rattle.mon_value.specs.declared.histories.Entry.{Entry}
-use Rattle.mon_value.specs.declared.histories.Entry.TheVariants as entry
 use Rattle.mon_value.specs.declared.histories.RangeEntry.{RangeEntry}
-use Rattle.mon_value.specs.declared.histories.RangeEntry.TheVariants as range_entry
 use Rattle.mon_value.specs.declared.positions.Leaf.{Leaf}
 use Rattle.mon_value.specs.declared.positions.Range.{Range}
 use Rattle.mon_value.specs.declared.positions.Slot.{Slot}
-use Rattle.mon_value.specs.declared.rows.Row.{Row}
 use Rattle.core_store.specs.HintWords.{with_child_bit}
 use Rattle.core_store.specs.Meetings.{sight_at_leaf, sight_at_range}
+use Rattle.core_store.specs.Writers.{change_turn}
 use Rattle.core_store.specs.declared.leaves.LeafSeat.{LeafSeat}
 use Rattle.core_store.specs.declared.ranges.RangeSeat.{RangeSeat}
 use Rattle.mon_topo.specs.declared.sights.Sight.{Sight}
@@ -32,8 +32,7 @@ use Rattle.write_core.specs.declared.asks.WriteTold.TheVariants as told
 -- it goes on by the answer, inside of this leaf or of none
 pub record IsToldSo (answer : WriteTold) (inside : Option Leaf) (old new : Writing) : Type 0 where
   pub number : new.number ≡ old.number
-  pub row : new.row ≡ old.row
-  pub key : new.key ≡ old.key
+  pub change : new.change ≡ old.change
   pub range : new.range ≡ old.range
   pub machine_range : new.machine.range ≡ old.machine.range
   pub stage : new.machine.stage ≡ after old.machine.stage answer
@@ -49,7 +48,12 @@ pub record IsHeldUp {Seat : Type 0} (holder : Option ℕ) (old new : Seat) (befo
 
 -- ---- at a range
 
--- it takes the lock, room is made for its acknowledgement, and it is told whether its row goes in
+-- what it is told there: a row goes in where the range takes it, and a trim always does
+abbrev pub turn_answer : ℕ → List RangeEntry → Turn → WriteTold
+turn_answer limit history (Adds row) = lock_answer limit history row
+turn_answer limit history (Hides before) = told.Slots (serving history)
+
+-- it takes the lock, room is made for its acknowledgement, and it is told whether its turn goes in
 pub record Locks (limit : ℕ) (old new : RangeSeat) (before after : Writing) (sight sight_after : Sight) : Type 0 where
   pub free : old.holder ≡ None
   pub history : new.state.history ≡ old.state.history
@@ -57,23 +61,23 @@ pub record Locks (limit : ℕ) (old new : RangeSeat) (before after : Writing) (s
   pub holder : new.holder ≡ Some before.number
   pub sight_there : new.sight ≡ sight_after
   pub seen : sight_after ≡ sight_at_range before.range old.state.history sight old.sight
-  pub told_so : IsToldSo (lock_answer limit old.state.history before.row) before.inside before after
+  pub told_so : IsToldSo (turn_answer limit old.state.history (change_turn before.change)) before.inside before after
 
 abbrev pub LocksIf : ℕ → RangeSeat → RangeSeat → Writing → Writing → Sight → Sight → Bool → Type 0
 LocksIf limit old new before after sight sight_after true = Locks limit old new before after sight sight_after
 LocksIf limit old new before after sight sight_after false = IsHeldUp old.holder old new before after sight sight_after
 
 -- what an end appends to a range's history
-abbrev pub with_end_entry : List RangeEntry → ℕ → Row → WriteEnd → List RangeEntry
-with_end_entry history number row (end.Written ack) = history ++ range_entry.Acked number row ack ∷ []
-with_end_entry history number row (end.OldPoint last) = history
-with_end_entry history number row (end.RangeFull count) = history
-with_end_entry history number row (end.Unavailable founds) = history
+abbrev pub with_end_entry : List RangeEntry → ℕ → Turn → WriteEnd → List RangeEntry
+with_end_entry history number turn (end.Written ack) = history ++ turn_ack number turn ack ∷ []
+with_end_entry history number turn (end.OldPoint last) = history
+with_end_entry history number turn (end.RangeFull count) = history
+with_end_entry history number turn (end.Unavailable founds) = history
 
 -- it lets go of the range
-pub record LetsGo (end : WriteEnd) (number : ℕ) (row : Row) (range : Range) (old new : RangeSeat)
+pub record LetsGo (end : WriteEnd) (number : ℕ) (turn : Turn) (range : Range) (old new : RangeSeat)
     (sight sight_after : Sight) : Type 0 where
-  pub history : new.state.history ≡ with_end_entry old.state.history number row end
+  pub history : new.state.history ≡ with_end_entry old.state.history number turn end
   pub holder : new.holder ≡ None
   pub sight_there : new.sight ≡ sight_after
   pub seen : sight_after ≡ sight_at_range range new.state.history sight old.sight
@@ -108,6 +112,11 @@ ReservesIf leaf old new before after sight sight_after true = Reserves leaf old 
 ReservesIf leaf old new before after sight sight_after false = IsHeldUp old.holder old new before after sight
     sight_after
 
+-- the buckets that a turn needs there, which are still to be raised: a trim needs none
+abbrev pub AreTurnsToRaise : LeafView → Turn → List ℕ → Type 0
+AreTurnsToRaise leaf (Adds row) buckets = AreToRaise leaf row.key buckets
+AreTurnsToRaise leaf (Hides before) buckets = buckets ≡ []
+
 -- it takes the leaf's lock where the leaf is up
 pub record Enters (leaf : Leaf) (old new : LeafSeat) (before after : Writing) (sight sight_after : Sight) : Type 0 where
   pub free : old.holder ≡ None
@@ -115,7 +124,7 @@ pub record Enters (leaf : Leaf) (old new : LeafSeat) (before after : Writing) (s
   pub history : new.state.history ≡ old.state.history
   pub seen : sight_after ≡ sight_at_leaf leaf old.state.history sight old.sight
   pub buckets : List ℕ
-  pub to_raise : is_down old.state.history ≡ false → AreToRaise old.state before.row.key buckets
+  pub to_raise : is_down old.state.history ≡ false → AreTurnsToRaise old.state (change_turn before.change) buckets
   pub holder : new.holder ≡ (if is_down old.state.history then None else Some before.number)
   pub told_so : IsToldSo (up_or_down old.state.history buckets)
       (if is_down old.state.history then before.inside else Some leaf) before after
@@ -133,11 +142,12 @@ pub record RaisesBit (leaf : Leaf) (old new : LeafSeat) (before after : Writing)
     pub seen : sight_after ≡ sight_at_leaf leaf old.state.history sight old.sight
     pub told_so : IsToldSo told.Done before.inside before after
 
--- its row is put, and it lets go of the leaf
+-- its turn comes to a replica, and it lets go of the leaf
 pub record Puts (slot : Slot) (leaf : Leaf) (old new : LeafSeat) (before after : Writing) (sight sight_after : Sight)
     : Type 0 where
   pub stays : StaysThere old new sight_after
-  pub history : new.state.history ≡ old.state.history ++ entry.Put before.number before.range slot before.row ∷ []
+  pub history : new.state.history
+      ≡ old.state.history ++ turn_entry before.number before.range slot (change_turn before.change) ∷ []
   pub holder : new.holder ≡ None
   pub seen : sight_after ≡ sight_at_leaf leaf new.state.history sight old.sight
   pub told_so : IsToldSo told.Done None before after

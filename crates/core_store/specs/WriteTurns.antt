@@ -2,7 +2,7 @@
 use Rattle.std.specs.Prelude.{ℕ, ◌≡◌, ◌≢◌, Bool, true, false, Some, if◌then◌else◌}
 use Rattle.mon_config.specs.declared.config.Config.{Config}
 use Rattle.mon_value.specs.declared.positions.Range.{Range}
-use Rattle.core_store.specs.Writers.{IsWriterSo}
+use Rattle.core_store.specs.Writers.{IsWriterSo, change_turn}
 use Rattle.core_store.specs.Agreements.{AreShared}
 use Rattle.core_store.specs.Holders.{AreHolders}
 use Rattle.mon_topo.specs.Sights.{sight_of}
@@ -45,7 +45,7 @@ pub record IsInSomeWorld (store : Store) (writing : Writing) (sight : Sight) : T
 -- a write that has ended
 abbrev pub ended_write : ℕ → Writing → Verdict → View → Writer
 ended_write i writing verdict view =
-    record { pass = i; row = writing.row; range = writing.range; stage = Ended verdict; view = view }
+    record { pass = i; turn = change_turn writing.change; range = writing.range; stage = Ended verdict; view = view }
 
 module _ (config : Config) (world : World) (i : ℕ) where
   abbrev pub world_after_step : WriteTold → World

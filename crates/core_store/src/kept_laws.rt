@@ -14,8 +14,8 @@ ghost use Rattle.mon_value.specs.LeafHistories.{leaf_rows};
 ghost use Rattle.mon_value.specs.declared.histories.RangeEntry.{RangeEntry};
 ghost use Rattle.mon_value.specs.declared.positions.Leaf.{Leaf as LeafNumber};
 ghost use Rattle.mon_value.specs.declared.positions.Range.{Range as RangeNumber};
-ghost use Rattle.mon_value.specs.declared.rows.Row.{Row as RowOf};
-ghost use Rattle.write_core.specs.RangeAnswers.{lock_answer};
+ghost use Rattle.mon_value.specs.Turns.{Turn};
+ghost use Rattle.core_store.specs.WriteEvents.{turn_answer};
 ghost use Rattle.write_core.specs.Steps.{IsToldByRange};
 
 /// Setting the bit of a child in a word sets that bit and no other.
@@ -34,10 +34,11 @@ pub fn stores_begin_held()
         → leaf_rows (leaf_history (first_histories zones) leaf) ≡ [] }
 {}
 
-/// Of a history that a range can have, what a write is told by the lock is what it may be told: that its row is old,
-/// that the range is full, or the replicas that serve, and then its row can be acknowledged next.
+/// Of a history that a range can have, what a write or a trim is told by the lock is what it may be told: that its row
+/// is old, that the range is full, or the replicas that serve, and then its row can be acknowledged next. A trim is told
+/// the replicas that serve.
 pub fn locks_tell_the_truth()
-    ensures told { (store : Setting) (range : RangeNumber) (history : List RangeEntry) (row : RowOf)
+    ensures told { (store : Setting) (range : RangeNumber) (history : List RangeEntry) (turn : Turn)
         → IsLegal store.held store.zones store.points range history
-        → IsToldByRange store history row (lock_answer store.points history row) }
+        → IsToldByRange store history turn (turn_answer store.points history turn) }
 {}

@@ -1,5 +1,5 @@
-//! What a core keeps of its hint words, leaves and ranges, and what the events of its writes, recoveries and switches do
-//! there, one at a time and in any order.
+//! What a core keeps of its hint words, leaves and ranges, and what the events of its writes, trims, recoveries,
+//! retirements and switches do there, one at a time and in any order.
 #![tactic(auto)]
 
 mod kept_laws;
@@ -8,6 +8,7 @@ mod meeting_laws;
 mod ranges;
 mod recoveries;
 mod recovery_events;
+mod retirements;
 mod store;
 mod switches;
 mod words;
@@ -19,7 +20,8 @@ pub use leaves::LeafSeat;
 pub use meeting_laws::meetings_see_as_far_as_views;
 pub use ranges::RangeSeat;
 pub use recoveries::{RecoverTurn, Recovering};
+pub use retirements::Retiring;
 pub use store::Store;
 pub use switches::{Switched, Switching};
 pub use words::HintWords;
-pub use writes::{WriteTurn, Writing};
+pub use writes::{Change, WriteTurn, Writing};

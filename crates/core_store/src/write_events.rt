@@ -1,21 +1,26 @@
 // The events of a write, each at the seat that it needs.
-ghost use Rattle.std.specs.Prelude.{◌≡◌, ◌<◌, ◌≤◌, ◌++◌, ◌∷◌, [], length, IfOk, OnOk};
-ghost use Rattle.mon_value.specs.LeafHistories.{IsWellFormed};
+ghost use Rattle.std.specs.Prelude.{◌≡◌, ◌<◌, ◌≤◌, ◌++◌, ◌∷◌, [], false, length, IfOk, OnOk};
+ghost use Rattle.mon_value.specs.LeafHistories.{IsWellFormed, is_switch};
+ghost use Rattle.mon_topo.specs.RangeHistories.{turn_ack};
 ghost use Rattle.mon_topo.specs.Sights.{AreAlike};
-ghost use Rattle.core_store.specs.WriteEvents.{EntersIf, LetsGo, LocksIf, Puts, RaisesBit, ReservesIf};
+ghost use Rattle.mon_value.specs.LeafHistories.{turn_entry};
+ghost use Rattle.core_store.specs.WriteEvents.{AreTurnsToRaise, EntersIf, LetsGo, LocksIf, Puts, RaisesBit};
+ghost use Rattle.core_store.specs.WriteEvents.{ReservesIf, turn_answer};
+ghost use Rattle.core_store.specs.Writers.{IsKeyed, change_turn};
 ghost use Rattle.write_core.specs.Replays.{HasAckRoom};
 
 use crate::leaves::LeafSeat;
 use crate::ranges::RangeSeat;
-use crate::writes::Writing;
+use crate::writes::{Change, Writing};
+use leaf_store::LeafState;
 use mon_hints::Buckets;
 use mon_topo::Sight;
-use mon_value::{Entry, Leaf, OutOfMemory, Range, Row, SeriesKey, Shared, Slot, TryCopy};
+use mon_value::{Ack, Entry, Leaf, OutOfMemory, Range, Slot, TryCopy};
 use std::alloc::Global;
-use write_core::{WriteEnd, WriteTold};
+use write_core::{RangeReplay, WriteEnd, WriteTold};
 
-/// A write takes its range's lock, room is made for its acknowledgement, and it is told whether its row goes in, of a
-/// range that holds so many at most.
+/// A write takes its range's lock, room is made for its acknowledgement, and it is told whether what it brings goes in,
+/// of a range that holds so many rows at most.
 pub(crate) fn lock(
     seat: &mut RangeSeat,
     limit: u64,
@@ -30,14 +35,24 @@ pub(crate) fn lock(
         return Ok(false);
     }
     seat.state.reserve()?;
-    let told = seat.state.answer(&writing.row, limit)?;
+    let told = answer(&seat.state, &writing.change, limit)?;
     writing.machine.told(told)?;
     seat.holder = Some(writing.number);
     seat.meet(writing.range, sight);
     Ok(true)
 }
 
-/// A write asks a leaf for room. That is made once the row is put, so a write leaves none behind.
+// What a write is told that takes the lock, of a range that holds so many rows at most: a trim always goes in.
+fn answer(state: &RangeReplay, change: &Change, limit: u64) -> Result<WriteTold, OutOfMemory>
+    ensures told { IfOk result (λ told. told ≡ turn_answer limit state.now.history (change_turn change.now)) }
+{
+    match change {
+        Change::Adds(row, _) => state.answer(row, limit),
+        Change::Hides(_) => Ok(WriteTold::Slots(state.serving()?)),
+    }
+}
+
+/// A write asks a leaf for room. That is made once its entry is put, so a write leaves none behind.
 pub(crate) fn reserve(
     alloc: Global,
     seat: &mut LeafSeat,
@@ -79,13 +94,23 @@ pub(crate) fn enter(
     if seat.state.down() {
         writing.machine.told(WriteTold::Down(seat.state.length()))?;
     } else {
-        let buckets = seat.state.unraised(alloc, &writing.row.key)?;
+        let buckets = unraised(alloc, &seat.state, &writing.change)?;
         writing.machine.told(WriteTold::Up(buckets))?;
         writing.inside = Some(leaf);
         seat.holder = Some(writing.number);
     }
     seat.meet(leaf, sight);
     Ok(true)
+}
+
+// The buckets that are still to be raised for what a write brings: none for a trim.
+fn unraised(alloc: Global, state: &LeafState, change: &Change) -> Result<Buckets, OutOfMemory>
+    ensures raise { IfOk result (AreTurnsToRaise state.now (change_turn change.now)) }
+{
+    match change {
+        Change::Adds(row, _) => state.unraised(alloc, &row.key),
+        Change::Hides(_) => Ok(Buckets::new(alloc)),
+    }
 }
 
 /// A write has set a bit for the leaf that it is inside of.
@@ -104,7 +129,7 @@ pub(crate) fn raise(
     Ok(())
 }
 
-/// A write's row is put to a replica on a leaf, and the write lets go of the leaf.
+/// What a write brings comes to a replica on a leaf, and the write lets go of the leaf.
 pub(crate) fn put(
     alloc: Global,
     seat: &mut LeafSeat,
@@ -116,15 +141,10 @@ pub(crate) fn put(
     requires alike { AreAlike sight.old seat.old.sight }
     requires there { leaf.0 < length seat.old.sight.leaves }
     requires follows { IsWellFormed (seat.old.state.history
-        ++ Entry.Put writing.old.number writing.old.range slot writing.old.row ∷ []) }
+        ++ turn_entry writing.old.number writing.old.range slot (change_turn writing.old.change) ∷ []) }
     ensures puts { OnOk result (Puts slot leaf seat.old seat.new writing.old writing.new sight.old sight.new) }
 {
-    let entry = Entry::Put {
-        pass: u64::from(writing.number),
-        range: writing.range,
-        slot,
-        row: writing.row.copy(alloc)?,
-    };
+    let entry = entry_for(alloc, writing.number, writing.range, slot, &writing.change)?;
     seat.append(alloc, entry)?;
     writing.machine.told(WriteTold::Done)?;
     writing.inside = None;
@@ -133,12 +153,39 @@ pub(crate) fn put(
     Ok(())
 }
 
-/// A write that has ended so tells its range what became of its row, and lets go of it.
+// The entry by which what a write brings comes to a replica.
+fn entry_for(
+    alloc: Global,
+    number: u32,
+    range: Range,
+    slot: Slot,
+    change: &Change,
+) -> Result<Entry, OutOfMemory>
+    ensures entry { IfOk result (λ entry. entry ≡ turn_entry number range slot (change_turn change.now)) }
+    ensures rows { IfOk result (λ entry. is_switch entry ≡ false) }
+{
+    let pass = u64::from(number);
+    match change {
+        Change::Adds(row, _) => Ok(Entry::Put {
+            pass,
+            range,
+            slot,
+            row: row.copy(alloc)?,
+        }),
+        Change::Hides(before) => Ok(Entry::Trim {
+            pass,
+            range,
+            slot,
+            before: *before,
+        }),
+    }
+}
+
+/// A write that has ended so tells its range what became of what it brought, and lets go of it.
 pub(crate) fn let_go(
     seat: &mut RangeSeat,
     number: u32,
-    row: Row,
-    key: Shared<SeriesKey>,
+    change: Change,
     range: Range,
     end: &WriteEnd,
     sight: &mut Sight,
@@ -146,12 +193,24 @@ pub(crate) fn let_go(
     requires alike { AreAlike sight.old seat.old.sight }
     requires there { range.0 < length seat.old.sight.ranges }
     requires room { HasAckRoom seat.old.state }
-    requires key { key ≡ row.key }
-    ensures lets_go { LetsGo end.now number row range seat.old seat.new sight.old sight.new }
+    requires key { IsKeyed change }
+    ensures lets_go { LetsGo end.now number (change_turn change) range seat.old seat.new sight.old sight.new }
 {
     if let WriteEnd::Written(ack) = end {
-        seat.state.acknowledge(key, u64::from(number), row, ack);
+        tell_written(&mut seat.state, u64::from(number), change, ack);
     }
     seat.holder = None;
     seat.meet(range, sight);
+}
+
+// A range is told that what a write brought was written. No memory is taken.
+fn tell_written(state: &mut RangeReplay, pass: u64, change: Change, ack: &Ack)
+    requires room { HasAckRoom state.old }
+    requires key { IsKeyed change }
+    ensures told { state.new.history ≡ state.old.history ++ turn_ack pass (change_turn change) ack.now ∷ [] }
+{
+    match change {
+        Change::Adds(row, key) => state.acknowledge(key, pass, row, ack),
+        Change::Hides(before) => state.trim(pass, before, ack),
+    }
 }

@@ -15,13 +15,21 @@ use mon_topo::Sight;
 use mon_value::{Leaf, OutOfMemory, Range, Row, SeriesKey, Shared, Slot};
 use write_core::{WriteAsk, WriteEnd, WriteMachine, WriteTold};
 
-/// A write on its way: its number, its row with a key for the range's replay, the range that this goes to, what it does
-/// next, and the leaf that it is inside of.
+/// What a write brings to its range.
+#[derive(Drop)]
+pub enum Change {
+    /// A row comes, beside its key for the range's replay.
+    Adds(Row, Shared<SeriesKey>),
+    /// The rows that end before this moment are hidden: a trim.
+    Hides(i64),
+}
+
+/// A write on its way: its number, what it brings, the range that this goes to, what it does next, and the leaf that it
+/// is inside of.
 #[derive(Drop)]
 pub struct Writing {
     pub number: u32,
-    pub row: Row,
-    pub key: Shared<SeriesKey>,
+    pub change: Change,
     pub range: Range,
     pub machine: WriteMachine,
     pub inside: Option<Leaf>,
@@ -54,7 +62,7 @@ impl Store {
         }
     }
 
-    // It takes its range's lock, and is told whether its row goes in.
+    // It takes its range's lock, and is told whether what it brings goes in.
     fn lock(&mut self, writing: Writing, sight: &mut Sight) -> Result<WriteTurn, OutOfMemory>
         requires at_work { IsInSomeWorld self.old writing sight.old }
         requires asks { ask_of writing.machine.stage ≡ ask.Lock }
@@ -148,7 +156,7 @@ impl Store {
         Ok(WriteTurn::Went(writing))
     }
 
-    // It appends its row to the leaf's history, and lets go of the leaf.
+    // It appends what it brings to the leaf's history, and lets go of the leaf.
     fn put(
         &mut self,
         writing: Writing,
@@ -167,7 +175,7 @@ impl Store {
         Ok(WriteTurn::Went(writing))
     }
 
-    // It tells the range what became of its row, and lets go of the range.
+    // It tells the range what became of what it brought, and lets go of the range.
     fn acknowledge(&mut self, writing: Writing, sight: &mut Sight) -> Result<WriteTurn, OutOfMemory>
         requires at_work { IsInSomeWorld self.old writing sight.old }
         requires asks { ask_of writing.machine.stage ≡ ask.Ack }
@@ -176,8 +184,7 @@ impl Store {
     {
         let Writing {
             number,
-            row,
-            key,
+            change,
             range,
             machine,
             ..
@@ -187,12 +194,11 @@ impl Store {
             Ok(()) => {
                 let end = machine.finish();
                 let seat = &mut self.ranges[range.0 as usize];
-                let_go(seat, number, row, key, range, &end, sight);
+                let_go(seat, number, change, range, &end, sight);
                 Ok(WriteTurn::Ended(range, end))
             }
             Err(fault) => {
-                drop(row);
-                drop(key);
+                drop(change);
                 drop(machine);
                 Err(fault)
             }

@@ -21,8 +21,11 @@ use Rattle.write_core.proofs.KeepsLemmas.{changed_by}
 use Rattle.write_core.proofs.KeptLemmas.{part_stays}
 use Rattle.write_core.proofs.ViewLemmas.{within_itself}
 use Rattle.write_core.specs.CopySteps.{after_copy_event, copied_in, copy_at}
-use Rattle.write_core.specs.Events.{Aims, Begins, CanHappen, CanRun, Copies, Event, Goes, Learns, Resolves, SwitchTold}
-use Rattle.write_core.specs.Events.{Switches, Visits, after_event, after_events, new_recovery, new_writer, switched}
+use Rattle.write_core.specs.Events.{Aims, Begins, CanHappen, CanRun, Copies, Event, Goes, Learns, Resolves, Retires}
+use Rattle.write_core.specs.Events.{SwitchTold, Switches, Visits, after_event, after_events, new_recovery, new_writer}
+use Rattle.write_core.specs.Events.{retired, switched}
+use Rattle.write_core.specs.declared.retirements.Retirement.{Retirement}
+use Rattle.mon_value.specs.declared.positions.Range.{Range}
 use Rattle.write_core.specs.Invariant.{HasSeen, IsActor, IsAt, IsKept, IsMark, IsNewActor, IsNewWorld, IsWriter}
 use Rattle.write_core.specs.Marks.{waiting}
 use Rattle.write_core.specs.Noted.{AreNoted, FateSo, HasNoted, IsNotedBy, MarkSo, MarksSo}
@@ -311,6 +314,14 @@ module _ (setting : Setting) (world : World) (kept : IsKept setting world) (ends
       one_other (switched world i (Stands who) leaf to answer) grows i (stands_on who _)
       (λ writer e. stands_none _ who.pass writer e) refl
 
+  retire_ends : (i : ℕ) (actor : Actor) (range : Range) (leaf : Leaf) (answer : Retirement)
+      → Grows (retired world i actor range leaf answer) → AreEndsDown (retired world i actor range leaf answer)
+  retire_ends i (Writes who) range leaf answer grows = ends
+  retire_ends i (Recovers who) range leaf answer grows = ends
+  retire_ends i (Stands who) range leaf answer grows =
+      one_other (retired world i (Stands who) range leaf answer) grows i (stands_on who _)
+      (λ writer e. stands_none _ who.pass writer e) refl
+
   wiser_end : (actor : Actor) (view : View) → EndDown world actor → EndDown world (wiser actor view)
   wiser_end (Writes who) view h = λ writer marks is ended. h who marks refl (ap stage_of is ∙ ended)
     where
@@ -330,11 +341,12 @@ module _ (setting : Setting) (world : World) (kept : IsKept setting world) (ends
   event_ends (Goes i answer) grows can = goes_ends i (world.actors i) answer (kept.actors i) grows can
   event_ends (Copies i answer) grows can = copies_ends i (world.actors i) answer grows
   event_ends (Switches i leaf to answer) grows can = switch_ends i (world.actors i) leaf to answer grows
+  event_ends (Retires i range leaf answer) grows can = retire_ends i (world.actors i) range leaf answer grows
   event_ends (Learns i view) grows can =
       one_end (after_event setting world (Learns i view)) grows i (wiser (world.actors i) view)
       (wiser_end (world.actors i) view (ends i)) refl
-  event_ends (Begins i row range) grows can =
-      one_going (after_event setting world (Begins i row range)) grows i (new_writer row range (world.actors i)) Locking
+  event_ends (Begins i turn range) grows can =
+      one_going (after_event setting world (Begins i turn range)) grows i (new_writer turn range (world.actors i)) Locking
       _ locks_first refl
   event_ends (Aims i range leaf) grows can =
       one_other (after_event setting world (Aims i range leaf)) grows i

@@ -1,5 +1,5 @@
 -- How recoveries come out, and which leaves writes found down that no replica took.
-use Rattle.std.proofs.Common.{◌≡◌, ℕ, false, List, [], ◌∷◌, subst}
+use Rattle.std.proofs.Common.{◌≡◌, ℕ, List, [], ◌∷◌, subst}
 use Rattle.std.specs.List.{AllByRecursion as All}
 use Rattle.mon_topo.specs.Settings.{Setting}
 use Rattle.mon_topo.specs.Views.{IsViewWithin, View, of_leaf}

@@ -33,8 +33,8 @@ FindsAllDown world i =
     → some_took marks ≡ false
     → HaveFound writer.view (serving (of_range writer.view writer.range)) (flat_map found_in_mark marks)
 
--- a recovery's replica was opened, on its leaf with the rows that were acknowledged before, and at its range; or it has
--- seen what was in its way; and each leaf that it says was down it found down, at that cut
+-- a recovery's replica was opened, on its leaf with the rows that were left of its range before, and at its range; or it
+-- has seen what was in its way; and each leaf that it says was down it found down, at that cut
 pub record RecoversRightly (setting : Setting) (world : World) (i : ℕ) (recovery : Recovery) (outcome : Outcome)
     : Type 0 where
   pub comes_out : ComesOut setting recovery outcome

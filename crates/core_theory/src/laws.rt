@@ -29,9 +29,9 @@ pub fn queries_are_licensed()
 {}
 
 /// So each query that is asked of the store ends rightly, whatever else goes on. Its table is what it means,
-/// evaluated in one place, over the rows of its trace: each target's are those of one replica at one cut of its
+/// evaluated in one place, over the rows of its trace: each target's are those that one replica keeps at one cut of its
 /// leaf's history. The trace is of the histories that its caller has seen; it holds each row that had been
-/// acknowledged to the caller as the query began; and a leaf that was not read has no row there that the query wants.
+/// acknowledged to the caller as the query began, or a trim that the replica or its range had by then hides the row; and a leaf that was not read has no row there that the query wants.
 /// It stops for its load only where the load over the rows of its trace is above the limit. Where it ends because a
 /// range has no replica, each slot that served at a length of the range's history between those that its caller had
 /// seen as it began and those seen at its end is on a leaf of the range's zone that it found down between them, and
@@ -68,9 +68,9 @@ pub fn writes_name_what_they_found()
 }
 
 /// Whatever goes on, in whatever order: where a recovery has ended with a slot, its leaf's history opened the replica
-/// with the rows that were acknowledged before, and then its range's history, which is legal. Where it has ended
-/// without one, it has seen what was in its way, and each leaf that it names it found down by an event of its own, at
-/// that cut.
+/// with the rows that were left before, which were acknowledged and not trimmed since, and then its range's history,
+/// which is legal. Where it has ended without one, it has seen what was in its way, and each leaf that it names it found
+/// down by an event of its own, at that cut.
 pub fn recoveries_come_out_rightly()
     ensures recovered { (store : Setting) (core : Core store) (events : List (CoreEvent store)) (i : ℕ)
         → IsNewCore store core → CanGoOn store core events

@@ -9,7 +9,7 @@ use Rattle.owners.specs.Copies.{HasCopiedUp}
 use Rattle.mon_topo.proofs.FrontLemmas.{begins_to}
 use Rattle.mon_topo.specs.HeldHistories.{BeginsWith}
 use Rattle.mon_value.specs.Histories.{leaf_history}
-use Rattle.mon_value.specs.LeafHistories.{is_down, replica_rows}
+use Rattle.mon_value.specs.LeafHistories.{is_down, kept_rows}
 use Rattle.mon_value.specs.declared.histories.Entry.{Entry}
 use Rattle.mon_value.specs.declared.positions.Leaf.{Leaf}
 use Rattle.mon_value.specs.declared.positions.Range.{Range}
@@ -63,11 +63,11 @@ front_take cut whole front begins within =
 
 pub gathers : (leaf : Leaf) (history : List Entry) (range : Range) (slot : Slot) (cut : ℕ) (rows : List Row)
     (before mid after : Knowledge) → HasGone leaf history [] move.Keep before mid
-    → after ≡ after_handing (length rows) mid → rows ≡ replica_rows range slot (take cut history)
+    → after ≡ after_handing (length rows) mid → rows ≡ kept_rows range slot (take cut history)
     → cut ≤ length (leaf_history before.seen leaf) → HasGathered leaf range slot cut rows before after
 gathers leaf history range slot cut rows before mid after gone is rows_are within = record {
   history = history;
-  rows_are = rows_are ∙ ap (replica_rows range slot)
+  rows_are = rows_are ∙ ap (kept_rows range slot)
       (front_take cut history (leaf_history before.seen leaf) gone.called.front within);
   called = called_handed leaf history (length rows) before mid after gone is;
   rooms_are = rooms_handed leaf history (length rows) before mid after gone is;
@@ -76,12 +76,12 @@ gathers leaf history range slot cut rows before mid after gone is rows_are withi
 
 pub copies : (leaf : Leaf) (history : List Entry) (range : Range) (slot : Slot) (cut : ℕ) (rows : List Row)
     (before mid after : Knowledge) → HasGone leaf history [] move.Keep before mid
-    → after ≡ after_handing (length rows) mid → rows ≡ replica_rows range slot (take cut history)
+    → after ≡ after_handing (length rows) mid → rows ≡ kept_rows range slot (take cut history)
     → length history ≡ cut → is_down history ≡ false → HasCopiedUp leaf range slot rows before after
 copies leaf history range slot cut rows before mid after gone is rows_are counted up = record {
   history = history;
   up = up;
-  rows_are = rows_are ∙ ap (replica_rows range slot)
+  rows_are = rows_are ∙ ap (kept_rows range slot)
       (ap (λ n. take n history) (sym counted) ∙ take-length history);
   called = called_handed leaf history (length rows) before mid after gone is;
   rooms_are = rooms_handed leaf history (length rows) before mid after gone is;

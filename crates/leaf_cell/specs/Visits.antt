@@ -5,7 +5,7 @@ use Rattle.know.specs.declared.answers.Found.{Found}
 use Rattle.know.specs.declared.answers.Found.TheVariants as found
 use Rattle.leaf_store.specs.LeafStates as store
 use Rattle.mon_value.specs.Histories.{leaf_history}
-use Rattle.mon_value.specs.LeafHistories.{is_down, replica_rows}
+use Rattle.mon_value.specs.LeafHistories.{is_down, kept_rows}
 use Rattle.mon_value.specs.declared.histories.Entry.{Entry}
 use Rattle.mon_value.specs.declared.positions.Leaf.{Leaf}
 use Rattle.mon_value.specs.declared.positions.Range.{Range}
@@ -35,11 +35,12 @@ abbrev pub HasVisited : Leaf → (List Entry → ℕ → Type 0) → Found → K
 HasVisited leaf tells found.Up before after = HasReadUp leaf tells before after
 HasVisited leaf tells (found.Down cut) before after = HasFoundDown leaf cut before.purse.rooms before after
 
--- The rows of a replica in the beginning of what had been seen of the leaf were handed out, whether it is up or down
+-- The rows that a replica keeps in the beginning of what had been seen of the leaf were handed out, whether it is up or
+-- down
 pub record HasGathered (leaf : Leaf) (range : Range) (slot : Slot) (cut : ℕ) (rows : List Row)
     (before after : Knowledge) : Type 0 where
   pub history : List Entry
-  pub rows_are : rows ≡ replica_rows range slot (take cut (leaf_history before.seen leaf))
+  pub rows_are : rows ≡ kept_rows range slot (take cut (leaf_history before.seen leaf))
   pub called : HasCalled leaf history [] before after
   pub rooms_are : after.purse.rooms ≡ before.purse.rooms
   pub handed : after.handed ≡ stopped_count (before.handed + length rows)

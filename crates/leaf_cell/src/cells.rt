@@ -134,7 +134,7 @@ impl<N: Names> LeafCell<N> {
         found
     }
 
-    /// The rows of a replica in the whole history of the leaf, where it is up. They are handed out.
+    /// The rows that a replica keeps in the whole history of the leaf, where it is up. They are handed out.
     pub fn copy<R: Wait>(
         &self,
         rt: &R,
@@ -194,8 +194,8 @@ impl<N: Names> LeafCell<N> {
         controlled
     }
 
-    /// The rows of a replica in the beginning of what the caller had seen of the leaf, which are handed out. The leaf
-    /// may be down.
+    /// The rows that a replica keeps in the beginning of what the caller had seen of the leaf, which are handed out. The
+    /// leaf may be down.
     pub fn gather<R: Wait>(
         &self,
         rt: &R,

@@ -242,7 +242,7 @@ impl<N: Names> LeafDesk<N> {
         Ok(Found::Up)
     }
 
-    /// The rows of a replica in the whole history of a leaf that is up, which are handed out.
+    /// The rows that a replica keeps in the whole history of a leaf that is up, which are handed out.
     pub(crate) fn copy(
         &mut self,
         tables: &Tables<N>,
@@ -264,7 +264,7 @@ impl<N: Names> LeafDesk<N> {
         Ok(Copied::Rows(rows))
     }
 
-    /// The rows of a replica in the beginning of the history, which are handed out.
+    /// The rows that a replica keeps in the beginning of the history, which are handed out.
     pub(crate) fn gather(
         &mut self,
         tables: &Tables<N>,

@@ -130,7 +130,7 @@ module _ (grid : Grid) (source : List Row) where
         ap (parts_load grid source) so_far.split,
       )
 
-meant_sent : (grid : Grid) (source : List Row) (parts : List TopPart)
+pub meant_sent : (grid : Grid) (source : List Row) (parts : List TopPart)
     → pieces_sent (map (piece_meant grid source) parts) ≡ parts_sent grid source parts
 meant_sent grid source [] = refl
 meant_sent grid source (part ∷ parts) =

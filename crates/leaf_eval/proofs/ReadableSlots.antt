@@ -2,7 +2,7 @@
 use Rattle.std.proofs.Common.{◌≡◌, ◌∙◌, ◌||◌, Bool, true, false, List, [], ◌∷◌, map, refl, sym, ap}
 use Rattle.std.specs.List.{AllByRecursion as All}
 use Rattle.std.proofs.lemmas.Bool.{and_parts, or_parts}
-use Rattle.leaf_eval.specs.Replicas.{AreReplicasApart, ShareNoSeries, has_series, replica_rows_of}
+use Rattle.leaf_eval.specs.Replicas.{AreReplicasApart, ShareNoSeries, has_series, kept_rows_of}
 use Rattle.mon_meaning.specs.ReadableSlots.{AreApart, ShareNoTarget, has_target, CanBeRead}
 use Rattle.mon_value.proofs.SameLemmas.{same_series-Decides}
 use Rattle.mon_value.specs.Same.{same_series, same_target}
@@ -40,15 +40,15 @@ no_series_of (row ∷ rows) others apart = (no_series row.key others apart.0, no
 
 module _ (history : List Entry) where
   apart_each : (one : RangeSlot) (slots : List RangeSlot)
-      → All (ShareNoTarget (replica_rows_of history one)) (map (replica_rows_of history) slots)
-      → All (λ other. ShareNoSeries (replica_rows_of history one) (replica_rows_of history other)) slots
+      → All (ShareNoTarget (kept_rows_of history one)) (map (kept_rows_of history) slots)
+      → All (λ other. ShareNoSeries (kept_rows_of history one) (kept_rows_of history other)) slots
   apart_each one [] apart = tt
   apart_each one (other ∷ slots) apart = (
-    no_series_of (replica_rows_of history one) (replica_rows_of history other) apart.0,
+    no_series_of (kept_rows_of history one) (kept_rows_of history other) apart.0,
     apart_each one slots apart.1,
   )
 
-  apart_series : (slots : List RangeSlot) → AreApart ShareNoTarget (map (replica_rows_of history) slots)
+  apart_series : (slots : List RangeSlot) → AreApart ShareNoTarget (map (kept_rows_of history) slots)
       → AreReplicasApart history slots
   apart_series [] apart = tt
   apart_series (one ∷ slots) apart = (apart_each one slots apart.0, apart_series slots apart.1)

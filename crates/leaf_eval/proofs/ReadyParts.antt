@@ -1,5 +1,5 @@
 -- The parts of which a leaf makes pieces can be evaluated, and the pieces made.
-use Rattle.std.proofs.Common.{◌≡◌, ◌≤ℤ◌, ℤ, pos, Bool, true, List, [], ◌∷◌, ◌++◌}
+use Rattle.std.proofs.Common.{◌≡◌, ◌≤ℤ◌, ℤ, pos, Bool, true, List}
 use Rattle.std.specs.List.{AllByRecursion}
 use Rattle.mon_value.specs.Grids.{IsLawfulGrid}
 use Rattle.mon_value.specs.LeafHistories.{points_by_series}

@@ -15,7 +15,7 @@ use mon_value::Refusal;
 use std::alloc::Global;
 use typed_trees::{Level, Plan};
 
-/// A leaf's part of a plan that is asked at a moment, over the rows of the leaf, which are kept by series in several
+/// A leaf's part of a plan that is asked at a moment, over the kept rows of the leaf, which stand by series in several
 /// places: a piece for each part that leaves do, their load, and how many rows and groups are sent. It is refused
 /// exactly where the load is above the limit, before memory for what is too much is taken.
 pub fn answer_by_series(

@@ -1,8 +1,7 @@
 -- Runs of entries.
 use Rattle.std.proofs.Common.{◌≡◌, ◌∙◌, ◌+◌, ◌-◌, ◌<◌, ℕ, zero, suc, List, [], ◌∷◌, ◌++◌, length, Some, slice_get}
-use Rattle.std.proofs.Common.{refl, sym, ap, arith, append_assoc, append-nil, subst, ◌≤◌}
+use Rattle.std.proofs.Common.{refl, sym, ap, arith, append_assoc, subst, ◌≤◌}
 use Rattle.std.specs.List.{flat_map}
-use Rattle.std.proofs.lemmas.List.Concat.{flat_map-append}
 use Rattle.leaf_store.specs.declared.kept.Kept.{Kept}
 use Rattle.leaf_store.specs.declared.kept.Kept.TheVariants as kept
 use Rattle.leaf_store.specs.declared.runs.Run.{Run}

@@ -1,13 +1,12 @@
 -- A series that a replica has brings no bucket more.
-use Rattle.std.proofs.Common.{◌≡◌, ◌∙◌, ℕ, Bool, true, false, cond, ◌||◌, ◌==◌, Some, None, List, [], ◌∷◌, ◌++◌, map}
-use Rattle.std.proofs.Common.{Option, ℤ, IfNone, IfSome, not, ◌&&◌, option_map, refl, sym, ap, subst, inl, inr}
+use Rattle.std.proofs.Common.{◌≡◌, ◌∙◌, ℕ, Bool, true, false, cond, ◌||◌, Some, None, List, [], ◌∷◌, ◌++◌, map}
+use Rattle.std.proofs.Common.{Option, IfNone, IfSome, not, ◌&&◌, refl, sym, ap, subst, inl, inr}
 use Rattle.std.specs.Prelude.{is_some}
 use Rattle.std.proofs.lemmas.Bool.{or_left, or_right, or_cases}
 use Rattle.std.proofs.lemmas.List.Concat.{flat_map-append}
 use Rattle.mon_value.proofs.PlainLemmas.{or_false}
 use Rattle.mon_hints.specs.Hints.{history_buckets, rows_buckets}
 use Rattle.mon_hints.specs.Formulas.{is_among}
-use Rattle.mon_series.specs.declared.kept_rows.KeptSeries.{KeptSeries}
 use Rattle.mon_value.proofs.SameLemmas.{same_series-Decides}
 use Rattle.mon_value.specs.LeafHistories.{brought_rows, entry_rows, is_opened, leaf_rows, replica_rows, same_replica}
 use Rattle.mon_value.specs.LeafHistories.{last_end, points_of, rows_of}
@@ -18,22 +17,23 @@ use Rattle.mon_value.specs.declared.positions.Range.{Range}
 use Rattle.mon_value.specs.declared.positions.Slot.{Slot}
 use Rattle.mon_value.specs.declared.rows.Row.{Row}
 use Rattle.mon_value.specs.declared.rows.SeriesKey.{SeriesKey}
-use Rattle.leaf_store.specs.LeafStates.{HasNumber}
+use Rattle.mon_series.specs.SlotViews.{SlotView}
+use Rattle.leaf_store.specs.LeafStates.{HasNumber, slot_view}
 use Rattle.leaf_store.specs.declared.replicas.Replica.{Replica}
 use Rattle.leaf_store.specs.within.Raises.{AddsBuckets, HoldsBuckets, IsKnown}
 use Rattle.leaf_store.specs.within.Replicas.{CanPut, HasSeries, HoldsHistory, Replicas, has_row_of, rows_held}
-use Rattle.leaf_store.specs.within.Replicas.{rows_if_kept}
+use Rattle.leaf_store.specs.within.Replicas.{rows_if_held}
 use Rattle.leaf_store.proofs.SeriesNumberLemmas.{numbered_row}
 use Rattle.mon_hints.proofs.CoverLemmas.{among-append}
 
 -- a replica that takes a row has its series where it is told as known
 pub put_series : (replicas : Replicas) (replica : Replica) (row : Row) (known : Bool) → CanPut replicas replica row
-    → known ≡ has_row_of row.key (rows_if_kept (rows_held replicas replica.range replica.slot)) → known ≡ true
+    → known ≡ has_row_of row.key (rows_if_held (rows_held replicas replica.range replica.slot)) → known ≡ true
     → HasSeries replicas replica row.key
 put_series replicas replica row known can is told = (
   can.0,
   can.1,
-  sym (ap (λ (held : Option (List Row)). has_row_of row.key (rows_if_kept held)) can.1) ∙ sym is ∙ told,
+  sym (ap (λ (held : Option SlotView). has_row_of row.key (rows_if_held held)) can.1) ∙ sym is ∙ told,
 )
 
 none_left : (own raised : Bool) → (own ≡ true → raised ≡ true) → (own && not raised) ≡ false
@@ -89,6 +89,7 @@ module _ (buckets_of : SeriesKey → List ℕ) where
       some_among (same_replica range slot other place) rows bucket among
   entry_among range slot (entry.Put pass other place row) bucket among =
       some_among (same_replica range slot other place) (row ∷ []) bucket among
+  entry_among range slot (entry.Trim pass other place before) bucket among = absurd cc
   entry_among range slot (entry.Down pass) bucket among = absurd cc
   entry_among range slot (entry.Up pass) bucket among = absurd cc
 
@@ -109,19 +110,19 @@ module _ (buckets_of : SeriesKey → List ℕ) where
             (replica_among range slot history bucket there)
       ]
 
-  held_is : (b : Bool) (own rows : List Row) → cond b (Some own) None ≡ Some rows → own ≡ rows
-  held_is true own rows is = cc
-  held_is false own rows is = absurd cc
+  held_is : (b : Bool) (own held : SlotView) → cond b (Some own) None ≡ Some held → own ≡ held
+  held_is true own held is = cc
+  held_is false own held is = absurd cc
 
   -- a set that has the buckets of a history has those of the replicas' rows
   pub holds_buckets : (replicas : Replicas) (set : ℕ → Bool) (first left : List Entry) → HoldsHistory replicas first
       → ((bucket : ℕ) → set bucket ≡ is_among bucket (history_buckets buckets_of (first ++ left)))
       → HoldsBuckets replicas buckets_of set
-  holds_buckets replicas set first left holds has range slot rows held bucket among =
-      let own = held_is (is_opened range slot first) (replica_rows range slot first) rows (sym (holds range slot)
-      ∙ held) in
+  holds_buckets replicas set first left holds has range slot held there bucket among =
+      let own = held_is (is_opened range slot first) (slot_view range slot first) held (sym (holds range slot)
+      ∙ there) in
       let here = replica_among range slot first bucket
-      (subst (λ (all : List Row). is_among bucket (rows_buckets buckets_of all) ≡ true) (sym own) among) in
+      (subst (λ (all : SlotView). is_among bucket (rows_buckets buckets_of all.rows) ≡ true) (sym own) among) in
       has bucket
       ∙ ap (λ (all : List Row). is_among bucket (rows_buckets buckets_of all)) (flat_map-append brought_rows first left)
       ∙ either_among bucket (leaf_rows first) (leaf_rows left)
@@ -141,8 +142,9 @@ module _ (buckets_of : SeriesKey → List ℕ) where
   known_adds replicas set (entry.Put pass range slot row) holds known bucket =
       in_set (set bucket) (is_among bucket (rows_buckets buckets_of (row ∷ [])))
       (λ among. holds range slot known.0 known.1 bucket
-      (series_among row.key known.0 bucket known.2
+      (series_among row.key known.0.rows bucket known.2
       (sym (among-append bucket (buckets_of row.key) [] ∙ or_false (is_among bucket (buckets_of row.key))) ∙ among)))
+  known_adds replicas set (entry.Trim pass range slot before) holds known bucket = absurd known
   known_adds replicas set (entry.Down pass) holds known bucket = absurd known
   known_adds replicas set (entry.Up pass) holds known bucket = absurd known
 
@@ -157,6 +159,7 @@ module _ (buckets_of : SeriesKey → List ℕ) where
       (λ among. has bucket ∙ replica_among range slot history bucket
       (series_among row.key rows bucket (numbered_row rows number row.key known)
       (sym (among-append bucket (buckets_of row.key) [] ∙ or_false (is_among bucket (buckets_of row.key))) ∙ among)))
+  numbered_adds set history (entry.Trim pass range slot before) number has known bucket = absurd known
   numbered_adds set history (entry.Down pass) number has known bucket = absurd known
   numbered_adds set history (entry.Up pass) number has known bucket = absurd known
 
@@ -178,4 +181,4 @@ module _ (buckets_of : SeriesKey → List ℕ) where
   known_left replicas set replica key holds known bucket =
       none_left (is_among bucket (buckets_of key)) (set bucket)
       (λ among. holds replica.range replica.slot known.0 known.1 bucket
-      (series_among key known.0 bucket known.2 among))
+      (series_among key known.0.rows bucket known.2 among))

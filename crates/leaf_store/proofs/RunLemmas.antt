@@ -1,17 +1,21 @@
--- The rows that the first so many entries of runs brought to a replica.
-use Rattle.std.proofs.Common.{◌≡◌, ◌∙◌, ◌-◌, ℕ, zero, suc, Option, Some, None, List, [], ◌∷◌, ◌++◌, length, take}
-use Rattle.std.proofs.Common.{refl, sym, ap, append_assoc, subst, arith}
+-- Entries of runs that are gone over from behind, but for the last so many.
+use Rattle.std.proofs.Common.{◌≡◌, ◌∙◌, ◌+◌, ◌-◌, ◌<◌, ◌≤◌, nat_lt, ℕ, zero, suc, Bool, true, false, Option, Some, None}
+use Rattle.std.proofs.Common.{List, [], ◌∷◌, ◌++◌, length, take, slice_index_or, refl, sym, ap, subst, append-nil, arith}
 use Rattle.std.specs.List.{flat_map}
+use Rattle.std.proofs.lemmas.Bool.Decides.{nat_tests}
+use Rattle.std.proofs.lemmas.List.{length-append, take_more}
 use Rattle.std.proofs.lemmas.List.Concat.{flat_map-append}
-use Rattle.mon_value.specs.LeafHistories.{entry_rows, replica_rows}
+use Rattle.std.proofs.Math.Seq.{take-length}
+use Rattle.mon_value.specs.Turns.{Turn}
 use Rattle.mon_value.specs.declared.histories.Entry.{Entry}
 use Rattle.mon_value.specs.declared.positions.Range.{Range}
 use Rattle.mon_value.specs.declared.positions.Slot.{Slot}
-use Rattle.mon_value.specs.declared.rows.Row.{Row}
 use Rattle.leaf_store.specs.declared.kept.Kept.{Kept}
 use Rattle.leaf_store.specs.declared.runs.Run.{Run}
+use Rattle.leaf_store.specs.within.FromBehind.{Standing, behind_turns, but_last, entry_steps, replica_steps}
 use Rattle.leaf_store.specs.within.KeptEntries.{entries_of, run_entries}
 use Rattle.leaf_store.specs.within.Replicas.{AllHaveRows, Replicas, entry_of, shown_entries, with_first}
+use Rattle.leaf_store.proofs.FromBehindLemmas.{behind_turns-append}
 
 all_left : (replicas : Replicas) (front back : List Kept) → AllHaveRows replicas (front ++ back)
     → AllHaveRows replicas front × AllHaveRows replicas back
@@ -20,13 +24,27 @@ all_left replicas (k ∷ front) back all =
     let rest = all_left replicas front back all.1 in
     ((all.0, rest.0), rest.1)
 
--- the entries of a run, and of those behind it
-pub run_left : (replicas : Replicas) (run last : Run) (runs : List Run)
-    → AllHaveRows replicas (entries_of (run ∷ runs) last)
-    → AllHaveRows replicas (run_entries run) × AllHaveRows replicas (entries_of runs last)
-run_left replicas run last runs all =
-    all_left replicas (run_entries run) (entries_of runs last) (subst (AllHaveRows replicas)
-    (append_assoc (run_entries run) (flat_map run_entries runs) (run_entries last)) all)
+-- the entries of some runs, and of the last one
+pub runs_left : (replicas : Replicas) (runs : List Run) (last : Run) → AllHaveRows replicas (entries_of runs last)
+    → AllHaveRows replicas (flat_map run_entries runs) × AllHaveRows replicas (run_entries last)
+runs_left replicas runs last all = all_left replicas (flat_map run_entries runs) (run_entries last) all
+
+-- the last of the first so many runs
+runs_next : (runs : List Run) (m n : ℕ) (d : Run) → m ≡ n + 1 → n < length runs
+    → flat_map run_entries (take m runs) ≡ flat_map run_entries (take n runs) ++ run_entries (slice_index_or runs n d)
+runs_next runs m n d next below =
+    let run = slice_index_or runs n d in
+    ap (λ (k : ℕ). flat_map run_entries (take k runs)) next
+    ∙ ap (flat_map run_entries) (take_more runs n d below)
+    ∙ flat_map-append run_entries (take n runs) (run ∷ [])
+    ∙ ap (λ (ks : List Kept). flat_map run_entries (take n runs) ++ ks) (append-nil (run_entries run))
+
+pub runs_front : (replicas : Replicas) (runs : List Run) (m n : ℕ) (d : Run) → m ≡ n + 1 → n < length runs
+    → AllHaveRows replicas (flat_map run_entries (take m runs))
+    → AllHaveRows replicas (flat_map run_entries (take n runs)) × AllHaveRows replicas (run_entries (slice_index_or runs n d))
+runs_front replicas runs m n d next below all =
+    all_left replicas (flat_map run_entries (take n runs)) (run_entries (slice_index_or runs n d))
+    (subst (AllHaveRows replicas) (runs_next runs m n d next below) all)
 
 first_behind : (entry : Option Entry) (front back : List Entry)
     → with_first entry (front ++ back) ≡ with_first entry front ++ back
@@ -52,33 +70,96 @@ take_both (suc n) (x ∷ front) back =
     let fewer : n - length front ≡ suc n - suc (length front) = omega arith in
     ap (λ xs. x ∷ xs) (take_both n front back ∙ ap (λ m. take n front ++ take m back) fewer)
 
+take_none : {A : Type 0} (n : ℕ) → take {A = A} n [] ≡ []
+take_none zero = refl
+take_none (suc n) = refl
+
+take_all : {A : Type 0} (n : ℕ) (items : List A) → length items ≤ n → take n items ≡ items
+take_all n [] more = take_none n
+take_all zero (x ∷ items) more = absurd (omega (arith, more))
+take_all (suc n) (x ∷ items) more = ap (λ xs. x ∷ xs) (take_all n items (omega (arith, more)))
+
+front_by : {A : Type 0} (count : ℕ) (front back : List A) (b : Bool) → nat_lt (length back) count ≡ b
+    → take (length front + length back - count) front ≡ but_last (count - length back) front
+front_by count front back true more =
+    let same : length front + length back - count ≡ length front - (count - length back) =
+    grind (arith, nat_tests) in
+    ap (λ n. take n front) same
+front_by count front back false less =
+    let all : length front ≤ length front + length back - count = grind (arith, nat_tests) in
+    let none : length front ≤ length front - (count - length back) = grind (arith, nat_tests) in
+    take_all (length front + length back - count) front all
+    ∙ sym (take_all (length front - (count - length back)) front none)
+
+-- all but the last so many of two lists
+but_last-append : {A : Type 0} (count : ℕ) (front back : List A)
+    → but_last count (front ++ back) ≡ but_last (count - length back) front ++ but_last count back
+but_last-append count front back =
+    let left : length front + length back - count - length front ≡ length back - count = omega arith in
+    ap (λ n. take (n - count) (front ++ back)) (length-append front back)
+    ∙ take_both (length front + length back - count) front back
+    ∙ (λ i. front_by count front back (nat_lt (length back) count) refl i ++ take (left i) back)
+
 module _ (range : Range) (slot : Slot) (replicas : Replicas) where
-  -- the rows that entries brought
-  abbrev brought : List Kept → List Row
-  brought kept = replica_rows range slot (shown_entries replicas kept)
+  -- what the entries but the last so many make of what stands behind them
+  abbrev gathered : ℕ → List Kept → Standing → Standing
+  gathered count ks last = behind_turns (replica_steps range slot (shown_entries replicas (but_last count ks))) last
 
-  brought_both : (front back : List Kept) → brought (front ++ back) ≡ brought front ++ brought back
-  brought_both front back =
-      ap (replica_rows range slot) (shown_both replicas front back)
-      ∙ flat_map-append (entry_rows range slot) (shown_entries replicas front) (shown_entries replicas back)
+  gathered_both : (count : ℕ) (front back : List Kept) (last : Standing)
+      → gathered count (front ++ back) last ≡ gathered (count - length back) front (gathered count back last)
+  gathered_both count front back last =
+      let one = but_last (count - length back) front in
+      let other = but_last count back in
+      let steps : List Entry → List Turn = replica_steps range slot in
+      ap (λ (ks : List Kept). behind_turns (steps (shown_entries replicas ks)) last) (but_last-append count front back)
+      ∙ ap (λ (es : List Entry). behind_turns (steps es) last) (shown_both replicas one other)
+      ∙ ap (λ (turns : List Turn). behind_turns turns last)
+      (flat_map-append (entry_steps range slot) (shown_entries replicas one) (shown_entries replicas other))
+      ∙ behind_turns-append (steps (shown_entries replicas one)) (steps (shown_entries replicas other)) last
 
-  brought_first : (left : ℕ) (front back : List Kept) (rows more all : List Row)
-      → more ≡ rows ++ brought (take left front) → rows ++ brought (take left (front ++ back)) ≡ all
-      → more ++ brought (take (left - length front) back) ≡ all
-  brought_first left front back rows more all added whole =
-      ap (λ r. r ++ brought (take (left - length front) back)) added
-      ∙ append_assoc rows (brought (take left front)) (brought (take (left - length front) back))
-      ∙ ap (λ r. rows ++ r) (sym (ap brought (take_both left front back)
-      ∙ brought_both (take left front) (take (left - length front) back)))
-      ∙ whole
+  -- of the last of the first so many runs, and those in front of it
+  pub gathered_run : (runs : List Run) (m n count left : ℕ) (d : Run) (last found whole : Standing)
+      → m ≡ n + 1 → n < length runs
+      → found ≡ behind_turns (replica_steps range slot (shown_entries replicas
+      (but_last count (run_entries (slice_index_or runs n d))))) last
+      → left ≡ count - length (run_entries (slice_index_or runs n d))
+      → behind_turns (replica_steps range slot (shown_entries replicas
+      (but_last count (flat_map run_entries (take m runs))))) last ≡ whole
+      → behind_turns (replica_steps range slot (shown_entries replicas
+      (but_last left (flat_map run_entries (take n runs))))) found ≡ whole
+  gathered_run runs m n count left d last found whole next below is behind all =
+      let front = flat_map run_entries (take n runs) in
+      let run = slice_index_or runs n d in
+      ap (λ (k : ℕ). gathered k front found) behind
+      ∙ ap (gathered (count - length (run_entries run)) front) is
+      ∙ sym (gathered_both count front (run_entries run) last)
+      ∙ ap (λ (ks : List Kept). gathered count ks last) (sym (runs_next runs m n d next below))
+      ∙ all
 
-  -- a run is through, and the others are left
-  pub run_through : (left : ℕ) (run last : Run) (runs : List Run) (rows more all : List Row)
-      → more ≡ rows ++ replica_rows range slot (shown_entries replicas (take left (run_entries run)))
-      → rows ++ replica_rows range slot (shown_entries replicas (take left (entries_of (run ∷ runs) last))) ≡ all
-      → more ++ replica_rows range slot (shown_entries replicas (take (left - length (run_entries run))
-      (entries_of runs last))) ≡ all
-  run_through left run last runs rows more all added whole =
-      brought_first left (run_entries run) (entries_of runs last) rows more all added
-      (ap (λ entries. rows ++ brought (take left entries))
-      (sym (append_assoc (run_entries run) (flat_map run_entries runs) (run_entries last))) ∙ whole)
+  -- of the last run, and those in front of it
+  pub gathered_last : (runs : List Run) (run : Run) (items : List Kept) (cut count left : ℕ) (last found : Standing)
+      → items ≡ entries_of runs run → cut ≤ length items → count ≡ length items
+      → found ≡ behind_turns (replica_steps range slot (shown_entries replicas
+      (but_last (count - cut) (run_entries run)))) last
+      → left ≡ count - cut - length (run_entries run)
+      → behind_turns (replica_steps range slot (shown_entries replicas
+      (but_last left (flat_map run_entries (take (length runs) runs))))) found
+      ≡ behind_turns (replica_steps range slot (shown_entries replicas (take cut items))) last
+  gathered_last runs run items cut count left last found are within all is behind =
+      let whole : List Kept = flat_map run_entries runs in
+      let same : length items - (count - cut) ≡ cut = omega (arith, within, all) in
+      ap (λ (rs : List Run). gathered left (flat_map run_entries rs) found) (take-length runs)
+      ∙ ap (λ (k : ℕ). gathered k whole found) behind
+      ∙ ap (gathered (count - cut - length (run_entries run)) whole) is
+      ∙ sym (gathered_both (count - cut) whole (run_entries run) last)
+      ∙ ap (λ (ks : List Kept). gathered (count - cut) ks last) (sym are)
+      ∙ ap (λ (k : ℕ). behind_turns (replica_steps range slot (shown_entries replicas (take k items))) last) same
+
+  -- no run is left
+  pub none_gathered : (runs : List Run) (n count : ℕ) (found : Standing) → n ≡ 0
+      → behind_turns (replica_steps range slot (shown_entries replicas
+      (but_last count (flat_map run_entries (take n runs))))) found ≡ found
+  none_gathered runs n count found none =
+      ap (λ (k : ℕ). gathered count (flat_map run_entries (take k runs)) found) none
+      ∙ ap (λ (ks : List Kept). behind_turns (replica_steps range slot (shown_entries replicas ks)) found)
+      (take_none (0 - count))

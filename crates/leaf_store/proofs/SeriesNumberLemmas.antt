@@ -1,5 +1,5 @@
 -- The numbers of a replica's series, as rows come to it.
-use Rattle.std.proofs.Common.{◌≡◌, ◌∙◌, ◌<◌, ◌||◌, ℕ, Bool, true, false, cond, not, Option, Some, None, IfSome}
+use Rattle.std.proofs.Common.{◌≡◌, ◌∙◌, ◌<◌, ℕ, Bool, true, false, cond, not, Option, Some, None, IfSome}
 use Rattle.std.proofs.Common.{List, [], ◌∷◌, ◌++◌, length, slice_get, refl, sym, ap, subst, append-nil, append_assoc, arith}
 use Rattle.std.specs.Prelude.{is_some}
 use Rattle.std.specs.List.{filter}
@@ -18,10 +18,11 @@ use Rattle.mon_value.specs.declared.positions.Slot.{Slot}
 use Rattle.mon_value.specs.declared.rows.Point.{Point}
 use Rattle.mon_value.specs.declared.rows.Row.{Row}
 use Rattle.mon_value.specs.declared.rows.SeriesKey.{SeriesKey}
-use Rattle.leaf_store.specs.LeafStates.{HasNumber}
+use Rattle.mon_series.specs.SlotViews.{SlotView}
+use Rattle.leaf_store.specs.LeafStates.{HasNumber, slot_view}
 use Rattle.leaf_store.specs.declared.fresh.FreshEntry.{FreshEntry}
 use Rattle.leaf_store.specs.within.FreshEntries.{AreNumbered, HasKeptNumber, entries_in}
-use Rattle.leaf_store.specs.within.Replicas.{HoldsHistory, Replicas, has_row_of, rows_held, rows_if_kept}
+use Rattle.leaf_store.specs.within.Replicas.{HoldsHistory, Replicas, has_row_of, rows_held, rows_if_held}
 use Rattle.leaf_store.proofs.StepLemmas.{rows_there}
 use Rattle.mon_series.proofs.MetricLemmas.{has_at}
 use Rattle.mon_value.proofs.PlainLemmas.{get_front}
@@ -61,21 +62,21 @@ numbered_row rows number key there =
 
 -- ---- the series of a number that was found
 
-found_there : (opened : Bool) (rows more : List Row) (number : ℕ) (key : SeriesKey)
-    → slice_get (series_of (rows_if_kept (cond opened (Some rows) None))) number ≡ Some key
-    → slice_get (series_of (rows ++ more)) number ≡ Some key
-found_there true rows more number key there = number_stays rows more number key there
-found_there false rows more number key there = absurd cc
+found_there : (opened : Bool) (held : SlotView) (more : List Row) (number : ℕ) (key : SeriesKey)
+    → slice_get (series_of (rows_if_held (cond opened (Some held) None))) number ≡ Some key
+    → slice_get (series_of (held.rows ++ more)) number ≡ Some key
+found_there true held more number key there = number_stays held.rows more number key there
+found_there false held more number key there = absurd cc
 
 -- it keeps its number behind the entries that are left
 pub found_number : (replicas : Replicas) (first left : List Entry) (range : Range) (slot : Slot) (key : SeriesKey)
     (number : ℕ) → HoldsHistory replicas first
-    → slice_get (series_of (rows_if_kept (rows_held replicas range slot))) number ≡ Some key
+    → slice_get (series_of (rows_if_held (rows_held replicas range slot))) number ≡ Some key
     → slice_get (series_of (replica_rows range slot (first ++ left))) number ≡ Some key
 found_number replicas first left range slot key number holds there =
     ap (λ (rows : List Row). slice_get (series_of rows) number) (flat_map-append (entry_rows range slot) first left)
-    ∙ found_there (is_opened range slot first) (replica_rows range slot first) (replica_rows range slot left) number key
-    (ap (λ (held : Option (List Row)). slice_get (series_of (rows_if_kept held)) number) (sym (holds range slot))
+    ∙ found_there (is_opened range slot first) (slot_view range slot first) (replica_rows range slot left) number key
+    (ap (λ (held : Option SlotView). slice_get (series_of (rows_if_held held)) number) (sym (holds range slot))
     ∙ there)
 
 -- ---- the numbers that stand beside entries
@@ -84,6 +85,7 @@ found_number replicas first left range slot key number holds there =
 pub numbered_put : (history : List Entry) (e : Entry) (number : ℕ) → HasNumber history e number → is_switch e ≡ false
 numbered_put history (entry.Opened pass range slot rows) number has = refl
 numbered_put history (entry.Put pass range slot row) number has = refl
+numbered_put history (entry.Trim pass range slot before) number has = refl
 numbered_put history (entry.Down pass) number has = absurd has
 numbered_put history (entry.Up pass) number has = absurd has
 
@@ -93,6 +95,7 @@ kept_number replicas history (entry.Opened pass range slot rows) number holds ma
 kept_number replicas history (entry.Put pass range slot row) number holds may has =
     ap (λ (rows : List Row). slice_get (series_of rows) number)
     (rows_there range slot replicas history (holds range slot) may.1) ∙ has
+kept_number replicas history (entry.Trim pass range slot before) number holds may has = has
 kept_number replicas history (entry.Down pass) number holds may has = has
 kept_number replicas history (entry.Up pass) number holds may has = has
 

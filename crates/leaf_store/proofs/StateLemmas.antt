@@ -66,6 +66,7 @@ down_switch history last down says = sym (down_push false history last ∙ says 
 plain_down : (last : Entry) (before : Bool) → is_switch last ≡ false → is_down_after before (last ∷ []) ≡ before
 plain_down (entry.Opened pass range slot rows) before is = refl
 plain_down (entry.Put pass range slot row) before is = refl
+plain_down (entry.Trim pass range slot bound) before is = refl
 plain_down (entry.Down pass) before is = absurd cc
 plain_down (entry.Up pass) before is = absurd cc
 
@@ -80,6 +81,7 @@ count_push history last = sum_by-append (λ e. cond (is_switch e) 1 0) history (
 one_switch : (last : Entry) (b : Bool) → is_switch last ≡ b → count_by is_switch (last ∷ []) ≡ cond b 1 0
 one_switch (entry.Opened pass range slot rows) b is = ap (λ c. cond c 1 0) is
 one_switch (entry.Put pass range slot row) b is = ap (λ c. cond c 1 0) is
+one_switch (entry.Trim pass range slot before) b is = ap (λ c. cond c 1 0) is
 one_switch (entry.Down pass) b is = ap (λ c. cond c 1 0) is
 one_switch (entry.Up pass) b is = ap (λ c. cond c 1 0) is
 
@@ -110,6 +112,7 @@ no_rows : (buckets : ℕ) (held : SchemaLists) (last : Entry) → is_switch last
     → rows_buckets (key_buckets buckets held) (brought_rows last) ≡ []
 no_rows buckets held (entry.Opened pass range slot rows) is = absurd cc
 no_rows buckets held (entry.Put pass range slot row) is = absurd cc
+no_rows buckets held (entry.Trim pass range slot before) is = absurd cc
 no_rows buckets held (entry.Down pass) is = refl
 no_rows buckets held (entry.Up pass) is = refl
 
@@ -176,6 +179,7 @@ may_switch : (history : List Entry) (last : Entry) → is_switch last ≡ true �
     → count_by is_switch history < MOST_SWITCHES
 may_switch history (entry.Opened pass range slot rows) is may = absurd cc
 may_switch history (entry.Put pass range slot row) is may = absurd cc
+may_switch history (entry.Trim pass range slot before) is may = absurd cc
 may_switch history (entry.Down pass) is may = may.1
 may_switch history (entry.Up pass) is may = may.1
 

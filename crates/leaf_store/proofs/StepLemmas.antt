@@ -1,37 +1,43 @@
--- Entries that are brought to their replicas one by one, and the rows that entries bring.
-use Rattle.std.proofs.Common.{◌≡◌, ◌∙◌, ◌≤◌, ◌<◌, ◌+◌, ◌-◌, ℕ, zero, suc, Bool, true, false, cond, Option, Some, None}
-use Rattle.std.proofs.Common.{IfSome, List, [], ◌∷◌, ◌++◌, length, take, get_or, slice_get, refl, sym, ap, subst}
+-- Entries that are brought to their replicas one by one, and the rows that are kept at a cut.
+use Rattle.std.proofs.Common.{◌≡◌, ◌∙◌, ◌≤◌, ◌<◌, ◌+◌, ◌-◌, ℕ, ℤ, zero, suc, Bool, true, false, cond, Option, Some, None}
+use Rattle.std.proofs.Common.{IfSome, List, [], ◌∷◌, ◌++◌, length, take, drop, get_or, slice_get, refl, sym, ap, subst}
 use Rattle.std.proofs.Common.{append_assoc, append-nil, arith}
 use Rattle.std.specs.Prelude.{is_some}
-use Rattle.std.proofs.lemmas.List.{length-append, take-append-le, take_more}
+use Rattle.std.proofs.lemmas.List.{length-append, take-append-drop, take-append-le, take_more}
 use Rattle.std.proofs.lemmas.Option.{get_or_from_slice_get, slice_get_within}
-use Rattle.std.proofs.lemmas.List.Concat.{flat_map-append}
 use Rattle.std.proofs.Math.Seq.{take-append-add}
 use Rattle.mon_series.proofs.SourceEnds.{source_later}
-use Rattle.mon_value.specs.LeafHistories.{IsWellFormed, entry_rows, is_opened, is_switch, replica_rows}
+use Rattle.mon_series.specs.SlotViews.{SlotView}
+use Rattle.mon_value.specs.LeafHistories.{IsWellFormed, entry_rows, entry_turns, is_opened, is_switch, kept_rows}
+use Rattle.mon_value.specs.LeafHistories.{replica_rows}
+use Rattle.mon_value.specs.Turns.{Turn, after_turns}
 use Rattle.mon_value.specs.declared.histories.Entry.{Entry}
 use Rattle.mon_value.specs.declared.histories.Entry.TheVariants as entry
 use Rattle.mon_value.specs.declared.positions.Range.{Range}
 use Rattle.mon_value.specs.declared.positions.Slot.{Slot}
 use Rattle.mon_value.specs.declared.rows.Row.{Row}
-use Rattle.leaf_store.specs.LeafStates.{opened_rows}
+use Rattle.leaf_store.specs.LeafStates.{opened_rows, slot_view}
 use Rattle.leaf_store.specs.declared.kept.Kept.{Kept}
 use Rattle.leaf_store.specs.declared.replicas.Replica.{Replica}
+use Rattle.leaf_store.specs.within.FromBehind.{Standing, behind_turns, entry_steps, replica_steps}
 use Rattle.leaf_store.specs.within.Replicas.{AllHaveRows, CanPut, CanSettle, IsInTwoParts, HoldsHistory, IsNewReplica}
-use Rattle.leaf_store.specs.within.Replicas.{Replicas}
-use Rattle.leaf_store.specs.within.Replicas.{SettlesEntry, rows_if_kept, entry_of, rows_held, shown_entries}
+use Rattle.leaf_store.specs.within.Replicas.{Replicas, SettlesEntry, entry_of, kept_if_held, rows_held, rows_if_held}
+use Rattle.leaf_store.specs.within.Replicas.{shown_entries}
 use Rattle.leaf_store.specs.within.States.{AllSwitches}
 use Rattle.leaf_store.proofs.EntryLemmas.{shown_count, shown_kept, shown_push, shown_take, there_push}
-use Rattle.mon_value.proofs.LeafHistoryLemmas.{follows, front, no_rows, replica_rows-push}
+use Rattle.leaf_store.proofs.FromBehindLemmas.{behind_turns-append}
+use Rattle.leaf_store.proofs.KeptStepLemmas.{kept_both, steps-push}
+use Rattle.mon_value.proofs.KeptRowLemmas.{in_turn}
+use Rattle.mon_value.proofs.LeafHistoryLemmas.{follows, front}
 use Rattle.leaf_store.proofs.ReplicaLemmas.{switch_rows}
 
 -- the rows that are kept for a replica that was opened are those that the history brought to it
 pub rows_there : (range : Range) (slot : Slot) (replicas : Replicas) (history : List Entry)
     → rows_held replicas range slot ≡ opened_rows range slot history → is_opened range slot history ≡ true
-    → rows_if_kept (rows_held replicas range slot) ≡ replica_rows range slot history
+    → rows_if_held (rows_held replicas range slot) ≡ replica_rows range slot history
 rows_there range slot replicas history held opened =
-    ap rows_if_kept held
-    ∙ ap (λ b. rows_if_kept (cond b (Some (replica_rows range slot history)) None)) opened
+    ap rows_if_held held
+    ∙ ap (λ b. rows_if_held (cond b (Some (slot_view range slot history)) None)) opened
 
 -- ---- one entry
 
@@ -74,11 +80,11 @@ settled old new ks own e rest holds settles =
 
 -- ---- what an entry asks of the replicas
 
-pub opened_held : (b : Bool) (rows : List Row) → b ≡ true → cond b (Some rows) None ≡ Some rows
+pub opened_held : (b : Bool) (rows : SlotView) → b ≡ true → cond b (Some rows) None ≡ Some rows
 opened_held true rows e = refl
 opened_held false rows e = absurd cc
 
-pub unopened_held : (b : Bool) (rows : List Row) → b ≡ false → cond b (Some rows) None ≡ None
+pub unopened_held : (b : Bool) (rows : SlotView) → b ≡ false → cond b (Some rows) None ≡ None
 unopened_held true rows e = absurd cc
 unopened_held false rows e = refl
 
@@ -86,29 +92,38 @@ pub can_put : (replicas : Replicas) (pass : ℕ) (replica : Replica) (row : Row)
     (entry.Put pass replica.range replica.slot row)
     → CanPut replicas replica row
 can_put replicas pass replica row can =
-    let rows = replica_rows replica.range replica.slot can.history in (
-      rows,
-      can.holds replica.range replica.slot ∙ opened_held (is_opened replica.range replica.slot can.history) rows
+    let held = slot_view replica.range replica.slot can.history in (
+      held,
+      can.holds replica.range replica.slot ∙ opened_held (is_opened replica.range replica.slot can.history) held
           can.follows.1,
-      source_later rows row can.follows.2,
+      source_later held.rows row can.follows.2,
     )
+
+pub can_trim : (replicas : Replicas) (pass : ℕ) (replica : Replica) (before : ℤ) → CanSettle replicas
+    (entry.Trim pass replica.range replica.slot before)
+    → is_some (rows_held replicas replica.range replica.slot) ≡ true
+can_trim replicas pass replica before can =
+    ap is_some (can.holds replica.range replica.slot
+    ∙ opened_held (is_opened replica.range replica.slot can.history)
+    (slot_view replica.range replica.slot can.history) can.follows.1)
 
 pub is_new : (replicas : Replicas) (pass : ℕ) (replica : Replica) (rows : List Row) → CanSettle replicas
     (entry.Opened pass replica.range replica.slot rows)
     → IsNewReplica replicas replica
 is_new replicas pass replica rows can =
     can.holds replica.range replica.slot
-    ∙ unopened_held (is_opened replica.range replica.slot can.history) (replica_rows replica.range replica.slot
-    can.history) can.follows.1
+    ∙ unopened_held (is_opened replica.range replica.slot can.history) (slot_view replica.range replica.slot can.history)
+    can.follows.1
 
 -- ---- entries without rows
 
 switch_opens : (range : Range) (slot : Slot) (e : Entry) → is_switch e ≡ true → (is_opened range slot (e ∷ []) ≡ false)
-    × (entry_rows range slot e ≡ [])
+    × (entry_rows range slot e ≡ []) × (entry_turns range slot e ≡ [])
 switch_opens range slot (entry.Opened pass other place rows) is = absurd cc
 switch_opens range slot (entry.Put pass other place row) is = absurd cc
-switch_opens range slot (entry.Down pass) is = (refl, refl)
-switch_opens range slot (entry.Up pass) is = (refl, refl)
+switch_opens range slot (entry.Trim pass other place before) is = absurd cc
+switch_opens range slot (entry.Down pass) is = (refl, refl, refl)
+switch_opens range slot (entry.Up pass) is = (refl, refl, refl)
 
 pub switches_rows : (range : Range) (slot : Slot) (history left : List Entry) → AllSwitches left → opened_rows range
     slot (history ++ left) ≡ opened_rows range slot history
@@ -117,35 +132,9 @@ switches_rows range slot history (e ∷ left) all =
     let none = switch_opens range slot e all.0 in
     ap (opened_rows range slot) (sym (append_assoc history (e ∷ []) left))
     ∙ switches_rows range slot (history ++ e ∷ []) left all.1
-    ∙ switch_rows range slot history e none.0 none.1
+    ∙ switch_rows range slot history e none.0 none.1 none.2
 
--- ---- the rows of entries, one entry more
-
-pub brought_more : (range : Range) (slot : Slot) (before rows more : List Row) (es : List Entry) (e : Entry) → rows
-    ≡ before ++ replica_rows range slot es
-    → more ≡ rows ++ entry_rows range slot e → more ≡ before ++ replica_rows range slot (es ++ e ∷ [])
-brought_more range slot before rows more es e so_far added =
-    added ∙ ap (λ (all : List Row). all ++ entry_rows range slot e) so_far
-    ∙ append_assoc before (replica_rows range slot es) (entry_rows range slot e)
-    ∙ ap (λ (all : List Row). before ++ all) (sym (replica_rows-push range slot es e))
-
-kept_by : (range : Range) (slot : Slot) (before rows more : List Row) (replicas : Replicas) (ks : List Kept) (k : Kept)
-    (o : Option Entry) → entry_of replicas k ≡ o
-    → is_some o ≡ true → IfSome o (λ e. more ≡ rows ++ entry_rows range slot e) → rows ≡ before ++ replica_rows range
-    slot (shown_entries replicas ks)
-    → more ≡ before ++ replica_rows range slot (shown_entries replicas (ks ++ k ∷ []))
-kept_by range slot before rows more replicas ks k None is there added so_far = absurd cc
-kept_by range slot before rows more replicas ks k (Some e) is there added so_far =
-    brought_more range slot before rows more (shown_entries replicas ks) e so_far added
-    ∙ ap (λ (es : List Entry). before ++ replica_rows range slot es) (sym (shown_push replicas ks k e is))
-
-pub kept_more : (range : Range) (slot : Slot) (before rows more : List Row) (replicas : Replicas) (ks : List Kept)
-    (k : Kept) → is_some (entry_of replicas k) ≡ true
-    → IfSome (entry_of replicas k) (λ e. more ≡ rows ++ entry_rows range slot e) → rows ≡ before ++ replica_rows range
-    slot (shown_entries replicas ks)
-    → more ≡ before ++ replica_rows range slot (shown_entries replicas (ks ++ k ∷ []))
-kept_more range slot before rows more replicas ks k there added so_far =
-    kept_by range slot before rows more replicas ks k (entry_of replicas k) refl there added so_far
+-- ---- the next of those that were gone over, from behind
 
 pub there_at : (replicas : Replicas) (ks : List Kept) (i : ℕ) (d : Kept) → AllHaveRows replicas ks → i < length ks
     → is_some (entry_of replicas (get_or ks i d)) ≡ true
@@ -153,58 +142,92 @@ there_at replicas [] i d there below = absurd (omega arith)
 there_at replicas (k ∷ ks) zero d there below = there.0
 there_at replicas (k ∷ ks) (suc i) d there below = there_at replicas ks i d there.1 (omega arith)
 
-pub kept_next : (range : Range) (slot : Slot) (before rows more : List Row) (replicas : Replicas) (ks : List Kept)
-    (i : ℕ) (k : Kept) → AllHaveRows replicas ks → slice_get ks i ≡ Some k
-    → IfSome (entry_of replicas k) (λ e. more ≡ rows ++ entry_rows range slot e)
-    → rows ≡ before ++ replica_rows range slot (shown_entries replicas (take i ks))
-    → more ≡ before ++ replica_rows range slot (shown_entries replicas (take (i + 1) ks))
-kept_next range slot before rows more replicas ks i k there is added so_far =
-    let below = slice_get_within ks i k is in
-    let same : get_or ks i k ≡ k = get_or_from_slice_get ks i k k is in
-    kept_more range slot before rows more replicas (take i ks) k
-    (subst (λ (own : Kept). is_some (entry_of replicas own) ≡ true) same (there_at replicas ks i k there below)) added
-    so_far
-    ∙ ap (λ (es : List Kept). before ++ replica_rows range slot (shown_entries replicas es))
-    (ap (λ (own : Kept). take i ks ++ own ∷ []) (sym same) ∙ sym (take_more ks i k below))
-
 -- a list's first so many and the next one
-pub take_next : (rows : List Row) (n : ℕ) (row : Row) → slice_get rows n ≡ Some row → take (n + 1) rows ≡ take n rows
-    ++ row ∷ []
-take_next rows n row e =
-    take_more rows n row (slice_get_within rows n row e) ∙ ap (λ (r : Row). take n rows ++ r ∷ [])
-    (get_or_from_slice_get rows n row row e)
+pub take_next : {A : Type 0} (items : List A) (n : ℕ) (item : A) → slice_get items n ≡ Some item
+    → take (n + 1) items ≡ take n items ++ item ∷ []
+take_next items n item e =
+    take_more items n item (slice_get_within items n item e) ∙ ap (λ one. take n items ++ one ∷ [])
+    (get_or_from_slice_get items n item item e)
 
--- ---- rows of the first so many entries
+-- a kept entry that is there, by its number
+pub there_by : (replicas : Replicas) (ks : List Kept) (n : ℕ) (k : Kept) → AllHaveRows replicas ks
+    → slice_get ks n ≡ Some k → is_some (entry_of replicas k) ≡ true
+there_by replicas ks n k there is =
+    subst (λ (own : Kept). is_some (entry_of replicas own) ≡ true) (get_or_from_slice_get ks n k k is)
+    (there_at replicas ks n k there (slice_get_within ks n k is))
+
+module _ (range : Range) (slot : Slot) (replicas : Replicas) where
+  abbrev steps_of : List Kept → List Turn
+  steps_of ks = replica_steps range slot (shown_entries replicas ks)
+
+  gathered_by : (ks : List Kept) (n : ℕ) (k : Kept) (o : Option Entry) (old new : Standing) → entry_of replicas k ≡ o
+      → is_some o ≡ true → IfSome o (λ e. new ≡ behind_turns (entry_steps range slot e) old)
+      → slice_get ks n ≡ Some k
+      → behind_turns (steps_of (take (n + 1) ks)) old ≡ behind_turns (steps_of (take n ks)) new
+  gathered_by ks n k None old new is there gathered at = absurd cc
+  gathered_by ks n k (Some e) old new is there gathered at =
+      let front = take n ks in
+      let shown : shown_entries replicas (take (n + 1) ks) ≡ shown_entries replicas front ++ e ∷ [] =
+      ap (shown_entries replicas) (take_next ks n k at) ∙ shown_push replicas front k e is in
+      ap (λ (es : List Entry). behind_turns (replica_steps range slot es) old) shown
+      ∙ ap (λ steps. behind_turns steps old) (steps-push range slot (shown_entries replicas front) e)
+      ∙ behind_turns-append (steps_of front) (entry_steps range slot e) old
+      ∙ ap (behind_turns (steps_of front)) (sym gathered)
+
+  pub gathered_next : (ks : List Kept) (n : ℕ) (k : Kept) (old new : Standing) → AllHaveRows replicas ks
+      → slice_get ks n ≡ Some k
+      → IfSome (entry_of replicas k) (λ e. new ≡ behind_turns (entry_steps range slot e) old)
+      → behind_turns (replica_steps range slot (shown_entries replicas (take (n + 1) ks))) old
+      ≡ behind_turns (replica_steps range slot (shown_entries replicas (take n ks))) new
+  gathered_next ks n k old new there at gathered =
+      gathered_by ks n k (entry_of replicas k) old new refl (there_by replicas ks n k there at) gathered at
+
+-- ---- rows that are kept at a cut
 
 pub rows_early : (range : Range) (slot : Slot) (replicas : Replicas) (ks : List Kept) (left : List Entry) (cut : ℕ)
     → AllHaveRows replicas ks → cut < length ks
-    → replica_rows range slot (shown_entries replicas (take cut ks)) ≡ replica_rows range slot
+    → kept_rows range slot (shown_entries replicas (take cut ks)) ≡ kept_rows range slot
     (take cut (shown_entries replicas ks ++ left))
 rows_early range slot replicas ks left cut there less =
     let within : cut ≤ length (shown_entries replicas ks) = omega (arith, less, shown_count replicas ks there) in
-    ap (replica_rows range slot) ((shown_take replicas ks cut there).0
+    ap (kept_rows range slot) ((shown_take replicas ks cut there).0
     ∙ sym (take-append-le cut (shown_entries replicas ks) left within))
 
-held_all : (b : Bool) (own : List Row) (rows : Option (List Row)) → rows ≡ cond b (Some own) None
-    → (b ≡ false → own ≡ []) → rows_if_kept rows ≡ own
-held_all true own rows is none = ap rows_if_kept is
-held_all false own rows is none = ap rows_if_kept is ∙ sym (none refl)
+-- the first so many entries are a history that a leaf can have
+pub formed_early : (replicas : Replicas) (ks : List Kept) (cut : ℕ) → AllHaveRows replicas ks
+    → IsWellFormed (shown_entries replicas ks) → IsWellFormed (shown_entries replicas (take cut ks))
+formed_early replicas ks cut there formed =
+    let es = shown_entries replicas ks in
+    subst IsWellFormed (sym (shown_take replicas ks cut there).0)
+    (front (take cut es) (drop cut es) (subst IsWellFormed (sym (take-append-drop cut es)) formed))
+
+kept_held : (b : Bool) (own : SlotView) (held : Option SlotView) → held ≡ cond b (Some own) None
+    → (b ≡ false → own.kept ≡ []) → kept_if_held held ≡ own.kept
+kept_held true own held is none = ap kept_if_held is
+kept_held false own held is none = ap kept_if_held is ∙ sym (none refl)
 
 pub rows_late : (range : Range) (slot : Slot) (replicas : Replicas) (ks : List Kept) (left : List Entry) (cut : ℕ)
     → IsInTwoParts replicas ks left → length ks ≤ cut
-    → rows_if_kept (rows_held replicas range slot) ++ replica_rows range slot (take (cut - length ks) left)
-    ≡ replica_rows range slot (take cut (shown_entries replicas ks ++ left))
+    → after_turns (kept_if_held (rows_held replicas range slot))
+    (replica_steps range slot (take (cut - length ks) left))
+    ≡ kept_rows range slot (take cut (shown_entries replicas ks ++ left))
 rows_late range slot replicas ks left cut holds more =
     let first = shown_entries replicas ks in
+    let some = take (cut - length ks) left in
+    let formed = front first left holds.formed in
     let count = shown_count replicas ks holds.there in
-    let all = held_all (is_opened range slot first) (replica_rows range slot first) (rows_held replicas range slot)
+    let all = kept_held (is_opened range slot first) (slot_view range slot first) (rows_held replicas range slot)
     (holds.holds range slot)
-    (λ never. no_rows range slot first (front first left holds.formed) never) in
+    (λ never. let none = (in_turn range slot first formed).none never in λ i. after_turns (none.0 i) (none.1 i)) in
     let sum : cut ≡ length first + (cut - length ks) = omega (arith, more, count) in
-    ap (λ (rows : List Row). rows ++ replica_rows range slot (take (cut - length ks) left)) all
-    ∙ sym (flat_map-append (entry_rows range slot) first (take (cut - length ks) left))
-    ∙ ap (replica_rows range slot) (sym (take-append-add first left (cut - length ks)))
-    ∙ ap (λ n. replica_rows range slot (take n (first ++ left))) (sym sum)
+    let both : IsWellFormed (first ++ some) =
+    front (first ++ some) (drop (cut - length ks) left)
+    (subst IsWellFormed (ap (λ (es : List Entry). first ++ es) (sym (take-append-drop (cut - length ks) left))
+    ∙ sym (append_assoc first some (drop (cut - length ks) left))) holds.formed) in
+    ap (λ (rows : List Row). after_turns rows (replica_steps range slot some)) all
+    ∙ sym (kept_both range slot first some formed both)
+    ∙ ap (kept_rows range slot) (sym (take-append-add first left (cut - length ks)))
+    ∙ ap (λ n. kept_rows range slot (take n (first ++ left))) (sym sum)
 
 -- what is left of a cut behind the entries that are kept is among those that are left
 pub cut_left : (replicas : Replicas) (ks : List Kept) (left : List Entry) (cut : ℕ) → AllHaveRows replicas ks → cut

@@ -3,12 +3,12 @@ use Rattle.std.specs.Prelude.{◌≡◌, ℕ, ◌-◌, Bool, true, ◌&&◌, Lis
 use Rattle.std.specs.Prelude.{if◌then◌else◌, not}
 use Rattle.std.specs.List.Sorted.{IsStrictlyIncreasing}
 use Rattle.mon_schema.specs.Names.{SchemaLists, target_named, metric_named}
-use Rattle.mon_value.specs.LeafHistories.{is_opened, is_switch, replica_rows, series_of}
+use Rattle.mon_value.specs.LeafHistories.{is_opened, is_switch, kept_rows, replica_rows, series_of}
 use Rattle.mon_value.specs.declared.histories.Entry.{Entry}
 use Rattle.mon_value.specs.declared.histories.Entry.TheVariants as entry
 use Rattle.mon_value.specs.declared.positions.Range.{Range}
 use Rattle.mon_value.specs.declared.positions.Slot.{Slot}
-use Rattle.mon_value.specs.declared.rows.Row.{Row}
+use Rattle.mon_series.specs.SlotViews.{SlotView}
 use Rattle.mon_hints.specs.Hints.{series_buckets, history_buckets}
 use Rattle.mon_hints.specs.Formulas.{is_among}
 use Rattle.mon_value.specs.declared.rows.SeriesKey.{SeriesKey}
@@ -18,7 +18,7 @@ use Rattle.mon_value.specs.declared.schemas.TargetSchema.{TargetSchema}
 -- What a leaf's state is seen as, and how its calls change it.
 
 -- the schemas and the number of buckets that a leaf goes by, its history, for how many entries room is promised, and
--- whether each entry with rows was moved into its replica's series
+-- whether each entry for a replica was brought to it
 pub record LeafView : Type 0 where
   pub schemas : SchemaLists
   pub buckets : ℕ
@@ -41,7 +41,7 @@ with_promised leaf promised =
       settled = leaf.settled;
     }
 
--- a leaf whose rows all are in their series
+-- a leaf whose entries all were brought to their replicas
 abbrev pub with_settled : LeafView → LeafView
 with_settled leaf =
     record {
@@ -52,7 +52,7 @@ with_settled leaf =
       settled = true;
     }
 
--- a leaf to which an entry came: one with rows spends a promise, and waits to be settled
+-- a leaf to which an entry came: one for a replica spends a promise, and waits to be settled
 abbrev pub leaf_with_entry : LeafView → Entry → LeafView
 leaf_with_entry leaf entry = record {
   schemas = leaf.schemas;
@@ -62,15 +62,20 @@ leaf_with_entry leaf entry = record {
   settled = is_switch entry && leaf.settled;
 }
 
+-- the rows of a replica: all that came to it, and those of them that are kept
+abbrev pub slot_view : Range → Slot → List Entry → SlotView
+slot_view range slot history = record { rows = replica_rows range slot history; kept = kept_rows range slot history }
+
 -- the rows of a replica, if it was opened
-abbrev pub opened_rows : Range → Slot → List Entry → Option (List Row)
-opened_rows range slot history = if is_opened range slot history then Some (replica_rows range slot history) else None
+abbrev pub opened_rows : Range → Slot → List Entry → Option SlotView
+opened_rows range slot history = if is_opened range slot history then Some (slot_view range slot history) else None
 
 -- behind a history an entry puts a row, whose series has a number among those of its replica
 abbrev pub HasNumber : List Entry → Entry → ℕ → Type 0
 HasNumber history (entry.Opened pass range slot rows) number = ⊥
 HasNumber history (entry.Put pass range slot row) number =
     slice_get (series_of (replica_rows range slot history)) number ≡ Some row.key
+HasNumber history (entry.Trim pass range slot before) number = ⊥
 HasNumber history (entry.Down pass) number = ⊥
 HasNumber history (entry.Up pass) number = ⊥
 

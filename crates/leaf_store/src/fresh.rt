@@ -1,9 +1,9 @@
-// Entries whose rows aren't with their replicas yet.
+// Entries that aren't with their replicas yet.
 ghost use Rattle.std.specs.Prelude.{◌≡◌, ◌≤◌, [], length, take, drop, vec_capacity};
 
 use mon_value::Entry;
 
-/// An entry that waits until its row is brought to its replica. Where the number of the row's series among those of
+/// An entry that waits until it is brought to its replica. Where the number of the row's series among those of
 /// the replica is known, it stands beside it.
 #[derive(Drop)]
 pub(crate) struct FreshEntry {

@@ -1,4 +1,4 @@
-// Entries of a history whose rows are with their replicas.
+// Entries of a history that are with their replicas.
 ghost use Rattle.std.specs.Prelude.{◌≡◌, ◌++◌, ◌∷◌, ◌<◌, ◌≤◌, ◌^◌, [], length, OnOk};
 ghost use Rattle.leaf_store.specs.within.KeptEntries.{entries_of};
 
@@ -7,17 +7,35 @@ use mon_value::{OutOfMemory, RoomListOf};
 use std::alloc::{AllocError, Global};
 use std::marker::Model;
 
-/// An entry whose rows are with their replica: it tells the number of the replica, and which rows of it are its own.
+/// An entry that is with its replica: it tells the number of the replica, and which rows of it are its own.
 #[derive(Clone, Copy)]
 pub(crate) enum Kept {
     /// The replica began with its first so many rows.
-    Opened { pass: u64, replica: u32, count: u32 },
+    Opened {
+        pass: u64,
+        replica: u32,
+        count: u32,
+    },
     /// The row of this number was put.
-    Put { pass: u64, replica: u32, row: u32 },
+    Put {
+        pass: u64,
+        replica: u32,
+        row: u32,
+    },
+    /// The replica's rows that end before a bound were hidden.
+    Trim {
+        pass: u64,
+        replica: u32,
+        before: i64,
+    },
     /// The leaf went down.
-    Down { pass: u64 },
+    Down {
+        pass: u64,
+    },
     /// The leaf came up.
-    Up { pass: u64 },
+    Up {
+        pass: u64,
+    },
 }
 
 /// How many entries there are at most, which is more than go into memory.

@@ -7,7 +7,7 @@ ghost use Rattle.std.specs.Option.{option_copied};
 ghost use Rattle.mon_hints.specs.BucketSets.{HasNone, IsNext, is_set};
 ghost use Rattle.mon_hints.specs.Formulas.{is_among};
 ghost use Rattle.mon_value.specs.LeafHistories.{IsWellFormed, MayFollow, brought_rows, is_down, is_down_after};
-ghost use Rattle.mon_value.specs.LeafHistories.{is_opened, is_switch, replica_rows, IsSource, last_end, points_of};
+ghost use Rattle.mon_value.specs.LeafHistories.{is_opened, is_switch, kept_rows, replica_rows, IsSource, last_end, points_of};
 ghost use Rattle.mon_value.specs.LeafHistories.{series_of};
 ghost use Rattle.mon_hints.specs.Hints.{history_buckets};
 ghost use Rattle.leaf_store.specs.LeafStates.{AreToRaise, key_buckets, is_unraised, new_leaf, opened_rows};
@@ -18,7 +18,7 @@ use crate::fresh::{FreshEntry, behind, clear, in_front};
 use crate::guess::Guess;
 use crate::kept::{Kept, KeptEntries};
 use crate::raised::{key_set, left_of, raise_unknown};
-use crate::replays::{push_all_brought, push_held, put_behind, rows_kept, settle_entries};
+use crate::replays::{push_held, put_behind, rows_kept, settle_entries, turn_all};
 use crate::replicas::{Replica, Replicas, find_next, is_new, rows_of, takes};
 use crate::slot_rows::SlotRows;
 use mon_hints::{BucketSet, Buckets};
@@ -99,6 +99,25 @@ impl LeafState {
     /// replicas, so that few entries ever wait. Where memory runs out nothing changes.
     pub fn reserve(&mut self, range: Range, slot: Slot, _row: &Row) -> Result<(), OutOfMemory>
         requires opened { is_opened range slot self.old.history ≡ true }
+        ensures promised { OnOk result
+            (self.new ≡ with_settled (with_promised self.old (self.old.promised + 1))) }
+        ensures kept { OnErr result (self.new ≡ self.old) }
+    {
+        self.promise_settled()
+    }
+
+    /// Promises the place of one entry by which a replica's rows are hidden, as `reserve` promises that of a row.
+    pub fn reserve_trim(&mut self, range: Range, slot: Slot) -> Result<(), OutOfMemory>
+        requires opened { is_opened range slot self.old.history ≡ true }
+        ensures promised { OnOk result
+            (self.new ≡ with_settled (with_promised self.old (self.old.promised + 1))) }
+        ensures kept { OnErr result (self.new ≡ self.old) }
+    {
+        self.promise_settled()
+    }
+
+    // Promises the place of one entry more, and brings all that was applied to its replicas.
+    fn promise_settled(&mut self) -> Result<(), OutOfMemory>
         ensures promised { OnOk result
             (self.new ≡ with_settled (with_promised self.old (self.old.promised + 1))) }
         ensures kept { OnErr result (self.new ≡ self.old) }
@@ -213,6 +232,10 @@ impl LeafState {
                 },
                 row,
             ),
+            Entry::Trim { range, slot, .. } => self.may_trim(Replica {
+                range: *range,
+                slot: *slot,
+            }),
             Entry::Down { .. } => self.may_switch(false),
             Entry::Up { .. } => self.may_switch(true),
         }
@@ -231,6 +254,21 @@ impl LeafState {
             return false;
         }
         is_new(&self.replicas, replica)
+    }
+
+    // Whether the leaf is up and a replica was opened there.
+    fn may_trim(&self, replica: Replica) -> bool
+        requires settled { IsTrue self.now.settled }
+        ensures formed { IsWellFormed self.now.history }
+        ensures may { IsTrue result → (is_down self.now.history ≡ false)
+            × (is_opened replica.range replica.slot self.now.history ≡ true) }
+        ensures refused { result ≡ false → is_down self.now.history ≡ false
+            → is_opened replica.range replica.slot self.now.history ≡ true → ⊥ }
+    {
+        if self.down {
+            return false;
+        }
+        !is_new(&self.replicas, replica)
     }
 
     // Whether the leaf is up and a row may be put to a replica.
@@ -390,10 +428,10 @@ impl LeafState {
         Ok(buckets)
     }
 
-    /// The rows of a replica in the first so many entries.
+    /// The rows of a replica that are kept after the first so many entries: what a trim behind them hid is still there.
     pub fn rows_at(&self, range: Range, slot: Slot, cut: u64) -> Result<RowList, OutOfMemory>
         requires within { cut ≤ length self.now.history }
-        ensures rows { IfOk result (λ rows. rows ≡ replica_rows range slot (take cut self.now.history)) }
+        ensures rows { IfOk result (λ rows. rows ≡ kept_rows range slot (take cut self.now.history)) }
     {
         let replica = Replica { range, slot };
         let cut = cut as usize;
@@ -403,7 +441,7 @@ impl LeafState {
         let mut rows = RowList::new(self.alloc);
         push_held(self.alloc, &mut rows, &self.replicas, replica)?;
         let left = behind(self.fresh.as_slice(), self.moved);
-        push_all_brought(
+        turn_all(
             self.alloc,
             &mut rows,
             replica,
@@ -421,6 +459,6 @@ fn switch_of(entry: &Entry) -> Option<bool>
     match entry {
         Entry::Down { .. } => Some(true),
         Entry::Up { .. } => Some(false),
-        Entry::Opened { .. } | Entry::Put { .. } => None,
+        Entry::Opened { .. } | Entry::Put { .. } | Entry::Trim { .. } => None,
     }
 }

@@ -2,6 +2,7 @@
 #![tactic(auto)]
 
 mod fresh;
+mod gathered;
 mod guess;
 mod kept;
 mod leaf_state;

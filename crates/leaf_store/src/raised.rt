@@ -90,7 +90,7 @@ fn add_entry(raised: &mut BucketSet, schemas: &Schemas, buckets: u32, entry: &En
     match entry {
         Entry::Opened { rows, .. } => add_rows(raised, schemas, buckets, rows.as_slice()),
         Entry::Put { row, .. } => add_key(raised, schemas, buckets, &row.key),
-        Entry::Down { .. } | Entry::Up { .. } => {}
+        Entry::Trim { .. } | Entry::Down { .. } | Entry::Up { .. } => {}
     }
 }
 

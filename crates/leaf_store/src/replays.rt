@@ -1,23 +1,25 @@
-// How the entries of a history reach replicas, and what they brought to one.
-ghost use Rattle.std.specs.Prelude.{◌≡◌, ◌≤◌, ◌++◌, ◌∷◌, ◌-◌, [], length, drop, take, is_some, IfErr, IfOk, IfSome};
-ghost use Rattle.std.specs.Prelude.{OnErr, OnOk, true};
-ghost use Rattle.mon_value.specs.LeafHistories.{entry_rows, replica_rows};
+// How the entries of a history reach replicas, and what they made of the rows of one.
+ghost use Rattle.std.specs.Prelude.{◌≡◌, ◌≤◌, ◌++◌, ◌∷◌, ◌-◌, [], length, drop, take, is_some, IfErr, IfOk};
+ghost use Rattle.std.specs.Prelude.{IfSome, OnErr, OnOk, true};
+ghost use Rattle.mon_value.specs.LeafHistories.{IsWellFormed, kept_rows};
+ghost use Rattle.mon_value.specs.Turns.{Hides, after_turn, after_turns, ends_before};
 ghost use Rattle.leaf_store.specs.within.FreshEntries.{AreNumbered, HasKeptNumber, entries_in};
+ghost use Rattle.leaf_store.specs.within.FromBehind.{behind_turns, but_last, entry_steps, replica_steps};
 ghost use Rattle.leaf_store.specs.within.KeptEntries.{run_entries};
-ghost use Rattle.leaf_store.specs.within.Replicas.{AllHaveRows, IsInTwoParts, SameHistory, rows_if_kept, entry_of};
-ghost use Rattle.leaf_store.specs.within.Replicas.{rows_held};
-ghost use Rattle.leaf_store.specs.within.Replicas.{shown_entries};
+ghost use Rattle.leaf_store.specs.within.Replicas.{AllHaveRows, IsInTwoParts, SameHistory, entry_of, kept_if_held};
+ghost use Rattle.leaf_store.specs.within.Replicas.{rows_held, shown_entries};
 
 use crate::fresh::FreshEntry;
+use crate::gathered::Gathered;
 use crate::guess::Guess;
 use crate::kept::{Kept, KeptEntries};
 use crate::replicas::{Replica, Replicas, is_same, own_rows, put_entry, rows_of, settle_entry};
 use crate::runs::Run;
-use crate::slot_rows::SlotRows;
 use mon_value::{Entry, OutOfMemory, Row, RowList, TryCopy};
 use std::alloc::Global;
+use std::mem;
 
-/// Brings the rows of the entries from `moved` on to their replicas, and counts on. Where memory runs out, those that
+/// Brings the entries from `moved` on to their replicas, and counts on. Where memory runs out, those that
 /// were brought stay there. The number of a row's series is guessed where it isn't known.
 pub(crate) fn settle_entries(
     alloc: Global,
@@ -48,8 +50,9 @@ pub(crate) fn settle_entries(
     Ok(())
 }
 
-/// Puts the row of an entry to its replica, behind all that is kept. The number of the row's series is guessed where it
-/// isn't known. An entry that puts no row is given back, as all are where memory runs out, and nothing changes then.
+/// Brings an entry that puts a row or hides rows to its replica, behind all that is kept. The number of the row's series
+/// is guessed where it isn't known. Another entry is given back, as all are where memory runs out, and nothing changes
+/// then.
 pub(crate) fn put_behind(
     replicas: &mut Replicas,
     kept: &mut KeptEntries,
@@ -74,7 +77,8 @@ pub(crate) fn put_behind(
     Ok(())
 }
 
-/// Copies of the rows that the first so many kept entries brought to a replica.
+/// Copies of the rows of a replica that are kept after the first so many kept entries. They are gathered from the last
+/// entry back, so that whatever trims there are, each entry and each row is met once.
 pub(crate) fn rows_kept(
     alloc: Global,
     replicas: &Replicas,
@@ -83,56 +87,55 @@ pub(crate) fn rows_kept(
     cut: usize,
 ) -> Result<RowList, OutOfMemory>
     requires there { AllHaveRows replicas.now.entries kept.now.items }
+    requires formed { IsWellFormed (shown_entries replicas.now.entries kept.now.items) }
     requires within { cut ≤ length kept.now.items }
     ensures rows { IfOk result (λ rows.
-        rows ≡ replica_rows replica.range replica.slot (shown_entries replicas.now.entries (take cut kept.now.items))) }
+        rows ≡ kept_rows replica.range replica.slot (shown_entries replicas.now.entries (take cut kept.now.items))) }
 {
     let (runs, last) = kept.runs();
-    let mut rows = RowList::new(alloc);
-    let mut left = cut;
-    for run in runs {
-        left = push_run(alloc, &mut rows, replicas, replica, *run, left)?;
+    let mut found = Gathered::new(alloc);
+    let mut behind = gather_run(&mut found, replicas, replica, last, kept.len() - cut)?;
+    let mut place = runs.len();
+    while place > 0 {
+        place -= 1;
+        behind = gather_run(&mut found, replicas, replica, runs[place], behind)?;
     }
-    push_run(alloc, &mut rows, replicas, replica, last, left)?;
-    Ok(rows)
+    Ok(found.into_rows())
 }
 
-// Adds copies of the rows that the first so many entries of a run brought to a replica, and tells how many entries are
-// left behind the run.
-fn push_run(
-    alloc: Global,
-    rows: &mut RowList,
+// Goes back over the entries of a run, but for the last so many, and tells how many more are to be left out in front of
+// the run.
+fn gather_run(
+    found: &mut Gathered,
     replicas: &Replicas,
     replica: Replica,
     run: Run,
-    left: usize,
+    behind: usize,
 ) -> Result<usize, OutOfMemory>
     requires there { AllHaveRows replicas.now.entries (run_entries run) }
-    ensures added { OnOk result (rows.new ≡ rows.old ++ replica_rows replica.range replica.slot
-        (shown_entries replicas.now.entries (take left (run_entries run)))) }
-    ensures left { IfOk result (λ behind. behind ≡ left - length (run_entries run)) }
+    ensures gathered { OnOk result (found.new ≡ behind_turns (replica_steps replica.range replica.slot
+        (shown_entries replicas.now.entries (but_last behind (run_entries run)))) found.old) }
+    ensures left { IfOk result (λ left. left ≡ behind - length (run_entries run)) }
 {
     let count = run.len();
-    let own = count.min(left);
-    let mut number = 0;
-    while number < own {
-        push_kept(alloc, rows, replicas, replica, run.entry(number))?;
-        number += 1;
+    let mut number = count.saturating_sub(behind);
+    while number > 0 {
+        number -= 1;
+        gather_kept(found, replicas, replica, run.entry(number))?;
     }
-    Ok(left - own)
+    Ok(behind.saturating_sub(count))
 }
 
-// Adds copies of the rows that a kept entry brought to a replica.
-fn push_kept(
-    alloc: Global,
-    rows: &mut RowList,
+// Goes back over a kept entry.
+fn gather_kept(
+    found: &mut Gathered,
     replicas: &Replicas,
     replica: Replica,
     kept: Kept,
 ) -> Result<(), OutOfMemory>
     requires there { is_some (entry_of replicas.now.entries kept) ≡ true }
-    ensures added { OnOk result (IfSome (entry_of replicas.now.entries kept)
-        (λ entry. rows.new ≡ rows.old ++ entry_rows replica.range replica.slot entry)) }
+    ensures gathered { OnOk result (IfSome (entry_of replicas.now.entries kept)
+        (λ entry. found.new ≡ behind_turns (entry_steps replica.range replica.slot entry) found.old)) }
 {
     match kept {
         Kept::Opened {
@@ -140,7 +143,7 @@ fn push_kept(
             count,
             ..
         } => match own_rows(replicas, number as usize, replica) {
-            Some(slot) => push_front(alloc, rows, slot, count as usize),
+            Some(slot) => found.add_front(slot, count as usize),
             None => Ok(()),
         },
         Kept::Put {
@@ -148,14 +151,25 @@ fn push_kept(
             row,
             ..
         } => match own_rows(replicas, number as usize, replica) {
-            Some(slot) => rows.push(slot.row(alloc, row as usize)?),
+            Some(slot) => found.add(slot, row as usize),
+            None => Ok(()),
+        },
+        Kept::Trim {
+            replica: number,
+            before,
+            ..
+        } => match own_rows(replicas, number as usize, replica) {
+            Some(_) => {
+                found.hide(before);
+                Ok(())
+            }
             None => Ok(()),
         },
         Kept::Down { .. } | Kept::Up { .. } => Ok(()),
     }
 }
 
-/// Adds copies of all rows that a replica has.
+/// Adds copies of the rows of a replica that are kept.
 pub(crate) fn push_held(
     alloc: Global,
     rows: &mut RowList,
@@ -163,56 +177,40 @@ pub(crate) fn push_held(
     replica: Replica,
 ) -> Result<(), OutOfMemory>
     ensures added { OnOk result (rows.new ≡ rows.old
-        ++ rows_if_kept (rows_held replicas.now.entries replica.range replica.slot)) }
+        ++ kept_if_held (rows_held replicas.now.entries replica.range replica.slot)) }
 {
     match rows_of(replicas, replica) {
-        Some(slot) => push_front(alloc, rows, slot, slot.rows().len()),
+        Some(slot) => slot.push_kept(alloc, rows),
         None => Ok(()),
     }
 }
 
-// Adds copies of the first so many rows of a replica.
-fn push_front(
-    alloc: Global,
-    rows: &mut RowList,
-    slot: &SlotRows,
-    count: usize,
-) -> Result<(), OutOfMemory>
-    requires within { count ≤ length slot.now }
-    ensures added { OnOk result (rows.new ≡ rows.old ++ take count slot.now) }
-{
-    let mut number = 0;
-    while number < count {
-        rows.push(slot.row(alloc, number)?)?;
-        number += 1;
-    }
-    Ok(())
-}
-
-/// Adds copies of the rows that entries bring to a replica.
-pub(crate) fn push_all_brought(
+/// Does to copies of a replica's rows what entries do to the replica, one by one. It is for the few that wait: each trim
+/// among them goes over the rows.
+pub(crate) fn turn_all(
     alloc: Global,
     rows: &mut RowList,
     replica: Replica,
     entries: &[FreshEntry],
 ) -> Result<(), OutOfMemory>
-    ensures added { OnOk result
-        (rows.new ≡ rows.old ++ replica_rows replica.range replica.slot (entries_in entries.now)) }
+    ensures turned { OnOk result (rows.new
+        ≡ after_turns rows.old (replica_steps replica.range replica.slot (entries_in entries.now))) }
 {
     for fresh in entries {
-        push_brought(alloc, rows, replica, &fresh.entry)?;
+        turn_by(alloc, rows, replica, &fresh.entry)?;
     }
     Ok(())
 }
 
-// Adds copies of the rows that an entry brings to a replica.
-fn push_brought(
+// Does to copies of a replica's rows what an entry does to the replica.
+fn turn_by(
     alloc: Global,
     rows: &mut RowList,
     replica: Replica,
     entry: &Entry,
 ) -> Result<(), OutOfMemory>
-    ensures added { OnOk result (rows.new ≡ rows.old ++ entry_rows replica.range replica.slot entry.now) }
+    ensures turned { OnOk result
+        (rows.new ≡ after_turns rows.old (entry_steps replica.range replica.slot entry.now)) }
 {
     match entry {
         Entry::Opened {
@@ -239,8 +237,47 @@ fn push_brought(
                 slot: *slot,
             },
         ) => { rows.push(row.copy(alloc)?) }
+        Entry::Trim {
+            range,
+            slot,
+            before,
+            ..
+        } if is_same(
+            replica,
+            Replica {
+                range: *range,
+                slot: *slot,
+            },
+        ) => {
+            hide_rows(alloc, rows, *before);
+            Ok(())
+        }
         _ => Ok(()),
     }
+}
+
+// Takes out the rows that end before a bound.
+fn hide_rows(alloc: Global, rows: &mut RowList, before: i64)
+    ensures hidden { rows.new ≡ after_turn rows.old (Hides before) }
+{
+    let own = mem::replace(rows, RowList::new(alloc));
+    *rows = standing_rows(own, before);
+}
+
+// The rows that don't end before a bound.
+fn standing_rows(rows: RowList, before: i64) -> RowList
+    ensures standing { result ≡ after_turn rows (Hides before) }
+{
+    let mut standing = rows.into_vec();
+    standing.retain(|row| !is_hidden(row, before));
+    RowList::from_vec(standing)
+}
+
+// Whether a row ends before a bound.
+fn is_hidden(row: &Row, before: i64) -> bool
+    ensures hidden { result ≡ ends_before before row.now }
+{
+    row.point.end < before
 }
 
 // Adds copies of rows.

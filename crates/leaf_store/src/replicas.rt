@@ -1,12 +1,13 @@
-// The replicas that a leaf keeps, and entries whose rows go to them.
-ghost use Rattle.std.specs.Prelude.{◌≡◌, ◌++◌, ◌∷◌, [], true, false, length, slice_get, option_map, IfErr, IfOk, IfSome, Some};
+// The replicas that a leaf keeps, and entries that go to them.
+ghost use Rattle.std.specs.Prelude.{◌≡◌, true, false, length, slice_get, option_map, IfErr, IfOk, IfSome, Some};
 ghost use Rattle.std.specs.Prelude.{IsTrue, OnErr, OnOk, is_some};
 ghost use Rattle.std.specs.Option.{option_copied};
 ghost use Rattle.mon_value.specs.LeafHistories.{same_replica, IsSource, last_end, points_of, series_of};
+ghost use Rattle.mon_value.specs.Turns.{Adds, Hides};
 ghost use Rattle.leaf_store.specs.within.FreshEntries.{HasKeptNumber};
 ghost use Rattle.leaf_store.specs.within.Replicas.{CanPut, CanSettle, HasSeries, IsLater, IsNewReplica, IsReplicaAdded};
-ghost use Rattle.leaf_store.specs.within.Replicas.{IsPut, SettlesEntry, has_row_of, place_in, rows_held, rows_if};
-ghost use Rattle.leaf_store.specs.within.Replicas.{rows_if_kept};
+ghost use Rattle.leaf_store.specs.within.Replicas.{IsPut, IsTurned, SettlesEntry, has_row_of, place_in, rows_held};
+ghost use Rattle.leaf_store.specs.within.Replicas.{rows_if, rows_if_held, with_turn};
 
 use crate::guess::Guess;
 use crate::kept::Kept;
@@ -78,8 +79,8 @@ pub(crate) fn takes(replicas: &Replicas, replica: Replica, row: &Row) -> bool
 
 // Whether a row ends later than those of its series.
 fn ends_later(slot: &SlotRows, row: &Row) -> bool
-    ensures later { IsTrue result → IsLater row.now slot.now }
-    ensures refused { result ≡ false → IsLater row.now slot.now → ⊥ }
+    ensures later { IsTrue result → IsLater row.now slot.now.rows }
+    ensures refused { result ≡ false → IsLater row.now slot.now.rows → ⊥ }
 {
     match slot.rows().find(&row.key) {
         Some(found) => found.last < row.point.end,
@@ -97,10 +98,10 @@ pub(crate) fn find_series(
     place: &mut usize,
 ) -> Option<KeptSeries>
     ensures has { IfSome result (λ found. HasSeries replicas.now.entries replica key.now) }
-    ensures number { IfSome result (λ found. slice_get (series_of (rows_if_kept
+    ensures number { IfSome result (λ found. slice_get (series_of (rows_if_held
         (rows_held replicas.now.entries replica.range replica.slot))) found.number ≡ Some key.now) }
     ensures last { option_map (λ found. found.last) result ≡ last_end
-        (points_of key.now (rows_if_kept (rows_held replicas.now.entries replica.range replica.slot))) }
+        (points_of key.now (rows_if_held (rows_held replicas.now.entries replica.range replica.slot))) }
 {
     match rows_near(replicas, replica, place) {
         Some(slot) => slot.find(key, guess),
@@ -117,10 +118,10 @@ pub(crate) fn find_next(
     guess: &mut Guess,
 ) -> Option<KeptSeries>
     ensures has { IfSome result (λ found. HasSeries replicas.now.entries replica key.now) }
-    ensures number { IfSome result (λ found. slice_get (series_of (rows_if_kept
+    ensures number { IfSome result (λ found. slice_get (series_of (rows_if_held
         (rows_held replicas.now.entries replica.range replica.slot))) found.number ≡ Some key.now) }
     ensures last { option_map (λ found. found.last) result ≡ last_end
-        (points_of key.now (rows_if_kept (rows_held replicas.now.entries replica.range replica.slot))) }
+        (points_of key.now (rows_if_held (rows_held replicas.now.entries replica.range replica.slot))) }
 {
     let found = find_series(replicas, replica, key, guess.next, &mut guess.place)?;
     guess.follow(found.number);
@@ -140,8 +141,8 @@ pub(crate) fn own_rows(replicas: &Replicas, number: usize, replica: Replica) -> 
     }
 }
 
-/// Brings copies of an entry's rows to its replica, and gives the entry as it is kept then. Where memory runs out the
-/// replicas stay. The number of a row's series is guessed where it isn't known.
+/// Brings an entry to its replica, with copies of its rows, and gives the entry as it is kept then. Where memory runs
+/// out the replicas stay. The number of a row's series is guessed where it isn't known.
 pub(crate) fn settle_entry(
     alloc: Global,
     replicas: &mut Replicas,
@@ -187,6 +188,23 @@ pub(crate) fn settle_entry(
                 pass: *pass,
                 replica: put.replica,
                 row: put.row,
+            })
+        }
+        Entry::Trim {
+            pass,
+            range,
+            slot,
+            before,
+        } => {
+            let replica = Replica {
+                range: *range,
+                slot: *slot,
+            };
+            let number = hide(replicas, replica, *before, guess)?;
+            Ok(Kept::Trim {
+                pass: *pass,
+                replica: number,
+                before: *before,
             })
         }
         Entry::Down { pass } => Ok(Kept::Down { pass: *pass }),
@@ -236,12 +254,12 @@ pub(crate) fn put_copy(
     guess: Guess,
 ) -> Result<RowPut, OutOfMemory>
     requires numbered { IfSome series (λ number. slice_get (series_of
-        (rows_if_kept (rows_held replicas.old.entries replica.range replica.slot))) number ≡ Some row.now.key) }
+        (rows_if_held (rows_held replicas.old.entries replica.range replica.slot))) number ≡ Some row.now.key) }
     requires later { CanPut replicas.old.entries replica row.now }
     ensures put { IfOk result (λ put.
         IsPut replicas.old.entries replicas.new.entries replica row.now put.replica put.row) }
     ensures known { IfOk result (λ put. put.known ≡ has_row_of row.now.key
-        (rows_if_kept (rows_held replicas.old.entries replica.range replica.slot))) }
+        (rows_if_held (rows_held replicas.old.entries replica.range replica.slot))) }
     ensures stayed { OnErr result (replicas.new.entries ≡ replicas.old.entries) }
 {
     Ok(put(replicas, replica, row.copy(alloc)?, series, guess)?)
@@ -257,12 +275,12 @@ pub(crate) fn put(
     guess: Guess,
 ) -> Result<RowPut, AllocFailed<Row>>
     requires numbered { IfSome series (λ number. slice_get (series_of
-        (rows_if_kept (rows_held replicas.old.entries replica.range replica.slot))) number ≡ Some row.key) }
+        (rows_if_held (rows_held replicas.old.entries replica.range replica.slot))) number ≡ Some row.key) }
     requires later { CanPut replicas.old.entries replica row }
     ensures put { IfOk result (λ put.
         IsPut replicas.old.entries replicas.new.entries replica row put.replica put.row) }
     ensures known { IfOk result (λ put. put.known ≡ has_row_of row.key
-        (rows_if_kept (rows_held replicas.old.entries replica.range replica.slot))) }
+        (rows_if_held (rows_held replicas.old.entries replica.range replica.slot))) }
     ensures stayed { OnErr result (replicas.new.entries ≡ replicas.old.entries) }
     ensures value_returned { IfErr result (λ failed. failed.value ≡ row) }
 {
@@ -283,9 +301,35 @@ pub(crate) fn put(
     })
 }
 
-/// Puts the row of an entry to its replica, and gives the entry as it is kept then. The number of the row's series is
-/// guessed where it isn't known. An entry that puts no row is given back, as all are where memory runs out, and the
-/// replicas stay.
+/// Hides the rows of a replica that end before a bound, and gives the replica's number. No memory is taken; it fails only
+/// where the number is too great.
+pub(crate) fn hide(
+    replicas: &mut Replicas,
+    replica: Replica,
+    before: i64,
+    guess: Guess,
+) -> Result<u32, OutOfMemory>
+    requires held { is_some (rows_held replicas.old.entries replica.range replica.slot) ≡ true }
+    ensures hidden { IfOk result (λ number.
+        IsTurned replicas.old.entries replicas.new.entries replica (Hides before) number) }
+    ensures stayed { OnErr result (replicas.new.entries ≡ replicas.old.entries) }
+{
+    let Some(at) = place_of(replicas, replica, guess.place) else {
+        unreachable!();
+    };
+    let Ok(number) = u32::try_from(at) else {
+        return Err(AllocError);
+    };
+    let Some(slot) = replicas.get_index_mut(at) else {
+        unreachable!();
+    };
+    slot.hide(before);
+    Ok(number)
+}
+
+/// Brings an entry that puts a row or hides rows to its replica, and gives the entry as it is kept then. The number of
+/// the row's series is guessed where it isn't known. Another entry is given back, as all are where memory runs out, and
+/// the replicas stay.
 pub(crate) fn put_entry(
     replicas: &mut Replicas,
     entry: Entry,
@@ -317,6 +361,27 @@ pub(crate) fn put_entry(
                     range,
                     slot,
                     row: failed.value,
+                }),
+            }
+        }
+        Entry::Trim {
+            pass,
+            range,
+            slot,
+            before,
+        } => {
+            let replica = Replica { range, slot };
+            match hide(replicas, replica, before, guess) {
+                Ok(number) => Ok(Kept::Trim {
+                    pass,
+                    replica: number,
+                    before,
+                }),
+                Err(_) => Err(Entry::Trim {
+                    pass,
+                    range,
+                    slot,
+                    before,
                 }),
             }
         }
@@ -353,11 +418,11 @@ fn put_in(
     series: Option<u32>,
     guess: u32,
 ) -> Result<(u32, bool), AllocFailed<Row>>
-    requires numbered { IfSome series (λ number. slice_get (series_of slot.old) number ≡ Some row.key) }
-    requires later { IsLater row slot.old }
-    ensures place { IfOk result (λ at. at.0 ≡ length slot.old) }
-    ensures known { IfOk result (λ at. at.1 ≡ has_row_of row.key slot.old) }
-    ensures pushed { OnOk result (slot.new ≡ slot.old ++ row ∷ []) }
+    requires numbered { IfSome series (λ number. slice_get (series_of slot.old.rows) number ≡ Some row.key) }
+    requires later { IsLater row slot.old.rows }
+    ensures place { IfOk result (λ at. at.0 ≡ length slot.old.rows) }
+    ensures known { IfOk result (λ at. at.1 ≡ has_row_of row.key slot.old.rows) }
+    ensures pushed { OnOk result (slot.new ≡ with_turn (Adds row) slot.old) }
     ensures kept { OnErr result (slot.new ≡ slot.old) }
     ensures value_returned { IfErr result (λ failed. failed.value ≡ row) }
 {

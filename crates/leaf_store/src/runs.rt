@@ -23,6 +23,12 @@ pub(crate) enum Run {
         count: u32,
         pass: u64,
     },
+    /// The replica's rows that end before a bound were hidden.
+    Trim {
+        replica: u32,
+        before: i64,
+        pass: u64,
+    },
     /// The leaf went down.
     Down {
         pass: u64,
@@ -68,6 +74,15 @@ impl Run {
                 last: row,
                 pass,
             },
+            Kept::Trim {
+                pass,
+                replica,
+                before,
+            } => Run::Trim {
+                replica,
+                before,
+                pass,
+            },
             Kept::Down { pass } => Run::Down { pass },
             Kept::Up { pass } => Run::Up { pass },
         }
@@ -79,7 +94,7 @@ impl Run {
     {
         match entry {
             Kept::Put { pass, replica, row } => self.with_put(pass, replica, row),
-            Kept::Opened { .. } | Kept::Down { .. } | Kept::Up { .. } => None,
+            Kept::Opened { .. } | Kept::Trim { .. } | Kept::Down { .. } | Kept::Up { .. } => None,
         }
     }
 
@@ -112,7 +127,7 @@ impl Run {
     {
         match self {
             Run::Puts { first, last, .. } => (last as usize + 1).saturating_sub(first as usize),
-            Run::Opened { .. } | Run::Down { .. } | Run::Up { .. } => 1,
+            Run::Opened { .. } | Run::Trim { .. } | Run::Down { .. } | Run::Up { .. } => 1,
         }
     }
 
@@ -140,6 +155,15 @@ impl Run {
                 pass,
                 replica,
                 count,
+            },
+            Run::Trim {
+                replica,
+                before,
+                pass,
+            } => Kept::Trim {
+                pass,
+                replica,
+                before,
             },
             Run::Down { pass } => Kept::Down { pass },
             Run::Up { pass } => Kept::Up { pass },

@@ -18,7 +18,7 @@ use Rattle.typed_trees.specs.Nodes.{TypedTree}
 use Rattle.typed_trees.specs.declared.plans.Plan.{Plan}
 use Rattle.query_traces.specs.Founds.{IsFoundBetween}
 use Rattle.query_traces.specs.Rounds.{typed_of}
-use Rattle.query_traces.specs.Traces.{AreWider, IsFreshSince, IsReadRightly, IsTraceBetween, Lengths}
+use Rattle.query_traces.specs.Traces.{AreWider, IsFreshBetween, IsReadRightly, IsTraceBetween, Lengths}
 use Rattle.query_traces.specs.Traces.{lengths_of, source_of}
 use Rattle.query_traces.specs.declared.answers.Answer.{Answer}
 use Rattle.query_traces.specs.declared.answers.Trace.{Trace}
@@ -51,7 +51,7 @@ module _ (config : Config) (text : List ℕ) (moment : ℤ) (before mid : Knowle
       → IsFoundBetween earlier later more found)
       (stays_fresh : (typed : TypedTree) (moment : ℤ) (from to earlier later : Lengths) (seen more : Histories)
       (trace : Trace) → AreWider from to earlier later seen more → IsTraceBetween typed moment from to seen trace
-      → IsFreshSince from seen trace → IsFreshSince earlier more trace)
+      → IsFreshBetween from to seen trace → IsFreshBetween earlier later more trace)
       (stays_read : (typed : TypedTree) (moment : ℤ) (from to earlier later : Lengths) (seen more : Histories)
       (trace : Trace) (plan : Plan) (buckets_of : SeriesKey → List ℕ) (leaf : Leaf)
       → AreWider from to earlier later seen more → IsTraceBetween typed moment from to seen trace
@@ -76,10 +76,13 @@ module _ (config : Config) (text : List ℕ) (moment : ℤ) (before mid : Knowle
           answer.trace) (sym (marks after.seen))
           (stays its_type moment (lengths_of before.seen) (lengths_of mid.seen) (lengths_of before.seen)
           (lengths_of after.seen) mid.seen after.seen answer.trace wide ended.ends.rightly.of));
-      fresh = subst (λ (low : Lengths). IsFreshSince low after.seen answer.trace) (sym (marks before.seen))
+      fresh = subst (λ (low : Lengths). IsFreshBetween low (marked (seen_of after.seen)) after.seen answer.trace)
+          (sym (marks before.seen))
+          (subst (λ (high : Lengths). IsFreshBetween (lengths_of before.seen) high after.seen answer.trace)
+          (sym (marks after.seen))
           (stays_fresh its_type moment (lengths_of before.seen) (lengths_of mid.seen) (lengths_of before.seen)
           (lengths_of after.seen) mid.seen after.seen answer.trace wide ended.ends.rightly.of
-          ended.ends.rightly.fresh);
+          ended.ends.rightly.fresh));
       down = subst (λ (low : Lengths). AllByRecursion (IsFoundBetween low (marked (seen_of after.seen)) after.seen)
           answer.trace.down) (sym (marks before.seen))
           (subst (λ (high : Lengths). AllByRecursion (IsFoundBetween (lengths_of before.seen) high after.seen)

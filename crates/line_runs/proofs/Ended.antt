@@ -26,7 +26,7 @@ use Rattle.typed_trees.specs.Nodes.{TypedTree}
 use Rattle.typed_trees.specs.declared.plans.Plan.{Plan}
 use Rattle.query_traces.specs.Founds.{IsFoundBetween}
 use Rattle.query_traces.specs.Rounds.{typed_of}
-use Rattle.query_traces.specs.Traces.{AreWider, IsFreshSince, IsReadRightly, IsTraceBetween, Lengths}
+use Rattle.query_traces.specs.Traces.{AreWider, IsFreshBetween, IsReadRightly, IsTraceBetween, Lengths}
 use Rattle.query_traces.specs.Traces.{lengths_of, source_of}
 use Rattle.query_traces.specs.declared.answers.Answer.{Answer}
 use Rattle.query_traces.specs.declared.answers.Trace.{Trace}
@@ -122,7 +122,7 @@ module _ (store : Setting) (config : Config) (before : Knowledge)
       → IsFoundBetween earlier later more found)
       (stays_fresh : (typed : TypedTree) (moment : ℤ) (from to earlier later : Lengths) (seen more : Histories)
       (trace : Trace) → AreWider from to earlier later seen more → IsTraceBetween typed moment from to seen trace
-      → IsFreshSince from seen trace → IsFreshSince earlier more trace)
+      → IsFreshBetween from to seen trace → IsFreshBetween earlier later more trace)
       (stays_read : (typed : TypedTree) (moment : ℤ) (from to earlier later : Lengths) (seen more : Histories)
       (trace : Trace) (plan : Plan) (buckets_of : SeriesKey → List ℕ) (leaf : Leaf)
       → AreWider from to earlier later seen more → IsTraceBetween typed moment from to seen trace

@@ -42,7 +42,7 @@ use Rattle.run_traces.specs.LineSwitches.{is_fed, is_row}
 use Rattle.ingest_queue.specs.declared.refusals.RowRefusal.{RowRefusal}
 use Rattle.run_traces.proofs.ListFacts.{all_as, all_at, any_at, both_all, made_kept}
 use Rattle.run_traces.proofs.Paired.{among_all}
-use Rattle.run_traces.proofs.RowFacts.{fed_row, lies_as, row_joined, row_key}
+use Rattle.run_traces.proofs.RowFacts.{fed_row, lies_as, lies_by, row_joined, row_key}
 use Rattle.line_runs.proofs.FeedRows.{IsNone, any_first, any_last, behind_stands, book_rows, fed_itself}
 use Rattle.line_runs.proofs.FeedRows.{kept_all, rows_dropped, source_behind}
 use Rattle.run_traces.proofs.Causes.{fed_more}
@@ -83,10 +83,6 @@ came_both a b c p q =
     ∙ ap (λ w. drop (length a) b ++ w) (sym (drop_prefix b c q))
 
 -- ---- one row's entries
-
-lies_by : (config : Config) (range : Range) (row : Row) (other : Range) → range_of_key config row.key ≡ Some other
-    → lies_in config range row ≡ same_range range other
-lies_by config range row other is = rw is refl
 
 module _ (config : Config) (pass : ℕ) (range : Range) (row : Row) (ack : Ack) where
   abbrev Mine : BookEntry → Type 0

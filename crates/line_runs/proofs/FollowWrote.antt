@@ -1,10 +1,9 @@
 -- How a line that follows a query ends, by how its query did and what was gathered then.
-use Rattle.std.proofs.Common.{◌≡◌, ◌∙◌, ◌<◌, ◌≤◌, ℕ, ℤ, true, false, List, [], ◌∷◌, length, Ok, Err, refl, sym, ap, subst}
+use Rattle.std.proofs.Common.{◌≡◌, ◌∙◌, ◌<◌, ◌≤◌, ℕ, ℤ, false, List, [], ◌∷◌, length, Ok, Err, refl, sym, ap, subst}
 use Rattle.std.specs.Prelude.{IfOk, Result}
 use Rattle.std.specs.List.{AllByRecursion, flat_map}
-use Rattle.history_book.specs.declared.views.History.{History}
 use Rattle.know.specs.Knowledge.{Knowledge}
-use Rattle.line_runs.proofs.Causes.{HasItsCause, LiesBetween, founds_between}
+use Rattle.line_runs.proofs.Causes.{LiesBetween, founds_between}
 use Rattle.line_runs.proofs.Ended.{look, owns_then, same_rows}
 use Rattle.line_runs.proofs.Growing.{forth, marks, seen_of}
 use Rattle.line_runs.proofs.Wrote.{OwnsAsMuch, between, keeps, nothing_more, refused_wrote}
@@ -31,9 +30,8 @@ use Rattle.mon_value.specs.declared.rows.Row.{Row}
 use Rattle.mon_value.specs.declared.rows.SeriesKey.{SeriesKey}
 use Rattle.owners.specs.Puts.{pass_of}
 use Rattle.query_texts.specs.TextTypes.{text_type}
-use Rattle.query_texts.specs.declared.faults.TextFault.{TextFault}
 use Rattle.query_traces.specs.Founds.{IsFoundBetween}
-use Rattle.query_traces.specs.Traces.{AreWider, IsFreshSince, IsReadRightly, IsTraceBetween, Lengths, cut_of, lengths_of}
+use Rattle.query_traces.specs.Traces.{AreWider, IsFreshBetween, IsReadRightly, IsTraceBetween, Lengths, cut_of, lengths_of}
 use Rattle.query_traces.specs.Traces.{source_of}
 use Rattle.query_traces.specs.declared.answers.Answer.{Answer}
 use Rattle.query_traces.specs.declared.answers.Trace.{Trace}
@@ -204,7 +202,7 @@ module _ (store : Setting) (config : Config) (before : Knowledge)
     → IsFoundBetween earlier later more found)
     (stays_fresh : (typed : TypedTree) (moment : ℤ) (from to earlier later : Lengths) (seen more : Histories)
     (trace : Trace) → AreWider from to earlier later seen more → IsTraceBetween typed moment from to seen trace
-    → IsFreshSince from seen trace → IsFreshSince earlier more trace)
+    → IsFreshBetween from to seen trace → IsFreshBetween earlier later more trace)
     (stays_read : (typed : TypedTree) (moment : ℤ) (from to earlier later : Lengths) (seen more : Histories)
     (trace : Trace) (plan : Plan) (buckets_of : SeriesKey → List ℕ) (leaf : Leaf)
     → AreWider from to earlier later seen more → IsTraceBetween typed moment from to seen trace

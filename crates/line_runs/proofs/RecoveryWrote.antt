@@ -23,7 +23,7 @@ use Rattle.mon_store.specs.Recoveries.{IsMoved, IsNotRecovered, IsNotRecoveredAs
 use Rattle.mon_store.specs.Recoveries.{WereFoundDown, opened}
 use Rattle.mon_store.specs.Writes.{WasFoundSo, new_entries, only_in}
 use Rattle.mon_topo.proofs.FrontLemmas.{begins_length}
-use Rattle.mon_topo.specs.RangeHistories.{acknowledged_rows, serving, is_avoided}
+use Rattle.mon_topo.specs.RangeHistories.{left_rows, serving, is_avoided}
 use Rattle.mon_value.specs.Histories.{leaf_history, range_history, same_leaf, same_range, same_slot}
 use Rattle.mon_value.specs.LeafHistories.{same_replica}
 use Rattle.mon_value.specs.declared.histories.Entry.TheVariants as entry
@@ -154,7 +154,7 @@ module _ (config : Config) (what : LineForm) (recovery : Recovery) (asked : reco
 
   module _ (slot : Slot) (recovered : IsRecovered config range leaf before after slot) where
     abbrev rows : List Row
-    rows = acknowledged_rows recovered.history
+    rows = left_rows recovered.history
 
     abbrev on_leaf : BookEntry
     on_leaf = one.Leaf (entry.Opened (pass_of before) range slot rows)

@@ -47,6 +47,7 @@ module _ (held : SchemaLists) (zones : List ZoneSpec) where
       if_at_home range (same_replica range slot other place) (row ∷ [])
       (λ same.
       (subst (λ (r : Range). IsAtHome held zones r row) (sym (parts_same range other slot place same).0) home, tt))
+  entry_at_home range slot (entry.Trim pass other place before) home = tt
   entry_at_home range slot (entry.Down pass) home = tt
   entry_at_home range slot (entry.Up pass) home = tt
 

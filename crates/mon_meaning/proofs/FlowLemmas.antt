@@ -1,5 +1,5 @@
 -- Points that flow into an alignment are of series that meet its fetch.
-use Rattle.std.proofs.Common.{◌≡◌, ◌∙◌, Bool, true, false, Option, Some, None, refl, ap}
+use Rattle.std.proofs.Common.{◌≡◌, ◌∙◌, true, Option, Some, None, refl}
 use Rattle.std.proofs.lemmas.Bool.{and_from, and_parts, false≢true}
 use Rattle.mon_value.proofs.SameLemmas.{same_text-Decides}
 use Rattle.mon_value.specs.Same.{same_text}

@@ -5,10 +5,12 @@ pub mod FetchLemmas
 pub mod FilterLemmas
 mod FilterSteps
 pub mod FlowLemmas
+pub mod HeldSeriesLemmas
 mod ItemLemmas
 mod KeptLemmas
 pub mod KeyCells
 pub mod KeyOrders
+mod LeftOutLemmas
 mod MapGroups
 pub mod MeaningOrderLemmas
 mod MetricSeries

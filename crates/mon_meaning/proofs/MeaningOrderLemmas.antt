@@ -1,5 +1,5 @@
 -- What a query means, and how much work it is: the same over rows whose series stand in another order.
-use Rattle.std.proofs.Common.{◌≡◌, ℕ, ℤ, Bool, true, false, ◌||◌, cond, List, [], ◌∷◌, map, Result, Ok, Err, refl, sym}
+use Rattle.std.proofs.Common.{◌≡◌, ℤ, Bool, true, false, ◌||◌, cond, List, [], ◌∷◌, map, refl, sym}
 use Rattle.std.proofs.Common.{ap, subst, ◌∙◌, arith}
 use Rattle.std.specs.Prelude.{IsPermutation}
 use Rattle.std.specs.List.{AllByRecursion}
@@ -11,19 +11,14 @@ use Rattle.mon_value.proofs.SourceLemmas.{has_series}
 use Rattle.mon_value.specs.Same.{same_series}
 use Rattle.mon_value.specs.LeafHistories.{points_by_series, points_of, rows_of}
 use Rattle.mon_value.specs.declared.grids.Grid.{Grid}
-use Rattle.mon_value.specs.declared.refusals.Refusal.{Refusal}
-use Rattle.mon_value.specs.declared.refusals.Refusal.TheVariants as refusal
 use Rattle.mon_value.specs.declared.rows.Point.{Point}
 use Rattle.mon_value.specs.declared.rows.Row.{Row}
 use Rattle.mon_value.specs.declared.rows.SeriesKey.{SeriesKey}
-use Rattle.mon_value.specs.declared.tables.Table.{Table}
 use Rattle.mon_value.specs.declared.tables.TimedRow.{TimedRow}
 use Rattle.mql_ast.specs.Rows.{predicate_truth}
 use Rattle.typed_trees.specs.Meaning.{load, grid_of, meaning, value_row}
 use Rattle.typed_trees.specs.Nodes as node
 use Rattle.typed_trees.specs.Nodes.{NodeTree, TypedTree, columns_of}
-use Rattle.mon_meaning.specs.Central.{IsAnswer, IsRefusedBy}
-use Rattle.mon_meaning.specs.declared.meter.OverLimit.{OverLimit}
 use Rattle.mon_meaning.specs.within.SeriesMeaning.{SeriesGroup, load_by_series, reach_count, rows_by_series}
 use Rattle.mon_meaning.specs.within.SeriesMeaning.{series_rows}
 use Rattle.mon_meaning.proofs.FilterLemmas.{filter_map-permutation}
@@ -32,49 +27,49 @@ use Rattle.mon_meaning.proofs.PartLemmas.{part_load, part_rows}
 
 -- ---- rows and loads of trees
 
-rows_in_order : (grid : Grid) (tree : NodeTree) (series others : List SeriesGroup) → IsPermutation series others
+pub tree_rows_in_order : (grid : Grid) (tree : NodeTree) (series others : List SeriesGroup) → IsPermutation series others
     → IsPermutation (rows_by_series grid tree series) (rows_by_series grid tree others)
-rows_in_order grid (node.Fetch info schema metric) series others same = IsPermutation-refl []
-rows_in_order grid (node.Filter info by input) series others same =
+tree_rows_in_order grid (node.Fetch info schema metric) series others same = IsPermutation-refl []
+tree_rows_in_order grid (node.Filter info by input) series others same =
     filter-permutation (λ (row : TimedRow). predicate_truth by info.columns row.cells) _ _
-    (rows_in_order grid input series others same)
-rows_in_order grid (node.Align info by input) series others same =
+    (tree_rows_in_order grid input series others same)
+tree_rows_in_order grid (node.Align info by input) series others same =
     flat_map-permutation (series_rows grid by input) series others same
-rows_in_order grid (node.GroupBy info by with input) series others same =
-    group_rows-permutation by with _ _ (rows_in_order grid input series others same)
-rows_in_order grid (node.Value info items input) series others same =
-    filter_map-permutation (value_row (columns_of input) items) _ _ (rows_in_order grid input series others same)
-rows_in_order grid (node.Top info most column input) series others same =
-    top_rows-permutation most column _ _ (rows_in_order grid input series others same)
-rows_in_order grid (node.Join info left right) series others same =
-    pairs-permutation (columns_of left) (columns_of right) _ _ _ _ (rows_in_order grid left series others same)
-    (rows_in_order grid right series others same)
-rows_in_order grid (node.Union info left right) series others same =
-    IsPermutation-append _ _ _ _ (rows_in_order grid left series others same)
-    (rows_in_order grid right series others same)
+tree_rows_in_order grid (node.GroupBy info by with input) series others same =
+    group_rows-permutation by with _ _ (tree_rows_in_order grid input series others same)
+tree_rows_in_order grid (node.Value info items input) series others same =
+    filter_map-permutation (value_row (columns_of input) items) _ _ (tree_rows_in_order grid input series others same)
+tree_rows_in_order grid (node.Top info most column input) series others same =
+    top_rows-permutation most column _ _ (tree_rows_in_order grid input series others same)
+tree_rows_in_order grid (node.Join info left right) series others same =
+    pairs-permutation (columns_of left) (columns_of right) _ _ _ _ (tree_rows_in_order grid left series others same)
+    (tree_rows_in_order grid right series others same)
+tree_rows_in_order grid (node.Union info left right) series others same =
+    IsPermutation-append _ _ _ _ (tree_rows_in_order grid left series others same)
+    (tree_rows_in_order grid right series others same)
 
-loads_in_order : (grid : Grid) (tree : NodeTree) (series others : List SeriesGroup) → IsPermutation series others
+pub tree_loads_in_order : (grid : Grid) (tree : NodeTree) (series others : List SeriesGroup) → IsPermutation series others
     → load_by_series grid tree series ≡ load_by_series grid tree others
-loads_in_order grid (node.Fetch info schema metric) series others same = refl
-loads_in_order grid (node.Filter info by input) series others same = loads_in_order grid input series others same
-loads_in_order grid (node.Align info by input) series others same =
+tree_loads_in_order grid (node.Fetch info schema metric) series others same = refl
+tree_loads_in_order grid (node.Filter info by input) series others same = tree_loads_in_order grid input series others same
+tree_loads_in_order grid (node.Align info by input) series others same =
     omega (
       arith,
       sum_by-IsPermutation (reach_count grid by input) series others same,
-      length_permutation _ _ (rows_in_order grid (node.Align info by input) series others same),
+      length_permutation _ _ (tree_rows_in_order grid (node.Align info by input) series others same),
     )
-loads_in_order grid (node.GroupBy info by with input) series others same = loads_in_order grid input series others same
-loads_in_order grid (node.Value info items input) series others same = loads_in_order grid input series others same
-loads_in_order grid (node.Top info most column input) series others same = loads_in_order grid input series others same
-loads_in_order grid (node.Join info left right) series others same =
+tree_loads_in_order grid (node.GroupBy info by with input) series others same = tree_loads_in_order grid input series others same
+tree_loads_in_order grid (node.Value info items input) series others same = tree_loads_in_order grid input series others same
+tree_loads_in_order grid (node.Top info most column input) series others same = tree_loads_in_order grid input series others same
+tree_loads_in_order grid (node.Join info left right) series others same =
     omega (
       arith,
-      loads_in_order grid left series others same,
-      loads_in_order grid right series others same,
-      length_permutation _ _ (rows_in_order grid (node.Join info left right) series others same),
+      tree_loads_in_order grid left series others same,
+      tree_loads_in_order grid right series others same,
+      length_permutation _ _ (tree_rows_in_order grid (node.Join info left right) series others same),
     )
-loads_in_order grid (node.Union info left right) series others same =
-    omega (arith, loads_in_order grid left series others same, loads_in_order grid right series others same)
+tree_loads_in_order grid (node.Union info left right) series others same =
+    omega (arith, tree_loads_in_order grid left series others same, tree_loads_in_order grid right series others same)
 
 -- ---- queries
 
@@ -92,13 +87,13 @@ module _ (typed : TypedTree) (some others : List Row) (moment : ℤ)
   pub meaning_in_order : IsPermutation (meaning typed some moment) (meaning typed others moment)
   meaning_in_order =
       IsPermutation-trans _ _ _ (by_series some)
-      (IsPermutation-trans _ _ _ (rows_in_order grid typed.tree (points_by_series some) (points_by_series others) same)
+      (IsPermutation-trans _ _ _ (tree_rows_in_order grid typed.tree (points_by_series some) (points_by_series others) same)
       (IsPermutation-sym (meaning typed others moment) _ (by_series others)))
 
   pub load_in_order : load typed some moment ≡ load typed others moment
   load_in_order =
       sym (part_load grid typed.tree (points_by_series some) some refl)
-      ∙ loads_in_order grid typed.tree (points_by_series some) (points_by_series others) same
+      ∙ tree_loads_in_order grid typed.tree (points_by_series some) (points_by_series others) same
       ∙ part_load grid typed.tree (points_by_series others) others refl
 
 -- ---- what holds of each row

@@ -6,9 +6,10 @@ use Rattle.std.proofs.lemmas.List.{length-append, length-map}
 use Rattle.std.proofs.lemmas.List.Elements.{filter_agree}
 use Rattle.std.proofs.lemmas.List.Sums.{sum_by-cons}
 use Rattle.mon_series.proofs.MetricLemmas.{keys_in, keys_of_groups}
+use Rattle.mon_series.specs.HeldSeries.{all_series, held_series}
 use Rattle.mon_series.specs.MetricNumbers.{metric_numbers, numbers_from}
 use Rattle.mon_value.specs.Same.{same_text}
-use Rattle.mon_value.specs.LeafHistories.{points_by_series, points_of, series_of}
+use Rattle.mon_value.specs.LeafHistories.{points_of, series_of}
 use Rattle.mon_value.specs.declared.aligners.Aligner.{Aligner}
 use Rattle.mon_value.specs.declared.grids.Grid.{Grid}
 use Rattle.mon_value.specs.declared.rows.Row.{Row}
@@ -18,6 +19,7 @@ use Rattle.mon_meaning.specs.within.MetSeries.{is_counted, met_count}
 use Rattle.mon_meaning.specs.within.Reach.{points_within_reach}
 use Rattle.mon_meaning.specs.within.SeriesMeaning.{SeriesGroup}
 use Rattle.mon_meaning.proofs.FilterLemmas.{filter_twice}
+use Rattle.mon_meaning.proofs.LeftOutLemmas.{counted_as_held, loaded_as_held}
 use Rattle.mon_value.proofs.PlainLemmas.{and_true}
 
 -- ---- the series of numbers
@@ -135,19 +137,19 @@ module _ (grid : Grid) (by : Aligner) (fetch : FetchView) where
           _ (length (points_within_reach grid by group.1)) e in
           omega (arith, ih, none, sum_by-cons count_of group groups)
 
-  -- what was met so far with the series of the numbers that are left is all that is met; so with the points
-  pub record MetSoFar (groups : List SeriesGroup) (numbers : List ℕ) (start met : List SeriesGroup)
+  -- what was met so far with the series of the numbers that are left is all that is met of the whole; so with the points
+  pub record MetSoFar (groups whole : List SeriesGroup) (numbers : List ℕ) (start met : List SeriesGroup)
       (start_load load : ℕ) : Type 0 where
     pub within : AllByRecursion (λ number. number < length groups) numbers
-    pub met_is : met ++ filter counts (numbered groups numbers) ≡ start ++ filter counts groups
-    pub load_is : load + sum_by count_of (numbered groups numbers) ≡ start_load + sum_by count_of groups
+    pub met_is : met ++ filter counts (numbered groups numbers) ≡ start ++ filter counts whole
+    pub load_is : load + sum_by count_of (numbered groups numbers) ≡ start_load + sum_by count_of whole
 
-  pub none_met : (rows : List Row) (numbers : List ℕ) (met : List SeriesGroup) (load : ℕ) → numbers ≡ metric_numbers
-      fetch.metric rows
-      → MetSoFar (points_by_series rows) numbers met met load load
-  none_met rows numbers met load is =
-      let groups = points_by_series rows in
-      let keys : keys_in groups ≡ series_of rows = keys_of_groups (λ key. points_of key rows) (series_of rows) in
+  pub none_met : (rows kept : List Row) (numbers : List ℕ) (met : List SeriesGroup) (load : ℕ) → numbers
+      ≡ metric_numbers fetch.metric rows
+      → MetSoFar (all_series rows kept) (held_series rows kept) numbers met met load load
+  none_met rows kept numbers met load is =
+      let groups = all_series rows kept in
+      let keys : keys_in groups ≡ series_of rows = keys_of_groups (λ key. points_of key kept) (series_of rows) in
       let all : numbered groups numbers ≡ filter (is_of fetch.metric) groups =
       ap (numbered groups) (is ∙ ap (numbers_from 0 fetch.metric) (sym keys)) ∙ numbered_from fetch.metric groups []
       groups 0 refl refl in
@@ -157,22 +159,25 @@ module _ (grid : Grid) (by : Aligner) (fetch : FetchView) where
         within = subst (λ (ns : List ℕ). AllByRecursion (λ number. number < length groups) ns) (sym is)
             (subst (λ (most : ℕ). AllByRecursion (λ number. number < most) (metric_numbers fetch.metric rows)) count
             (numbers_below fetch.metric 0 (series_of rows)));
-        met_is = ap (λ (gs : List SeriesGroup). met ++ gs) (ap (filter counts) all ∙ counted_of_metric groups);
-        load_is = ap (λ (n : ℕ). load + n) (ap (sum_by count_of) all ∙ sum_of_metric groups);
+        met_is = ap (λ (gs : List SeriesGroup). met ++ gs) (ap (filter counts) all ∙ counted_of_metric groups
+            ∙ counted_as_held grid by fetch rows kept);
+        load_is = ap (λ (n : ℕ). load + n) (ap (sum_by count_of) all ∙ sum_of_metric groups
+            ∙ loaded_as_held grid by fetch rows kept);
       }
 
-  pub within_series : (rows : List Row) (numbers rest : List ℕ) (number : ℕ) (start met : List SeriesGroup)
+  pub within_series : (rows kept : List Row) (whole : List SeriesGroup) (numbers rest : List ℕ) (number : ℕ)
+      (start met : List SeriesGroup)
       (start_load load : ℕ)
-      → MetSoFar (points_by_series rows) numbers start met start_load load → numbers ≡ number ∷ rest → number
+      → MetSoFar (all_series rows kept) whole numbers start met start_load load → numbers ≡ number ∷ rest → number
       < length (series_of rows)
-  within_series rows numbers rest number start met start_load load so_far is =
-      let of : SeriesKey → SeriesGroup = λ key. (key, points_of key rows) in
-      let all = subst (λ (ns : List ℕ). AllByRecursion (λ n. n < length (points_by_series rows)) ns) is so_far.within in
+  within_series rows kept whole numbers rest number start met start_load load so_far is =
+      let of : SeriesKey → SeriesGroup = λ key. (key, points_of key kept) in
+      let all = subst (λ (ns : List ℕ). AllByRecursion (λ n. n < length (all_series rows kept)) ns) is so_far.within in
       omega (arith, all.0, length-map (series_of rows) of)
 
-  module _ (groups : List SeriesGroup) (numbers rest : List ℕ) (number : ℕ) (group : SeriesGroup)
+  module _ (groups whole : List SeriesGroup) (numbers rest : List ℕ) (number : ℕ) (group : SeriesGroup)
       (start met : List SeriesGroup) (start_load load : ℕ)
-      (so_far : MetSoFar groups numbers start met start_load load) (is : numbers ≡ number ∷ rest)
+      (so_far : MetSoFar groups whole numbers start met start_load load) (is : numbers ≡ number ∷ rest)
       (there : slice_get groups number ≡ Some group) where
     within_rest : AllByRecursion (λ n. n < length groups) rest
     within_rest = (subst (λ (ns : List ℕ). AllByRecursion (λ n. n < length groups) ns) is so_far.within).1
@@ -189,7 +194,7 @@ module _ (grid : Grid) (by : Aligner) (fetch : FetchView) where
 
     -- a series that isn't met, or has no points in reach
     pub one_passed : (more : List SeriesGroup) (more_load : ℕ) → count_of group ≡ 0 → more ≡ met → more_load ≡ load
-        → MetSoFar groups rest start more start_load more_load
+        → MetSoFar groups whole rest start more start_load more_load
     one_passed more more_load none same counted =
         let out : counts group
         ≡ false = counted_none (is_fetch_met fetch group.0) (length (points_within_reach grid by group.1)) none in
@@ -204,7 +209,7 @@ module _ (grid : Grid) (by : Aligner) (fetch : FetchView) where
     -- one more is met
     pub one_met : (more : List SeriesGroup) (more_load : ℕ) → 0 < count_of group → more ≡ met ++ group ∷ [] → more_load
         ≡ load + count_of group
-        → MetSoFar groups rest start more start_load more_load
+        → MetSoFar groups whole rest start more start_load more_load
     one_met more more_load some added counted =
         let in_reach : counts group
         ≡ true = counted_some (is_fetch_met fetch group.0) (length (points_within_reach grid by group.1))

@@ -1,5 +1,5 @@
 -- Trees that are the same, wherever they stand in the text, mean the same rows and are the same work.
-use Rattle.std.proofs.Common.{◌≡◌, ◌∙◌, ◌&&◌, ◌||◌, ◌+◌, ◌++◌, ◌∷◌, [], not, cond, Bool, List, Option, refl, ap, sym}
+use Rattle.std.proofs.Common.{◌≡◌, ◌∙◌, ◌&&◌, ◌||◌, ◌+◌, ◌++◌, ◌∷◌, [], not, cond, List, refl, ap, sym}
 use Rattle.std.proofs.Common.{length}
 use Rattle.std.proofs.Common.{filter, map, sum_by, Some, None, ℤ, true}
 use Rattle.std.proofs.lemmas.Bool.Decides.{Decides-int_eq}
@@ -17,17 +17,17 @@ use Rattle.mon_value.specs.declared.grids.Grid.{Grid}
 use Rattle.mon_value.specs.declared.rows.SeriesKey.{SeriesKey}
 use Rattle.mon_value.specs.declared.tables.TimedRow.{TimedRow}
 use Rattle.mon_value.specs.declared.values.Value.{Value}
-use Rattle.mql_ast.specs.Rows.{meets_no_values, predicate_truth, sum_value}
+use Rattle.mql_ast.specs.Rows.{meets_no_values, sum_value}
 use Rattle.mql_ast.specs.Trees as tree
 use Rattle.mql_ast.specs.Trees.{ItemTree, PredicateTree}
-use Rattle.typed_trees.specs.Meaning.{is_fetched, key_cells, lets_in, meets, names_keys, series_cells, value_row}
+use Rattle.typed_trees.specs.Meaning.{key_cells, lets_in, meets, names_keys, series_cells, value_row}
 use Rattle.typed_trees.specs.Nodes as node
 use Rattle.typed_trees.specs.Nodes.{NodeTree, columns_of}
 use Rattle.mon_expr.proofs.SameTreeLemmas.{bare-none, bare-truth, bare-value}
-use Rattle.mon_expr.specs.SameTrees.{bare_predicate, bare_sum}
+use Rattle.mon_expr.specs.SameTrees.{bare_predicate}
 use Rattle.mon_meaning.specs.within.Reach.{points_within_reach}
 use Rattle.mon_meaning.specs.within.SameTrees.{bare_items, bare_tree}
-use Rattle.mon_meaning.specs.within.SeriesMeaning.{SeriesGroup, align_load, flows, load_by_series, reach_count}
+use Rattle.mon_meaning.specs.within.SeriesMeaning.{SeriesGroup, align_load, flows, load_by_series}
 use Rattle.mon_meaning.specs.within.SeriesMeaning.{rows_by_series, series_rows}
 
 -- bounds that compare as the same are equal

@@ -12,6 +12,8 @@ use Rattle.mon_value.specs.declared.rows.Point.{Point}
 use Rattle.mon_value.specs.declared.rows.Row.{Row}
 use Rattle.mon_value.specs.declared.rows.SeriesKey.{SeriesKey}
 use Rattle.mon_value.specs.declared.tables.Table.{Table}
+use Rattle.mon_series.specs.HeldSeries.{held_series}
+use Rattle.mon_series.specs.SlotViews.{SlotView}
 use Rattle.typed_trees.specs.Meaning.{load, meaning}
 use Rattle.typed_trees.specs.Nodes.{NodeTree, TypedTree, columns_of}
 use Rattle.typed_trees.specs.Plans.{HasFetchColumns, fetches}
@@ -42,9 +44,9 @@ IsAnswer typed source moment limit (Err refused) = IsRefusedBy typed source mome
 
 -- ---- rows that are kept by series
 
--- the series of several sources, one source after another
-abbrev pub all_held : List (Bor (List Row)) → List (SeriesKey × List Point)
-all_held sources = flat_map (λ rows. points_by_series rows.now) sources
+-- the series of several slots with their kept points, one slot after another
+abbrev pub all_held : List (Bor SlotView) → List (SeriesKey × List Point)
+all_held series = flat_map (λ one. held_series one.now.rows one.now.kept) series
 
 -- a typed query that is asked over series: those of rows that fit what it was typed over
 pub record IsAsked (typed : TypedTree) (series : List (SeriesKey × List Point)) : Type 0 where

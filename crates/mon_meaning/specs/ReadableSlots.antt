@@ -4,7 +4,7 @@ use Rattle.std.specs.List.{AllByRecursion, list_any, flat_map}
 use Rattle.mon_value.specs.Same.{same_target}
 use Rattle.mon_value.specs.declared.rows.Row.{Row}
 use Rattle.mon_value.specs.declared.rows.Target.{Target}
-use Rattle.mon_value.specs.LeafHistories.{is_opened, replica_rows}
+use Rattle.mon_value.specs.LeafHistories.{is_opened, kept_rows}
 use Rattle.mon_value.specs.declared.histories.Entry.{Entry}
 use Rattle.mon_value.specs.declared.positions.RangeSlot.{RangeSlot}
 use Rattle.typed_trees.specs.Nodes.{TypedTree}
@@ -31,13 +31,13 @@ AreApart Apart (child ∷ children) = AllByRecursion (Apart child) children × A
 abbrev pub AreOpened : List Entry → List RangeSlot → Type 0
 AreOpened history slots = AllByRecursion (λ (one : RangeSlot). is_opened one.range one.slot history ≡ true) slots
 
--- the rows of some slots of a leaf
+-- the kept rows of some slots of a leaf
 abbrev pub slot_rows : List Entry → List RangeSlot → List Row
-slot_rows history slots = flat_map (λ (one : RangeSlot). replica_rows one.range one.slot history) slots
+slot_rows history slots = flat_map (λ (one : RangeSlot). kept_rows one.range one.slot history) slots
 
--- each was opened in the leaf's history, no target has rows in two of them, and the query has its type over all their
--- rows
+-- each was opened in the leaf's history, no target has kept rows in two of them, and the query has its type over all
+-- kept rows
 pub record CanBeRead (typed : TypedTree) (history : List Entry) (slots : List RangeSlot) : Type 0 where
   pub opened : AreOpened history slots
-  pub apart : AreApart ShareNoTarget (map (λ (one : RangeSlot). replica_rows one.range one.slot history) slots)
+  pub apart : AreApart ShareNoTarget (map (λ (one : RangeSlot). kept_rows one.range one.slot history) slots)
   pub of : IsTyped typed (slot_rows history slots)

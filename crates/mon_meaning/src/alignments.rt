@@ -4,7 +4,7 @@ ghost use Rattle.std.specs.List.{AllByRecursion, flat_map};
 ghost use Rattle.mon_value.specs.Grids.{aligned_values};
 ghost use Rattle.mon_value.specs.Grids as grids;
 ghost use Rattle.mon_value.specs.Order.{row_of};
-ghost use Rattle.mon_value.specs.LeafHistories.{points_by_series};
+ghost use Rattle.mon_series.specs.HeldSeries.{held_series};
 ghost use Rattle.typed_trees.specs.Nodes.{node_tree};
 ghost use Rattle.mon_meaning.specs.Central.{all_held};
 ghost use Rattle.mon_meaning.specs.Counts.{TellsOver};
@@ -94,12 +94,12 @@ fn add_met<'a>(
     requires lawful { grids.IsLawfulGrid setting.now.grid }
     requires looks_back { grids.IsDuration (grids.seconds_of by) }
     ensures met { OnOk result (series_met met.new.items ≡ series_met met.old.items
-        ++ filter (is_counted setting.now.grid by fetch.now) (points_by_series rows.now)) }
+        ++ filter (is_counted setting.now.grid by fetch.now) (held_series rows.now.rows rows.now.kept)) }
     ensures limit { meter.new.limit ≡ meter.old.limit }
     ensures counted { OnOk result (meter.new.load ≡ meter.old.load
-        + sum_by (met_count setting.now.grid by fetch.now) (points_by_series rows.now)) }
+        + sum_by (met_count setting.now.grid by fetch.now) (held_series rows.now.rows rows.now.kept)) }
     ensures over { IfErr result (TellsOver meter.old.limit (meter.old.load
-        + sum_by (met_count setting.now.grid by fetch.now) (points_by_series rows.now))) }
+        + sum_by (met_count setting.now.grid by fetch.now) (held_series rows.now.rows rows.now.kept))) }
 {
     let numbers = rows.of_metric(fetch.metric());
     for number in numbers {

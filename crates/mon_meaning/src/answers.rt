@@ -1,5 +1,6 @@
 // The central evaluation of a query.
 ghost use Rattle.std.specs.Prelude.{◌≡◌, ◌≤◌, ◌^◌, ◌≤ℤ◌, pos};
+ghost use Rattle.mon_series.specs.SlotViews.{all_kept};
 ghost use Rattle.mon_value.specs.LeafHistories.{IsSource};
 ghost use Rattle.mon_value.specs.declared.limits.TheConstants.{ROW_BITS};
 ghost use Rattle.typed_trees.specs.Meaning as meant;
@@ -34,7 +35,7 @@ pub fn central(
     central_by_series(alloc, typed, &kept, moment, limit)
 }
 
-/// The same over rows that are kept by series, none of which is copied as a whole.
+/// The same over rows that are kept by series, none of which is copied as a whole, and of which none is hidden.
 pub fn central_by_series(
     alloc: Global,
     typed: &Typed,
@@ -42,10 +43,11 @@ pub fn central_by_series(
     moment: i64,
     limit: u64,
 ) -> Result<Table, Refusal<OverLimit>>
-    requires typed { IsTyped (typed_tree typed.now) kept.now }
+    requires typed { IsTyped (typed_tree typed.now) kept.now.rows }
+    requires whole { kept.now ≡ all_kept kept.now.rows }
     requires moment { pos 0 ≤ℤ moment }
     requires limit { limit ≤ 2 ^ ROW_BITS }
-    ensures answer { IsAnswer (typed_tree typed.now) kept.now moment limit result }
+    ensures answer { IsAnswer (typed_tree typed.now) kept.now.rows moment limit result }
 {
     let grid = grid_of(typed, moment);
     let mut meter = Meter::new(limit);

@@ -2,6 +2,7 @@
 ghost use Rattle.std.specs.Prelude.{◌≡◌, ◌≤◌, ◌-ℤ◌, ◌<ℤ◌, ◌≤ℤ◌, ◌++◌, ◌∷◌, [], cond, drop, length, neg_ℤ, IfOk, IfSome};
 ghost use Rattle.std.specs.Prelude.{OnOk};
 ghost use Rattle.std.specs.Option.{option_to_list};
+ghost use Rattle.mon_series.specs.SeriesPoints.{all_points};
 ghost use Rattle.mon_series.specs.Splits.{points_until};
 ghost use Rattle.mon_value.specs.Grids as grids;
 ghost use Rattle.mon_value.specs.LeafHistories.{last_end};
@@ -15,22 +16,9 @@ use mon_series::{KeptPoint, Series};
 use mon_value::{Aligner, Grid, LONGEST_DURATION, OutOfMemory, SeriesKey, TryCopy};
 use std::alloc::Global;
 
-/// The points in reach: those that end where an alignment may see them at some time of the grid. Their ends find them.
+/// The points in reach: those that end where an alignment may see them at some time of the grid. Their ends find them,
+/// and they lie between two places.
 pub(crate) fn points_in_reach<'a>(series: &'a Series, by: Aligner, grid: &Grid) -> &'a [KeptPoint]
-    requires lawful { grids.IsLawfulGrid grid.now }
-    requires looks_back { grids.IsDuration (grids.seconds_of by) }
-    ensures reached { result.now ≡ points_within_reach grid.now by series.now.points }
-    ensures rises { EndsRise result.now }
-{
-    match series.last() {
-        Some(_) => reached_points(series, by, grid),
-        None => series.points(),
-    }
-}
-
-// The points in reach of a series, between two places.
-fn reached_points<'a>(series: &'a Series, by: Aligner, grid: &Grid) -> &'a [KeptPoint]
-    requires rises { EndsRise series.now.points }
     requires lawful { grids.IsLawfulGrid grid.now }
     requires looks_back { grids.IsDuration (grids.seconds_of by) }
     ensures reached { result.now ≡ points_within_reach grid.now by series.now.points }
@@ -187,6 +175,7 @@ fn keep_points(
     kept: &mut Series,
 ) -> Result<(), OutOfMemory>
     requires none { kept.old.points ≡ [] }
+    requires hidden { kept.old.hidden ≡ [] }
     requires rises { EndsRise reached.now }
     ensures kept { OnOk result (kept.new.points ≡ points_kept fetch.now (key.now, reached.now)) }
 {
@@ -207,8 +196,9 @@ fn add_point(
     point: &KeptPoint,
     kept: &mut Series,
 ) -> Result<(), OutOfMemory>
-    requires rises { IfSome (last_end kept.old.points) (λ last. last <ℤ point.now.end) }
+    requires rises { IfSome (last_end (all_points kept.old)) (λ last. last <ℤ point.now.end) }
     ensures added { OnOk result (kept.new.points ≡ kept.old.points ++ cond keeps (point.now ∷ []) []) }
+    ensures hidden { kept.new.hidden ≡ kept.old.hidden }
 {
     if keeps {
         kept.reserve()?;

@@ -1,7 +1,8 @@
 // One series of kept rows, brought to the times of a grid by itself.
 ghost use Rattle.std.specs.Prelude.{◌≡◌, ◌<◌, length, slice_get, IfOk, IfSome};
 ghost use Rattle.mon_value.specs.Grids as grids;
-ghost use Rattle.mon_value.specs.LeafHistories.{points_by_series, series_of};
+ghost use Rattle.mon_series.specs.HeldSeries.{all_series};
+ghost use Rattle.mon_value.specs.LeafHistories.{series_of};
 ghost use Rattle.mon_meaning.specs.within.FetchViews.{met_rows};
 ghost use Rattle.mon_meaning.specs.within.MetSeries.{CanAlignMet, met_count};
 
@@ -29,8 +30,8 @@ pub fn points_reached(
 ) -> Result<usize, OutOfMemory>
     requires lawful { grids.IsLawfulGrid alignment.now.grid }
     requires looks_back { grids.IsDuration (grids.seconds_of alignment.now.by) }
-    requires within { number < length (series_of rows.now) }
-    ensures count { IfOk result (λ count. IfSome (slice_get (points_by_series rows.now) number) (λ series.
+    requires within { number < length (series_of rows.now.rows) }
+    ensures count { IfOk result (λ count. IfSome (slice_get (all_series rows.now.rows rows.now.kept) number) (λ series.
         count ≡ met_count alignment.now.grid alignment.now.by fetch.now series)) }
 {
     let setting = EvaluationSetting {
@@ -49,10 +50,10 @@ pub fn rows_of_series(
     rows: &KeptRows,
     number: u32,
 ) -> Result<TimedRows, OutOfMemory>
-    requires within { number < length (series_of rows.now) }
-    requires can { IfSome (slice_get (points_by_series rows.now) number)
+    requires within { number < length (series_of rows.now.rows) }
+    requires can { IfSome (slice_get (all_series rows.now.rows rows.now.kept) number)
         (CanAlignMet alignment.now.grid alignment.now.by fetch.now) }
-    ensures rows { IfOk result (λ made. IfSome (slice_get (points_by_series rows.now) number) (λ series.
+    ensures rows { IfOk result (λ made. IfSome (slice_get (all_series rows.now.rows rows.now.kept) number) (λ series.
         made ≡ met_rows alignment.now.grid alignment.now.by fetch.now series)) }
 {
     let setting = EvaluationSetting {

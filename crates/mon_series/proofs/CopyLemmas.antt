@@ -10,14 +10,11 @@ use Rattle.mon_series.specs.SeriesPoints.{SeriesPoints}
 use Rattle.mon_value.proofs.SameLemmas.{same_series-Decides, same_series-test}
 use Rattle.mon_value.specs.Same.{same_series}
 use Rattle.mon_value.specs.contracts.rows.SeriesKeyPartialEq.TheImpl as derived
+use Rattle.mon_value.specs.declared.rows.Point.{Point}
 use Rattle.mon_value.specs.declared.rows.SeriesKey.{SeriesKey}
 use Rattle.mon_series.specs.within.Places.{Group}
-use Rattle.mon_series.specs.SeriesMaps.{series_held}
+use Rattle.mon_series.specs.SeriesMaps.{points_held}
 use Rattle.mon_series.proofs.HeldLemmas.{Entries, held_none}
-
-keys_held : (entries : Entries) → keys_of (series_held entries) ≡ keys_of entries
-keys_held [] = refl
-keys_held (entry ∷ entries) = ap (λ (keys : List SeriesKey). entry.0 ∷ keys) (keys_held entries)
 
 apart_back : (a b : SeriesKey) (c : Bool) → same_series b a ≡ c → same_series a b ≡ false → c ≡ false
 apart_back a b true same apart =
@@ -40,28 +37,35 @@ absent_so_far (d ∷ done) group rest distinct =
     let apart = apart_back d.0 group.0 (same_series group.0 d.0) refl behind in
     ap (λ b. cond b (Some d.1) (lookup (same_series group.0) done)) apart ∙ absent_so_far done group rest distinct.1
 
--- a copy more goes to the end
-pub copy_put : {H : Type 0} (made : IndexMap SeriesKey SeriesPoints H) (own key : SeriesKey)
-    (copy series : SeriesPoints) (rest all new : Entries)
-    → own ≡ key → copy.points ≡ series.points → new ≡ insert_entry derived.eq-value.it made.entries own copy
-    → series_held made.entries ++ series_held ((key, series) ∷ rest) ≡ series_held all
-    → IsDistinct derived.eq-value.it (keys_of all) → series_held new ++ series_held rest ≡ series_held all
-copy_put made own key copy series rest all new owns points is whole distinct =
-    let done : List Group = series_held made.entries in
-    let same : derived.eq-value.it ≡ same_series = λ i k. same_series-test k i in
-    let by_series : IsDistinct same_series (keys_of (series_held all)) =
-    subst (λ test. IsDistinct test (keys_of (series_held all))) same (subst (IsDistinct derived.eq-value.it)
-    (sym (keys_held all)) distinct) in
-    let unlike : IsDistinct same_series (keys_of (done ++ (key, series.points) ∷ series_held rest)) =
-    subst (λ (groups : List Group). IsDistinct same_series (keys_of groups)) (sym whole) by_series in
-    let absent : lookup (same_series own) done ≡ None =
-    ap (λ (k : SeriesKey). lookup (same_series k) done) owns ∙ absent_so_far done (key, series.points)
-    (series_held rest) unlike in
-    let none : get derived.eq-value.it made own ≡ None = ap (λ test. lookup test made.entries) (same_series-test own)
-    ∙ held_none own made.entries absent in
-    let put : series_held new ≡ done ++ (key, series.points) ∷ [] =
-    ap series_held (is ∙ insert_entry-new derived.eq-value.it made own copy none)
-    ∙ map-append (λ (entry : SeriesKey × SeriesPoints). (entry.0, entry.1.points)) made.entries ((own, copy) ∷ [])
-    ∙ (λ i. done ++ (owns i, points i) ∷ []) in
-    ap (λ (groups : List Group). groups ++ series_held rest) put
-    ∙ append_assoc done ((key, series.points) ∷ []) (series_held rest) ∙ whole
+-- ---- some points of each series
+
+module _ (of : SeriesPoints → List Point) where
+  keys_held : (entries : Entries) → keys_of (points_held of entries) ≡ keys_of entries
+  keys_held [] = refl
+  keys_held (entry ∷ entries) = ap (λ (keys : List SeriesKey). entry.0 ∷ keys) (keys_held entries)
+
+  -- a copy more goes to the end
+  pub copy_put : {H : Type 0} (made : IndexMap SeriesKey SeriesPoints H) (own key : SeriesKey)
+      (copy series : SeriesPoints) (rest all new : Entries)
+      → own ≡ key → of copy ≡ of series → new ≡ insert_entry derived.eq-value.it made.entries own copy
+      → points_held of made.entries ++ points_held of ((key, series) ∷ rest) ≡ points_held of all
+      → IsDistinct derived.eq-value.it (keys_of all) → points_held of new ++ points_held of rest ≡ points_held of all
+  copy_put made own key copy series rest all new owns points is whole distinct =
+      let done : List Group = points_held of made.entries in
+      let same : derived.eq-value.it ≡ same_series = λ i k. same_series-test k i in
+      let by_series : IsDistinct same_series (keys_of (points_held of all)) =
+      subst (λ test. IsDistinct test (keys_of (points_held of all))) same (subst (IsDistinct derived.eq-value.it)
+      (sym (keys_held all)) distinct) in
+      let unlike : IsDistinct same_series (keys_of (done ++ (key, of series) ∷ points_held of rest)) =
+      subst (λ (groups : List Group). IsDistinct same_series (keys_of groups)) (sym whole) by_series in
+      let absent : lookup (same_series own) done ≡ None =
+      ap (λ (k : SeriesKey). lookup (same_series k) done) owns ∙ absent_so_far done (key, of series)
+      (points_held of rest) unlike in
+      let none : get derived.eq-value.it made own ≡ None = ap (λ test. lookup test made.entries) (same_series-test own)
+      ∙ held_none of own made.entries absent in
+      let put : points_held of new ≡ done ++ (key, of series) ∷ [] =
+      ap (points_held of) (is ∙ insert_entry-new derived.eq-value.it made own copy none)
+      ∙ map-append (λ (entry : SeriesKey × SeriesPoints). (entry.0, of entry.1)) made.entries ((own, copy) ∷ [])
+      ∙ (λ i. done ++ (owns i, points i) ∷ []) in
+      ap (λ (groups : List Group). groups ++ points_held of rest) put
+      ∙ append_assoc done ((key, of series) ∷ []) (points_held of rest) ∙ whole

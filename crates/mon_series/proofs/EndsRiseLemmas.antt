@@ -14,7 +14,7 @@ abbrev EndsAfter : ℤ → List Point → Type 0
 EndsAfter end points = AllByRecursion (λ (later : Point). end <ℤ later.end) points
 
 -- what ends after the last point ends after what comes before all points
-before_last : (first end : ℤ) (p : Point) (ps : List Point) → EndsAfter first (p ∷ ps) → IfSome (last_end (p ∷ ps))
+pub before_last : (first end : ℤ) (p : Point) (ps : List Point) → EndsAfter first (p ∷ ps) → IfSome (last_end (p ∷ ps))
     (λ last. last <ℤ end) → first <ℤ end
 before_last first end p [] h l = let k = h.0 in omega (arith, ints)
 before_last first end p (q ∷ ps) h l = before_last first end q ps h.1 l
@@ -47,7 +47,7 @@ after_at first (p ∷ ps) zero d h l = h.0
 after_at first (p ∷ ps) (suc i) d h l = after_at first ps i d h.1 (omega arith)
 
 -- a later point ends later
-rising_at : (ps : List Point) (i j : ℕ) (d : Point) → EndsRise ps → i < j → j < length ps → (get_or ps i d).end <ℤ
+pub rising_at : (ps : List Point) (i j : ℕ) (d : Point) → EndsRise ps → i < j → j < length ps → (get_or ps i d).end <ℤ
     (get_or ps j d).end
 rising_at [] i j d h l k = absurd (omega arith)
 rising_at (p ∷ ps) i zero d h l k = absurd (omega arith)

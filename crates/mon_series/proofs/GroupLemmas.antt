@@ -88,7 +88,7 @@ first_at key (g ∷ groups) (suc at) distinct there =
 
 -- ---- the groups of rows
 
-group_of : (of : SeriesKey → List Point) (keys : List SeriesKey) (at : ℕ) (key : SeriesKey) → slice_get keys at
+pub group_of : (of : SeriesKey → List Point) (keys : List SeriesKey) (at : ℕ) (key : SeriesKey) → slice_get keys at
     ≡ Some key
     → slice_get {X = Group} (map (λ (key : SeriesKey). (key, of key)) keys) at ≡ Some (key, of key)
 group_of of [] at key there = absurd cc

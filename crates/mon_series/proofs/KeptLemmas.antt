@@ -15,12 +15,11 @@ use Rattle.mon_value.specs.declared.rows.Row.{Row}
 use Rattle.mon_value.specs.declared.rows.SeriesKey.{SeriesKey}
 use Rattle.mon_series.specs.declared.placing.Place.{Place}
 use Rattle.mon_series.specs.within.Places.{HaveRows, Group, AreGroupsKept, TakesRow, count_at, place_at, row_at}
-use Rattle.mon_series.specs.within.Places.{row_of_parts}
 use Rattle.mon_series.specs.within.Places.{rows_at_places, with_point_at}
 use Rattle.mon_series.proofs.GroupLemmas.{IsFirst, first_by_series, found_first, group_by_series, grown_first}
 use Rattle.mon_series.proofs.GroupLemmas.{grown_last, series_number}
-use Rattle.mon_series.proofs.PlaceLemmas.{Keeps, keeps_grown, keeps_new, keys_in, row_grown, row_listed, row_new}
-use Rattle.mon_series.proofs.PlaceLemmas.{row_parts, rows_added, rows_kept, there_added}
+use Rattle.mon_series.proofs.PlaceLemmas.{Keeps, keeps_grown, keeps_new, keys_in, row_grown, row_new}
+use Rattle.mon_series.proofs.PlaceLemmas.{rows_added, rows_kept, there_added}
 use Rattle.mon_series.proofs.MetricLemmas.{series_keys}
 
 -- what is kept after a push, and which rows it has
@@ -191,50 +190,3 @@ module _ {groups : List Group} {places : List Place} {rows : List Row} (kept : A
   numbered at key points there =
       let number = series_number groups rows at key points grouped there in
       (number, points_same key points (points_of key rows) (sym there ∙ group_there at key number))
-
-  pub points_numbered : (at : ℕ) (key : SeriesKey) (points : List Point) → slice_get groups at ≡ Some (key, points)
-      → IfSome (slice_get (series_of rows) at) (λ key. points ≡ points_of key rows)
-  points_numbered at key points there =
-      let found = numbered at key points there in
-      subst (λ (o : Option SeriesKey). IfSome o (λ key. points ≡ points_of key rows)) (sym found.0) found.1
-
-  -- ---- the row of a number
-
-  pub place_has_group : (n : ℕ) (place : Place) → slice_get places n ≡ Some place → slice_get groups place.series
-      ≡ None → ⊥
-  place_has_group n place listed none =
-      let row = row_listed groups places n place kept.there listed in
-      let parts = row_parts groups place.series place.point row.0 row.1 in
-      let clash : Some parts.0 ≡ None = sym parts.1 ∙ none in cc
-
-  same_group : (at : ℕ) (key : SeriesKey) (points : List Point) (group : Group) → slice_get groups at
-      ≡ Some (key, points) → slice_get groups at ≡ Some group
-      → group ≡ (key, points)
-  same_group at key points group there found = by (sym found ∙ there)
-    where
-      by : Some group ≡ Some (key, points) → group ≡ (key, points)
-      by e = cc
-
-  pub place_has_point : (n : ℕ) (place : Place) (key : SeriesKey) (points : List Point) → slice_get places n
-      ≡ Some place
-      → slice_get groups place.series ≡ Some (key, points) → slice_get points place.point ≡ None → ⊥
-  place_has_point n place key points listed there none =
-      let row = row_listed groups places n place kept.there listed in
-      let parts = row_parts groups place.series place.point row.0 row.1 in
-      let same = same_group place.series key points parts.0 there parts.1 in
-      let clash : Some row.0.point ≡ None = sym parts.3 ∙ ap (λ (g : Group). slice_get g.1 place.point) same ∙ none in
-      cc
-
-  pub row_numbered : (n : ℕ) (place : Place) (key : SeriesKey) (points : List Point) (point : Point) → slice_get places
-      n ≡ Some place
-      → slice_get groups place.series ≡ Some (key, points) → slice_get points place.point ≡ Some point
-      → slice_get rows n ≡ Some (row_of_parts key point)
-  row_numbered n place key points point listed there found =
-      let row = row_listed groups places n place kept.there listed in
-      let parts = row_parts groups place.series place.point row.0 row.1 in
-      let same = same_group place.series key points parts.0 there parts.1 in
-      let own : row.0.key ≡ key = parts.2 ∙ ap (λ (g : Group). g.0) same in
-      let at : Some row.0.point ≡ Some point = sym parts.3 ∙ ap (λ (g : Group). slice_get g.1 place.point) same
-      ∙ found in
-      ap (λ (rs : List Row). slice_get rs n) (sym seen) ∙ row.2
-      ∙ (λ i. Some (row_of_parts (own i) (some_point row.0.point point at i)))

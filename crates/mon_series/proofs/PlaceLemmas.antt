@@ -1,6 +1,6 @@
 -- Rows at places, as groups grow by a point.
-use Rattle.std.proofs.Common.{◌≡◌, ◌∙◌, ℕ, zero, suc, true, Option, Some, None, option_map, List, [], ◌∷◌, ◌++◌, map}
-use Rattle.std.proofs.Common.{length, refl, sym, ap, slice_get}
+use Rattle.std.proofs.Common.{◌≡◌, ◌∙◌, ℕ, zero, suc, true, false, Option, Some, None, option_map, List, [], ◌∷◌, ◌++◌, map}
+use Rattle.std.proofs.Common.{length, take, ◌+◌, arith, refl, sym, ap, slice_get}
 use Rattle.std.specs.Prelude.{is_some}
 use Rattle.mon_value.specs.declared.rows.Point.{Point}
 use Rattle.mon_value.specs.declared.rows.Row.{Row}
@@ -11,6 +11,14 @@ use Rattle.mon_series.specs.within.Places.{with_point_at, with_found_row}
 use Rattle.mon_value.proofs.PlainLemmas.{get_next}
 
 -- ---- lists
+
+pub take_next : {X : Type 0} (xs : List X) (n : ℕ) (x : X) → slice_get xs n ≡ Some x
+    → take (n + 1) xs ≡ take n xs ++ x ∷ []
+take_next [] n x there = absurd cc
+take_next (y ∷ xs) zero x there = let same : y ≡ x = cc in ap (λ z. z ∷ []) same
+take_next (y ∷ xs) (suc n) x there =
+    let same : suc n + 1 ≡ suc (n + 1) = omega arith in
+    ap (λ k. take k (y ∷ xs)) same ∙ ap (λ more. y ∷ more) (take_next xs n x there)
 
 -- the keys of groups
 abbrev pub keys_in : List Group → List SeriesKey
@@ -149,3 +157,43 @@ row_parts (g ∷ groups) zero point row e =
         let same : row_of_parts key p ≡ row = cc in
         (sym (ap (λ (r : Row). r.key) same), ap (λ (r : Row). Some r.point) same)
 row_parts (g ∷ groups) (suc series) point row e = row_parts groups series point row e
+
+-- the rows at the first so many places, with one more
+pub rows_next : (groups : List Group) (places : List Place) (n : ℕ) (place : Place) (row : Row)
+    → slice_get places n ≡ Some place → row_at groups place.series place.point ≡ Some row
+    → rows_at_places groups (take (n + 1) places) ≡ rows_at_places groups (take n places) ++ row ∷ []
+rows_next groups places n place row listed there =
+    ap (rows_at_places groups) (take_next places n place listed)
+    ∙ rows_added groups (take n places) place.series place.point row there
+
+-- ---- the row at a place, by the group of its series
+
+pub row_from : (groups : List Group) (series n : ℕ) (key : SeriesKey) (points : List Point) (point : Point)
+    → slice_get groups series ≡ Some (key, points) → slice_get points n ≡ Some point
+    → row_at groups series n ≡ Some (row_of_parts key point)
+row_from [] series n key points point there found = absurd cc
+row_from (g ∷ groups) zero n key points point there found =
+    let same : g ≡ (key, points) = cc in
+    ap (λ (h : Group). option_map (row_of_parts h.0) (slice_get h.1 n)) same ∙ ap (option_map (row_of_parts key)) found
+row_from (g ∷ groups) (suc series) n key points point there found =
+    row_from groups series n key points point there found
+
+pub no_group_there : (groups : List Group) (series n : ℕ) → is_some (row_at groups series n) ≡ true
+    → slice_get groups series ≡ None → ⊥
+no_group_there [] series n there none = absurd cc
+no_group_there (g ∷ groups) zero n there none = absurd cc
+no_group_there (g ∷ groups) (suc series) n there none = no_group_there groups series n there none
+
+pub no_point_there : (groups : List Group) (series n : ℕ) (key : SeriesKey) (points : List Point)
+    → is_some (row_at groups series n) ≡ true → slice_get groups series ≡ Some (key, points)
+    → slice_get points n ≡ None → ⊥
+no_point_there [] series n key points there group none = absurd cc
+no_point_there (g ∷ groups) zero n key points there group none =
+    let same : g ≡ (key, points) = cc in
+    let gone : row_at (g ∷ groups) zero n ≡ None =
+    ap (λ (h : Group). option_map (row_of_parts h.0) (slice_get h.1 n)) same
+    ∙ ap (option_map (row_of_parts key)) none in
+    let no : is_some (row_at (g ∷ groups) zero n) ≡ false = ap is_some gone in
+    absurd cc
+no_point_there (g ∷ groups) (suc series) n key points there group none =
+    no_point_there groups series n key points there group none

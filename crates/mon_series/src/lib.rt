@@ -8,6 +8,7 @@ mod metrics;
 mod order;
 mod placing;
 mod series;
+mod standing;
 
 pub use kept_point::KeptPoint;
 pub use kept_rows::{KeptRows, KeptSeries, SeriesMap};

@@ -1,17 +1,19 @@
 // The places of points, and a point more in its series.
-ghost use Rattle.std.specs.Prelude.{◌≡◌, ◌++◌, ◌∷◌, ◌+◌, ◌<◌, ◌≤◌, ◌^◌, [], length, slice_get, None, IfErr, IfOk};
-ghost use Rattle.std.specs.Prelude.{OnErr, OnOk};
+ghost use Rattle.std.specs.Prelude.{◌≡◌, ◌++◌, ◌∷◌, ◌+◌, ◌<◌, ◌≤◌, ◌^◌, [], length, slice_get, Some, None, is_some, true};
+ghost use Rattle.std.specs.Prelude.{IfErr, IfOk, OnErr, OnOk};
+ghost use Rattle.std.specs.Option.{option_copied};
 ghost use Rattle.std.specs.Map.{lookup};
 ghost use Rattle.indexmap.specs.IndexMap.{spare};
 ghost use Rattle.mon_value.specs.Same.{same_series};
-ghost use Rattle.mon_series.specs.SeriesMaps.{series_held};
-ghost use Rattle.mon_series.specs.within.Places.{TakesRow, count_at, place_at, with_point_at};
+ghost use Rattle.mon_series.specs.SeriesMaps.{hidden_held, series_held};
+ghost use Rattle.mon_series.specs.SeriesPoints.{all_points};
+ghost use Rattle.mon_series.specs.within.Places.{TakesRow, count_at, place_at, row_at, with_point_at};
 
 use crate::kept_point::KeptPoint;
 use crate::kept_rows::SeriesMap;
 use crate::order::Order;
 use crate::series::Series;
-use mon_value::{OutOfMemory, Row, SeriesKey, Shared};
+use mon_value::{OutOfMemory, Row, SeriesKey, Shared, TryCopy};
 use std::alloc::{AllocError, AllocFailed, Global};
 
 /// The place of a point: the number of its series, and its own number in that series.
@@ -34,6 +36,7 @@ pub(crate) fn push_known(
         ≡ with_point_at (series_held groups.old.entries) number row.point) }
     ensures placed { OnOk result (order.new.items ≡ order.old.items
         ++ place_at number (count_at (series_held groups.old.entries) number) ∷ []) }
+    ensures hidden { hidden_held groups.new.entries ≡ hidden_held groups.old.entries }
     ensures kept { OnErr result (series_held groups.new.entries ≡ series_held groups.old.entries) }
     ensures order { OnErr result (order.new.items ≡ order.old.items) }
     ensures value_returned { IfErr result (λ failed. failed.value ≡ row) }
@@ -60,9 +63,12 @@ pub(crate) fn push_first(
     requires absent { lookup (same_series row.key) (series_held groups.old.entries) ≡ None }
     ensures grown { OnOk result (series_held groups.new.entries ≡ series_held groups.old.entries
         ++ (row.key, row.point ∷ []) ∷ []) }
+    ensures hidden { OnOk result (hidden_held groups.new.entries ≡ hidden_held groups.old.entries
+        ++ (row.key, []) ∷ []) }
     ensures placed { OnOk result (order.new.items ≡ order.old.items ++ place_at (length groups.old.entries) 0 ∷ []) }
     ensures few { OnOk result (length groups.old.entries + 1 < 2 ^ 32) }
     ensures kept { OnErr result (series_held groups.new.entries ≡ series_held groups.old.entries) }
+    ensures stayed { OnErr result (hidden_held groups.new.entries ≡ hidden_held groups.old.entries) }
     ensures order { OnErr result (order.new.items ≡ order.old.items) }
     ensures value_returned { IfErr result (λ failed. failed.value ≡ row) }
 {
@@ -96,13 +102,14 @@ fn parts_of(alloc: Global, row: Row) -> Result<(Shared<SeriesKey>, KeptPoint), A
 
 // Makes room for one point more of a series, and gives its place.
 fn room_for(series: &mut Series, order: &mut Order, number: u32) -> Result<Place, OutOfMemory>
-    ensures place { IfOk result (λ place. place ≡ place_at number (length series.old.points)) }
+    ensures place { IfOk result (λ place. place ≡ place_at number (length (all_points series.old))) }
     ensures points { series.new.points ≡ series.old.points }
+    ensures hidden { series.new.hidden ≡ series.old.hidden }
     ensures order { order.new.items ≡ order.old.items }
     ensures room { OnOk result (1 ≤ series.new.spare) }
     ensures order_room { OnOk result (1 ≤ order.new.spare) }
 {
-    let Ok(point) = u32::try_from(series.points().len()) else {
+    let Ok(point) = u32::try_from(series.all_points().len()) else {
         return Err(AllocError);
     };
     series.reserve()?;
@@ -119,10 +126,11 @@ fn room_for_first(
     series: &mut Series,
     order: &mut Order,
 ) -> Result<Place, OutOfMemory>
-    ensures place { IfOk result (λ place. place ≡ place_at (length groups.old.entries) (length series.old.points)) }
+    ensures place { IfOk result (λ place. place ≡ place_at (length groups.old.entries) (length (all_points series.old))) }
     ensures few { OnOk result (length groups.old.entries + 1 < 2 ^ 32) }
     ensures groups { groups.new.entries ≡ groups.old.entries }
     ensures points { series.new.points ≡ series.old.points }
+    ensures hidden { series.new.hidden ≡ series.old.hidden }
     ensures order { order.new.items ≡ order.old.items }
     ensures groups_room { OnOk result (0 < spare groups.new) }
     ensures room { OnOk result (1 ≤ series.new.spare) }
@@ -140,7 +148,32 @@ fn room_for_first(
 fn insert_new(groups: &mut SeriesMap, key: Shared<SeriesKey>, series: Series)
     requires room { 0 < spare groups.old }
     requires absent { lookup (same_series key) (series_held groups.old.entries) ≡ None }
-    ensures grown { series_held groups.new.entries ≡ series_held groups.old.entries ++ (key, series.points) ∷ [] }
+    ensures grown { series_held groups.new.entries ≡ series_held groups.old.entries ++ (key, all_points series) ∷ [] }
+    ensures hidden { hidden_held groups.new.entries ≡ hidden_held groups.old.entries ++ (key, series.hidden) ∷ [] }
 {
     let _old = groups.insert(key, series).unwrap();
+}
+
+/// A copy of the row at a place.
+pub(crate) fn row_in(alloc: Global, groups: &SeriesMap, place: Place) -> Result<Row, OutOfMemory>
+    requires there { is_some (row_at (series_held groups.now.entries) place.series place.point) ≡ true }
+    ensures row { IfOk result (λ row. row_at (series_held groups.now.entries) place.series place.point ≡ Some row) }
+{
+    let Some((key, series)) = groups.get_index(place.series as usize) else {
+        unreachable!();
+    };
+    let Some(point) = point_at(series.all_points(), place.point as usize) else {
+        unreachable!();
+    };
+    Ok(Row {
+        key: key.copy(alloc)?,
+        point: point.point(alloc)?,
+    })
+}
+
+// The point of a number.
+fn point_at(points: &[KeptPoint], number: usize) -> Option<&KeptPoint>
+    ensures point { option_copied result ≡ slice_get points.now number }
+{
+    points.get(number)
 }

@@ -21,6 +21,7 @@ use Rattle.mon_value.specs.declared.histories.Histories.{Histories}
 use Rattle.mon_value.specs.declared.histories.RangeEntry.TheVariants as range_entry
 use Rattle.mon_value.specs.declared.positions.Range.{Range}
 use Rattle.mon_value.specs.declared.positions.SlotLeaf.{SlotLeaf}
+use Rattle.mon_value.specs.Turns.{Turn, Adds}
 use Rattle.mon_value.specs.declared.rows.Row.{Row}
 use Rattle.mon_store.proofs.ListLemmas.{Differ, differ-append}
 use Rattle.mon_store.specs.Writes.{only_in, put_in, written}
@@ -121,20 +122,20 @@ module _ (pass : ℕ) (range : Range) (row : Row) (whose : History) where
   abbrev put : SlotLeaf → List BookEntry
   put = put_in pass range row whose
 
-  one_put : (mark : Mark) (f : Fate) (kept : Kept) → entries (with_put_of pass range row mark f kept).own whose
+  one_put : (mark : Mark) (f : Fate) (kept : Kept) → entries (with_put_of pass range (Adds row) mark f kept).own whose
       ≡ entries kept.own whose ++ flat_map put (took_at mark f)
   one_put mark fate.Waiting kept = sym (append-nil (entries kept.own whose))
   one_put mark fate.Ready kept = sym (append-nil (entries kept.own whose))
   one_put mark fate.Took kept =
-      entries_with (of.Leaf mark.leaf) whose (one.Leaf (put_of pass range row mark)) kept.own tt
+      entries_with (of.Leaf mark.leaf) whose (one.Leaf (put_of pass range (Adds row) mark)) kept.own tt
       ∙ ap (λ (xs : List BookEntry). entries kept.own whose ++ xs) (sym (append-nil (put (replica_of mark))))
   one_put mark (fate.Missed cut) kept = sym (append-nil (entries kept.own whose))
 
-  pub puts_added : (marks : List Mark) (kept : Kept) → entries (with_puts pass range row marks kept).own whose
+  pub puts_added : (marks : List Mark) (kept : Kept) → entries (with_puts pass range (Adds row) marks kept).own whose
       ≡ entries kept.own whose ++ flat_map put (took_of marks)
   puts_added [] kept = sym (append-nil (entries kept.own whose))
   puts_added (mark ∷ marks) kept =
-      puts_added marks (with_put_of pass range row mark mark.fate kept)
+      puts_added marks (with_put_of pass range (Adds row) mark mark.fate kept)
       ∙ ap (λ (xs : List BookEntry). xs ++ flat_map put (took_of marks)) (one_put mark mark.fate kept)
       ∙ append_assoc (entries kept.own whose) (flat_map put (took_mark mark)) (flat_map put (took_of marks))
       ∙ ap (λ (xs : List BookEntry). entries kept.own whose ++ xs)
@@ -146,19 +147,19 @@ pub ack_added : (pass : ℕ) (range : Range) (row : Row) (ack : Ack) (whose : Hi
 ack_added pass range row ack whose kept =
     entries_with (of.Range range) whose (one.Range (range_entry.Acked pass row ack)) kept tt
 
-put_number : (pass : ℕ) (range : Range) (row : Row) (mark : Mark) (f : Fate) (kept : Kept)
-    → (with_put_of pass range row mark f kept).number ≡ kept.number
-put_number pass range row mark fate.Waiting kept = refl
-put_number pass range row mark fate.Ready kept = refl
-put_number pass range row mark fate.Took kept = refl
-put_number pass range row mark (fate.Missed cut) kept = refl
+put_number : (pass : ℕ) (range : Range) (turn : Turn) (mark : Mark) (f : Fate) (kept : Kept)
+    → (with_put_of pass range turn mark f kept).number ≡ kept.number
+put_number pass range turn mark fate.Waiting kept = refl
+put_number pass range turn mark fate.Ready kept = refl
+put_number pass range turn mark fate.Took kept = refl
+put_number pass range turn mark (fate.Missed cut) kept = refl
 
-pub puts_number : (pass : ℕ) (range : Range) (row : Row) (marks : List Mark) (kept : Kept)
-    → (with_puts pass range row marks kept).number ≡ kept.number
-puts_number pass range row [] kept = refl
-puts_number pass range row (mark ∷ marks) kept =
-    puts_number pass range row marks (with_put_of pass range row mark mark.fate kept)
-    ∙ put_number pass range row mark mark.fate kept
+pub puts_number : (pass : ℕ) (range : Range) (turn : Turn) (marks : List Mark) (kept : Kept)
+    → (with_puts pass range turn marks kept).number ≡ kept.number
+puts_number pass range turn [] kept = refl
+puts_number pass range turn (mark ∷ marks) kept =
+    puts_number pass range turn marks (with_put_of pass range turn mark mark.fate kept)
+    ∙ put_number pass range turn mark mark.fate kept
 
 -- ---- the entries of a write differ
 
@@ -183,6 +184,7 @@ only_differ own e whose true = (λ y there. absurd (contains_none y there), tt)
 abbrev slot_of : Entry → ℕ
 slot_of (entry.Opened pass range slot rows) = slot.0
 slot_of (entry.Put pass range slot row) = slot.0
+slot_of (entry.Trim pass range slot before) = slot.0
 slot_of (entry.Down pass) = 0
 slot_of (entry.Up pass) = 0
 

@@ -8,21 +8,21 @@ use Rattle.std.proofs.lemmas.Bool.{cases_lt, eq-eqb, or_right}
 use Rattle.std.proofs.lemmas.List.{get_or_past, take_all}
 use Rattle.std.proofs.lemmas.List.Concat.{flat_map-append}
 use Rattle.std.proofs.lemmas.List.Elements.{Contains-append_right}
-use Rattle.mon_topo.proofs.FirstLemmas.{no_acks, here_contains, opening_at, no_acks_yet, opened_count}
+use Rattle.mon_topo.proofs.FirstLemmas.{here_contains, no_turns_since, no_turns_yet, opened_count, opening_at}
 use Rattle.mon_topo.proofs.FirstOpenings.{open_up_to, replica_there}
 use Rattle.mon_topo.specs.HeldHistories.{first_range_history, opened_before, opened_here, opened_of, opened_up_to}
 use Rattle.mon_topo.specs.HeldHistories.{opening, openings_from, slot_numbered, BeginsWith, IsBorneOut, IsHeldBy}
-use Rattle.mon_topo.specs.RangeHistories.{acknowledged_rows, opened_slots, serving_after}
+use Rattle.mon_topo.specs.RangeHistories.{opened_slots, serving_after, turns_since}
 use Rattle.mon_topo.specs.Replicas.{HasReplicas}
 use Rattle.mon_topo.specs.Zones.{first_replicas, leaves_in}
 use Rattle.mon_topo.specs.declared.zones.ZoneSpec.{ZoneSpec}
 use Rattle.mon_value.specs.Histories.{leaf_history, leaf_numbered, range_numbered, same_leaf}
-use Rattle.mon_value.specs.LeafHistories.{entry_rows, is_opened, replica_rows, same_replica}
+use Rattle.mon_value.specs.LeafHistories.{entry_turns, is_opened, replica_turns, same_replica}
+use Rattle.mon_value.specs.Turns.{after_turns}
 use Rattle.mon_value.specs.declared.histories.Entry.{Entry}
 use Rattle.mon_value.specs.declared.histories.Entry.TheVariants as entry
 use Rattle.mon_value.specs.declared.histories.Histories.{Histories}
 use Rattle.mon_value.specs.declared.histories.RangeEntry.{RangeEntry}
-use Rattle.mon_value.specs.declared.histories.RangeEntry.TheVariants as range_entry
 use Rattle.mon_value.specs.declared.positions.Leaf.{Leaf}
 use Rattle.mon_value.specs.declared.positions.Range.{Range}
 use Rattle.mon_value.specs.declared.positions.Slot.{Slot}
@@ -49,44 +49,38 @@ opened_in range slot (e ∷ history) (suc k, l, same) =
     more (entry.Opened pass other place rows) h =
         or_right (same_replica range slot other place) (is_opened range slot history) h
     more (entry.Put pass other place row) h = h
+    more (entry.Trim pass other place before) h = h
     more (entry.Down pass) h = h
     more (entry.Up pass) h = h
 
--- ---- openings bring no rows
-
-no_rows_by : (range : Range) (slot : Slot) (other : Range) (k : ℕ) (b : Bool)
-    → cond {A = List Row} b [] [] ≡ []
-no_rows_by range slot other k true = refl
-no_rows_by range slot other k false = refl
+-- ---- openings bring no turns
 
 module _ (range : Range) (slot : Slot) where
-  one_brings_none : (other : Range) (k : ℕ) (b : Bool) → replica_rows range slot (cond b (opening other k ∷ []) []) ≡ []
-  one_brings_none other k true =
-      ap (λ (rows : List Row). rows ++ [])
-      (no_rows_by range slot other k (same_replica range slot other (slot_numbered k)))
+  one_brings_none : (other : Range) (k : ℕ) (b : Bool) → replica_turns range slot (cond b (opening other k ∷ []) []) ≡ []
+  one_brings_none other k true = refl
   one_brings_none other k false = refl
 
   here_brings_none : (leaf : Leaf) (other : Range) (k : ℕ) (leaves : List Leaf)
-      → replica_rows range slot (opened_here leaf other k leaves) ≡ []
+      → replica_turns range slot (opened_here leaf other k leaves) ≡ []
   here_brings_none leaf other k [] = refl
   here_brings_none leaf other k (on ∷ leaves) =
-      flat_map-append (entry_rows range slot) (cond (same_leaf leaf on) (opening other k ∷ []) [])
+      flat_map-append (entry_turns range slot) (cond (same_leaf leaf on) (opening other k ∷ []) [])
       (opened_here leaf other (k + 1) leaves)
       ∙ (λ i. one_brings_none other k (same_leaf leaf on) i ++ here_brings_none leaf other (k + 1) leaves i)
 
   before_brings_none : (zones : List ZoneSpec) (leaf : Leaf) (from count : ℕ)
-      → replica_rows range slot (flat_map (opened_of zones leaf) (range_with_len from count)) ≡ []
+      → replica_turns range slot (flat_map (opened_of zones leaf) (range_with_len from count)) ≡ []
   before_brings_none zones leaf from zero = refl
   before_brings_none zones leaf from (suc count) =
-      flat_map-append (entry_rows range slot) (opened_of zones leaf from)
+      flat_map-append (entry_turns range slot) (opened_of zones leaf from)
       (flat_map (opened_of zones leaf) (range_with_len (from + 1) count))
       ∙ (λ i. here_brings_none leaf (range_numbered from) 0 (first_replicas zones from) i
       ++ before_brings_none zones leaf (from + 1) count i)
 
   up_to_brings_none : (zones : List ZoneSpec) (r place n : ℕ)
-      → replica_rows range slot (opened_up_to zones r place n) ≡ []
+      → replica_turns range slot (opened_up_to zones r place n) ≡ []
   up_to_brings_none zones r place n =
-      flat_map-append (entry_rows range slot) (flat_map (opened_of zones (leaf_numbered n)) (range_with_len 0 r))
+      flat_map-append (entry_turns range slot) (flat_map (opened_of zones (leaf_numbered n)) (range_with_len 0 r))
       (opened_here (leaf_numbered n) (range_numbered r) 0 (take place (first_replicas zones r)))
       ∙ (λ i. before_brings_none zones (leaf_numbered n) 0 r i
       ++ here_brings_none (leaf_numbered n) (range_numbered r) 0 (take place (first_replicas zones r)) i)
@@ -149,19 +143,19 @@ module _ (zones : List ZoneSpec) (range : Range) (has : HasReplicas zones range)
       (subst (λ (l : List Leaf). Contains (opened_here leaf range 0 l) (opening range k)) (sym whole) there))
 
   none_there : (leaf : Leaf) (k : ℕ) (slot : Slot) → slice_get firsts k ≡ Some leaf
-      → replica_rows range slot (leaf_history seen leaf) ≡ []
+      → replica_turns range slot (leaf_history seen leaf) ≡ []
   none_there leaf k slot at =
-      ap (replica_rows range slot) (seen_on leaf k at) ∙ up_to_brings_none range slot zones range.0 place leaf.0
+      ap (replica_turns range slot) (seen_on leaf k at) ∙ up_to_brings_none range slot zones range.0 place leaf.0
 
   just_at : (replica : SlotLeaf) → IsInSlot firsts 0 replica
-      → HasJust seen range (acknowledged_rows (first_range_history zones range.0)) replica
+      → HasJust seen range (turns_since replica.slot (first_range_history zones range.0)) replica
   just_at replica at =
       let slot : slot_numbered at.j ≡ replica.slot = ap slot_numbered (omega arith) ∙ at.slot in
       record {
         opened = opened_in range replica.slot (leaf_history seen replica.leaf)
             (subst (λ (s : Slot). Contains (leaf_history seen replica.leaf) (entry.Opened 0 range s [])) slot
             (entered replica.leaf at.j at.there));
-        all = none_there replica.leaf at.j replica.slot at.there ∙ sym (no_acks 0 firsts);
+        all = none_there replica.leaf at.j replica.slot at.there ∙ sym (no_turns_since replica.slot 0 firsts);
       }
 
   -- and no replica behind them
@@ -182,11 +176,11 @@ module _ (zones : List ZoneSpec) (range : Range) (has : HasReplicas zones range)
         ap (is_opened range slot) (get_or_past seen.leaves leaf.0 [] (omega (arith, beyond, all_leaves)))
   ]
 
-  -- each of its first replicas is opened, and has no rows, and no other is
+  -- each of its first replicas is opened, no turn has come to it, and no other is opened
   pub first_just : length seen.leaves ≡ length (leaves_in zones)
       → HaveJust seen range (first_range_history zones range.0)
   first_just all_leaves = record {
-    rows = λ replica there. just_at replica (in_slot firsts 0 replica
+    turns = λ replica there. just_at replica (in_slot firsts 0 replica
         (subst (λ (xs : List SlotLeaf). Contains xs replica) (serve_all [] 0 firsts) there));
     fresh = none_behind all_leaves;
   }
@@ -200,7 +194,8 @@ module _ (zones : List ZoneSpec) (range : Range) (has : HasReplicas zones range)
       (record {
         pass = 0;
         entered = subst (λ (rows : List Row). Contains (leaf_history seen at.leaf)
-            (entry.Opened 0 range (slot_numbered (0 + k)) rows)) (sym (no_acks_yet k 0 firsts))
+            (entry.Opened 0 range (slot_numbered (0 + k)) rows))
+            (sym (ap (after_turns []) (no_turns_yet k 0 firsts)))
             (subst (λ (n : ℕ). Contains (leaf_history seen at.leaf) (opening range n)) (sym number)
             (entered at.leaf k at.there));
       })
@@ -209,7 +204,7 @@ module _ (zones : List ZoneSpec) (range : Range) (has : HasReplicas zones range)
   pub first_borne_out : IsHeldBy seen range (first_range_history zones range.0)
   first_borne_out = record {
     kept = λ replica served.
-        subst (BeginsWith (replica_rows range replica.slot (leaf_history seen replica.leaf)))
-        (sym (no_acks 0 firsts)) refl;
+        subst (BeginsWith (replica_turns range replica.slot (leaf_history seen replica.leaf)))
+        (sym (no_turns_since replica.slot 0 firsts)) refl;
     borne_out = borne_by;
   }

@@ -12,20 +12,14 @@ use Rattle.mon_topo.proofs.RangeHistoryLemmas.{all_at}
 use Rattle.mon_topo.specs.Zones.{leaves_in}
 use Rattle.mon_topo.specs.declared.zones.ZoneSpec.{ZoneSpec}
 use Rattle.mon_value.specs.Histories.{leaf_history, range_history}
-use Rattle.mon_value.specs.LeafHistories.{replica_rows}
-use Rattle.mon_value.specs.declared.histories.Entry.{Entry}
+use Rattle.mon_value.specs.LeafHistories.{kept_rows}
 use Rattle.mon_value.specs.declared.positions.Leaf.{Leaf}
-use Rattle.mon_value.specs.declared.positions.Range.{Range}
-use Rattle.mon_value.specs.declared.positions.Slot.{Slot}
 use Rattle.mon_value.specs.declared.rows.Row.{Row}
-use Rattle.leaf_cell.specs.Visits.{HasGathered}
-use Rattle.owners.specs.Calls.{HasCalled, HasLooked}
 use Rattle.query_traces.specs.Traces.{cut_of, resolved_rows, source_of}
 use Rattle.query_traces.specs.declared.answers.Resolved.{Resolved}
 use Rattle.query_traces.specs.declared.answers.Trace.{Trace}
 use Rattle.mon_store.specs.Gathers.{HasSeenTrace}
 use Rattle.mon_store.specs.Passes.{OwnsTheSame}
-use Rattle.range_cell.proofs.LookingLemmas.{none_kept}
 use Rattle.running_query.proofs.GoingLemmas.{fronts_through}
 
 pub owns_itself : (know : Knowledge) → OwnsTheSame know know
@@ -71,12 +65,12 @@ counted_on a b now made more e f =
 -- a slot's rows at a cut that was seen before are those that were seen then
 rows_then : (before now : Knowledge) (trace : Trace) (one : Resolved) (cut : ℕ) → OwnsTheSame before now
     → cut ≡ cut_of trace one.leaf → cut ≤ length (leaf_history before.seen one.leaf)
-    → replica_rows one.range one.slot (take cut (leaf_history now.seen one.leaf)) ≡ resolved_rows before.seen trace one
+    → kept_rows one.range one.slot (take cut (leaf_history now.seen one.leaf)) ≡ resolved_rows before.seen trace one
 rows_then before now trace one cut same is short =
     let was = leaf_history before.seen one.leaf in
     let all = leaf_history now.seen one.leaf in
     let front = same.fronts.0 one.leaf in
-    ap (replica_rows one.range one.slot)
+    ap (kept_rows one.range one.slot)
     (take_on all was cut (begins_from all was front.0 (sym front.1)) short ∙ ap (λ n. take n was) is)
 
 read_at : (xs : List ℕ) (i x : ℕ) → slice_get xs i ≡ Some x → x ≡ get_or xs i 0
@@ -120,7 +114,7 @@ module _ (zones : List ZoneSpec) (know : Knowledge) (trace : Trace) (seen : HasS
       → items ≡ trace.resolved → i < length items → OwnsTheSame know now
       → slice_get trace.cuts (slice_index_or items i d).leaf.0 ≡ Some cut
       → made ++ flat_map (resolved_rows know.seen trace) (drop i trace.resolved) ≡ source_of know.seen trace
-      → next ≡ made ++ replica_rows (slice_index_or items i d).range (slice_index_or items i d).slot
+      → next ≡ made ++ kept_rows (slice_index_or items i d).range (slice_index_or items i d).slot
       (take cut (leaf_history now.seen (slice_index_or items i d).leaf))
       → next ++ flat_map (resolved_rows know.seen trace) (drop (i + 1) trace.resolved) ≡ source_of know.seen trace
   one_more now made next items i cut d is there same at all grown =

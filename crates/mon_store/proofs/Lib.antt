@@ -18,5 +18,6 @@ pub mod SameLemmas
 pub mod SeenTraceLemmas
 pub mod StartLemmas
 pub mod SwitchLemmas
+pub mod TurnRowLemmas
 pub mod WriteLemmas
 pub mod WrittenLemmas

@@ -18,7 +18,7 @@ use Rattle.know.specs.Knowledge.{Knowledge, stopped_count}
 use Rattle.mon_config.specs.declared.config.Config.{Config}
 use Rattle.mon_topo.proofs.FrontLemmas.{begins_push, begins_same, begins_through}
 use Rattle.mon_topo.specs.HeldHistories.{BeginsWith}
-use Rattle.mon_topo.specs.RangeHistories.{acknowledged_rows, serving}
+use Rattle.mon_topo.specs.RangeHistories.{left_rows, serving}
 use Rattle.mon_topo.specs.Settings.{Setting}
 use Rattle.mon_topo.specs.Zones.{leaves_in}
 use Rattle.mon_value.specs.Histories.{leaf_history, range_history}
@@ -276,7 +276,7 @@ module _ (setting : Setting) (config : Config) (leaves : ℕ) (range : Range) (l
       pass = pass_of before
 
       abbrev at_leaf : Entry
-      at_leaf = entry.Opened pass range slot (acknowledged_rows history)
+      at_leaf = entry.Opened pass range slot (left_rows history)
 
       abbrev e : RangeEntry
       e = range_entry.Opened pass slot leaf
@@ -326,7 +326,7 @@ module _ (setting : Setting) (config : Config) (leaves : ℕ) (range : Range) (l
           told_back
 
       abbrev new : History → List BookEntry
-      new = opened pass range slot leaf (acknowledged_rows history)
+      new = opened pass range slot leaf (left_rows history)
 
       under : (n : ℕ) → nat_eq n n ≡ true
       under n = grind (arith, nat_tests)
@@ -431,7 +431,7 @@ module _ (setting : Setting) (config : Config) (leaves : ℕ) (range : Range) (l
         moved = moved_by before.handed before after
             (added_still setting before then is carried borne new last own number added all_seen);
         handed = h.ends.entered.handed ∙ h.ends.at_leaf.handed ∙ h.looking.counted
-            ∙ ap (λ (n : ℕ). stopped_count (n + length (acknowledged_rows history))) begins.met.handed;
+            ∙ ap (λ (n : ℕ). stopped_count (n + length (left_rows history))) begins.met.handed;
       }
 
   -- ---- by the answer

@@ -10,7 +10,7 @@ use Rattle.know.specs.Knowledge.{Knowledge}
 use Rattle.mon_config.specs.Configs.{range_of_key}
 use Rattle.mon_config.specs.declared.config.Config.{Config}
 use Rattle.mon_topo.proofs.FrontLemmas.{begins_same}
-use Rattle.mon_topo.specs.RangeHistories.{acknowledged_rows, serving}
+use Rattle.mon_topo.specs.RangeHistories.{serving}
 use Rattle.mon_topo.specs.Settings.{Setting}
 use Rattle.mon_topo.specs.Zones.{leaves_in}
 use Rattle.mon_value.specs.Histories.{range_history}
@@ -18,6 +18,7 @@ use Rattle.mon_value.specs.declared.histories.RangeEntry.{RangeEntry}
 use Rattle.mon_value.specs.declared.positions.FoundDown.{FoundDown}
 use Rattle.mon_value.specs.declared.positions.Range.{Range}
 use Rattle.mon_value.specs.declared.positions.SlotLeaf.{SlotLeaf}
+use Rattle.mon_value.specs.Turns.{Turn, Adds}
 use Rattle.mon_value.specs.declared.rows.Row.{Row}
 use Rattle.owners.specs.Puts.{pass_of}
 use Rattle.mon_store.proofs.CarriedLemmas.{HasGoneOver, HasReturned, over_carried}
@@ -113,20 +114,20 @@ given_back leaves range history mid after back = record {
   handed = back.met.handed;
 }
 
-put_none : (pass : ℕ) (range : Range) (row : Row) (mark : Mark) (f : Fate) (kept : Kept) → has_taken f ≡ false
-    → with_put_of pass range row mark f kept ≡ kept
-put_none pass range row mark fate.Waiting kept n = refl
-put_none pass range row mark fate.Ready kept n = refl
-put_none pass range row mark fate.Took kept n = absurd cc
-put_none pass range row mark (fate.Missed cut) kept n = refl
+put_none : (pass : ℕ) (range : Range) (turn : Turn) (mark : Mark) (f : Fate) (kept : Kept) → has_taken f ≡ false
+    → with_put_of pass range turn mark f kept ≡ kept
+put_none pass range turn mark fate.Waiting kept n = refl
+put_none pass range turn mark fate.Ready kept n = refl
+put_none pass range turn mark fate.Took kept n = absurd cc
+put_none pass range turn mark (fate.Missed cut) kept n = refl
 
-puts_none : (pass : ℕ) (range : Range) (row : Row) (marks : List Mark) (kept : Kept) → some_took marks ≡ false
-    → with_puts pass range row marks kept ≡ kept
-puts_none pass range row [] kept n = refl
-puts_none pass range row (mark ∷ marks) kept n =
+puts_none : (pass : ℕ) (range : Range) (turn : Turn) (marks : List Mark) (kept : Kept) → some_took marks ≡ false
+    → with_puts pass range turn marks kept ≡ kept
+puts_none pass range turn [] kept n = refl
+puts_none pass range turn (mark ∷ marks) kept n =
     let parts = or_parts (has_taken mark.fate) (some_took marks) n in
-    ap (with_puts pass range row marks) (put_none pass range row mark mark.fate kept parts.0)
-    ∙ puts_none pass range row marks kept parts.1
+    ap (with_puts pass range turn marks) (put_none pass range turn mark mark.fate kept parts.0)
+    ∙ puts_none pass range turn marks kept parts.1
 
 map_alike : {X : Type 0} (f : X → X) (o : Option X) → ((x : X) → f x ≡ x) → option_map f o ≡ o
 map_alike f None same = refl
@@ -164,12 +165,12 @@ module _ (setting : Setting) (config : Config) (leaves : ℕ) (range : Range) (r
   abbrev pass : ℕ
   pass = pass_of before
 
-  module _ (founds : List FoundDown) (none : HasFoundNone leaves range row history pass begun after founds) where
+  module _ (founds : List FoundDown) (none : HasFoundNone leaves range (Adds row) history pass begun after founds) where
     returned : HasReturned leaves range history none.mid after
     returned = given_back leaves range history none.mid after none.back
 
     over : HasGoneOver begun none.mid
-    over = went_over range row pass (acknowledged_rows history) (serving history) begun none.mid none.marks none.through
+    over = went_over range (Adds row) pass (serving history) begun none.mid none.marks none.through
 
     pub none_carried : IsCarried before after
     none_carried =
@@ -178,8 +179,8 @@ module _ (setting : Setting) (config : Config) (leaves : ℕ) (range : Range) (r
     pub none_own : after.purse.own ≡ before.purse.own
     none_own =
         none.back.met.own ∙ none.through.so_far.writing.own
-        ∙ map_alike (with_puts pass range row none.marks) begun.purse.own
-        (λ kept. puts_none pass range row none.marks kept none.none)
+        ∙ map_alike (with_puts pass range (Adds row) none.marks) begun.purse.own
+        (λ kept. puts_none pass range (Adds row) none.marks kept none.none)
         ∙ begins.met.own
 
     pub none_refused_as : range_of_key config row.key ≡ Some range → refusal config.range_points history row ≡ None
@@ -200,7 +201,7 @@ module _ (setting : Setting) (config : Config) (leaves : ℕ) (range : Range) (r
             let mark = contains_flat found_in_mark none.marks found
             (subst (λ (xs : List FoundDown). Contains xs found) (sym none.founds_are) there) in
             let at = found_at mark.0 mark.0.fate found mark.2 in
-            let down = went_down range row pass (acknowledged_rows history) (serving history) begun none.mid none.marks
+            let down = went_down range (Adds row) pass (serving history) begun none.mid none.marks
             none.through mark.0 at.0 mark.1 at.1 in
             subst (λ (f : FoundDown). WasFoundDown before after f.leaf f.cut) at.2
             (over_down setting config leaves range before after is counted history begun none.mid begins over returned
@@ -208,7 +209,7 @@ module _ (setting : Setting) (config : Config) (leaves : ℕ) (range : Range) (r
       };
     }
 
-  module _ (up : HasGivenUp leaves range row history pass begun after) where
+  module _ (up : HasGivenUp leaves range (Adds row) history pass begun after) where
     up_over : HasGoneOver begun up.mid
     up_over = record {
       fronts = up.withdrawn.fronts;

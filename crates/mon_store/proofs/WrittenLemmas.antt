@@ -32,8 +32,9 @@ use Rattle.mon_topo.specs.Zones.{leaves_in, ranges_in}
 use Rattle.mon_topo.specs.declared.zones.ZoneSpec.{ZoneSpec}
 use Rattle.mon_value.proofs.SameLemmas.{same_series-Decides}
 use Rattle.mon_value.specs.Histories.{same_leaf, leaf_history, range_history}
-use Rattle.mon_value.specs.LeafHistories.{entry_rows, replica_rows, EndsBefore, IsSource}
+use Rattle.mon_value.specs.LeafHistories.{EndsBefore, IsSource}
 use Rattle.mon_value.specs.Same.{same_series}
+use Rattle.mon_value.specs.Turns.{Turn, Adds}
 use Rattle.mon_value.specs.declared.histories.Ack.{Ack}
 use Rattle.mon_value.specs.declared.histories.Entry.{Entry}
 use Rattle.mon_value.specs.declared.histories.Entry.TheVariants as entry
@@ -42,13 +43,13 @@ use Rattle.mon_value.specs.declared.histories.RangeEntry.{RangeEntry}
 use Rattle.mon_value.specs.declared.histories.RangeEntry.TheVariants as range_entry
 use Rattle.mon_value.specs.declared.positions.Leaf.{Leaf}
 use Rattle.mon_value.specs.declared.positions.Range.{Range}
-use Rattle.mon_value.specs.declared.positions.Slot.{Slot}
 use Rattle.mon_value.specs.declared.positions.SlotLeaf.{SlotLeaf}
 use Rattle.mon_value.specs.declared.rows.Row.{Row}
 use Rattle.owners.specs.Puts.{pass_of}
 use Rattle.mon_store.proofs.AddedLemmas.{ack_added, only_is, put_is, puts_added, puts_number, took_apart, took_in}
 use Rattle.mon_store.proofs.AddedLemmas.{took_of, took_slots, written_differ}
 use Rattle.mon_store.proofs.CarriedLemmas.{HasGoneOver, HasReturned, over_carried, over_down, over_found}
+use Rattle.mon_store.proofs.TurnRowLemmas.{acknowledged_since, turn_of_put}
 use Rattle.mon_store.proofs.WriteLemmas.{HaveCome, IsCarried, added_new, added_own, added_still, all_come, has_own}
 use Rattle.mon_store.proofs.WriteLemmas.{own_is, written_pass}
 use Rattle.mon_store.specs.Passes.{IsPass}
@@ -59,7 +60,6 @@ use Rattle.range_cell.specs.Stages.{IsThrough}
 use Rattle.range_cell.specs.Writes.{HasAcknowledged}
 use Rattle.range_cell.specs.Writing.{IsFated, put_of, ready_count, with_puts}
 use Rattle.write_core.proofs.AckLemmas.{contains_map, missed_in}
-use Rattle.mon_value.proofs.LeafHistoryLemmas.{same_replica-itself}
 use Rattle.mon_value.proofs.PlainLemmas.{in_flat_map, in_map}
 use Rattle.write_core.specs.Invariant.{AreAll, is_decided}
 use Rattle.write_core.specs.Marks.{is_ready, replica_of}
@@ -83,13 +83,6 @@ not_old (first ∷ rows) row source (zero, l, e) =
     (ends (subst (λ (x : Row). same_series x.key row.key ≡ true) (sym e)
     ((same_series-Decides row.key row.key).1 refl))))
 not_old (first ∷ rows) row source (suc k, l, e) = not_old rows row source.1 (k, omega arith, e)
-
--- the row of a put is among its replica's
-row_of_put : (pass : ℕ) (range : Range) (slot : Slot) (row : Row) (history : List Entry)
-    → Contains history (entry.Put pass range slot row) → Contains (replica_rows range slot history) row
-row_of_put pass range slot row history there =
-    in_flat_map (entry_rows range slot) history (entry.Put pass range slot row) row there
-    (subst (λ b. Contains (cond b (row ∷ []) []) row) (sym (same_replica-itself range slot)) (0, omega arith, refl))
 
 row_of_ack : (pass : ℕ) (row : Row) (ack : Ack) (history : List RangeEntry)
     → Contains history (range_entry.Acked pass row ack) → Contains (acknowledged_rows history) row
@@ -135,8 +128,8 @@ not_ready leaf (mark ∷ marks) h =
     by fate.Took b e = no_more (ready_count leaf marks)
     by (fate.Missed cut) b e = no_more (ready_count leaf marks)
 
-module _ (range : Range) (row : Row) (pass : ℕ) (rows : List Row) (replicas : List SlotLeaf) (begun mid : Knowledge)
-    (marks : List Mark) (through : IsThrough range row pass rows begun replicas mid marks) where
+module _ (range : Range) (turn : Turn) (pass : ℕ) (replicas : List SlotLeaf) (begun mid : Knowledge)
+    (marks : List Mark) (through : IsThrough range turn pass begun replicas mid marks) where
   pub went_over : HasGoneOver begun mid
   went_over = record {
     fronts = through.so_far.writing.fronts;
@@ -152,18 +145,18 @@ module _ (range : Range) (row : Row) (pass : ℕ) (rows : List Row) (replicas : 
   }
 
   fated : (mark : Mark) → Contains marks mark → (f : Fate) → mark.fate ≡ f
-      → IsFated range row pass rows begun mid mark f
+      → IsFated range turn pass begun mid mark f
   fated mark there f e =
-      subst (λ (f' : Fate). IsFated range row pass rows begun mid mark f') e
-      (all_at (λ (x : Mark). IsFated range row pass rows begun mid x x.fate) marks mark through.so_far.writing.each
+      subst (λ (f' : Fate). IsFated range turn pass begun mid mark f') e
+      (all_at (λ (x : Mark). IsFated range turn pass begun mid x x.fate) marks mark through.so_far.writing.each
       there)
 
   pub went_down : (mark : Mark) (cut : ℕ) → Contains marks mark → mark.fate ≡ fate.Missed cut
-      → IsFated range row pass rows begun mid mark (fate.Missed cut)
+      → IsFated range turn pass begun mid mark (fate.Missed cut)
   went_down mark cut there e = fated mark there (fate.Missed cut) e
 
   pub went_in : (mark : Mark) → Contains marks mark → mark.fate ≡ fate.Took
-      → Contains (leaf_history mid.seen mark.leaf) (put_of pass range row mark)
+      → Contains (leaf_history mid.seen mark.leaf) (put_of pass range turn mark)
   went_in mark there e = (fated mark there fate.Took e).1
 
   pub serves : (mark : Mark) → Contains marks mark → Contains replicas (replica_of mark)
@@ -178,7 +171,7 @@ module _ (setting : Setting) (config : Config) (leaves : ℕ) (range : Range) (r
     (sound : IsSound setting after.hints after.seen) (counted : leaves ≡ length (leaves_in config.topology))
     (here : range.0 < length (ranges_in setting.zones)) (history : List RangeEntry) (begun : Knowledge)
     (begins : HasBegun leaves range history before begun) (ack : Ack)
-    (acked : HasAcknowledged leaves range row history (pass_of before) begun after ack) where
+    (acked : HasAcknowledged leaves range (Adds row) history (pass_of before) begun after ack) where
   abbrev pass : ℕ
   pass = pass_of before
 
@@ -201,7 +194,7 @@ module _ (setting : Setting) (config : Config) (leaves : ℕ) (range : Range) (r
   }
 
   over : HasGoneOver begun acked.mid
-  over = went_over range row pass (acknowledged_rows history) (serving history) begun acked.mid acked.marks
+  over = went_over range (Adds row) pass (serving history) begun acked.mid acked.marks
       acked.through
 
   carried : IsCarried before after
@@ -222,7 +215,7 @@ module _ (setting : Setting) (config : Config) (leaves : ℕ) (range : Range) (r
   took_serves replica in_took =
       let found = took_in acked.marks replica in_took in
       subst (λ (x : SlotLeaf). Contains (serving history) x) found.3
-      (serves range row pass (acknowledged_rows history) (serving history) begun acked.mid acked.marks acked.through
+      (serves range (Adds row) pass (serving history) begun acked.mid acked.marks acked.through
       found.0 found.1)
 
   -- what it put is seen
@@ -232,8 +225,8 @@ module _ (setting : Setting) (config : Config) (leaves : ℕ) (range : Range) (r
       let found = took_in acked.marks replica in_took in
       subst (λ (x : SlotLeaf). Contains (leaf_history after.seen x.leaf) (entry.Put pass range x.slot row)) found.3
       (prefix_contains (leaf_history acked.mid.seen found.0.leaf) (leaf_history after.seen found.0.leaf)
-      (put_of pass range row found.0) (acked.entered.fronts.0 found.0.leaf)
-      (went_in range row pass (acknowledged_rows history) (serving history) begun acked.mid acked.marks acked.through
+      (put_of pass range (Adds row) found.0) (acked.entered.fronts.0 found.0.leaf)
+      (went_in range (Adds row) pass (serving history) begun acked.mid acked.marks acked.through
       found.0 found.1 found.2))
 
   -- and was not there before
@@ -243,8 +236,10 @@ module _ (setting : Setting) (config : Config) (leaves : ℕ) (range : Range) (r
       let then = prefix_contains (leaf_history before.seen replica.leaf) (leaf_history begun.seen replica.leaf)
       (entry.Put pass range replica.slot row) (begins.met.fronts.0 replica.leaf) old in
       not_old (acknowledged_rows history) row may.2
-      (subst (λ (rows : List Row). Contains rows row) (begins.rows.rows replica (took_serves replica in_took)).all
-      (row_of_put pass range replica.slot row (leaf_history begun.seen replica.leaf) then))
+      (acknowledged_since replica.slot row history
+      (subst (λ (turns : List Turn). Contains turns (Adds row))
+      (begins.turns.turns replica (took_serves replica in_took)).all
+      (turn_of_put pass range replica.slot row (leaf_history begun.seen replica.leaf) then)))
 
   ack_new : Contains (range_history before.seen range) e → ⊥
   ack_new old =
@@ -323,7 +318,7 @@ module _ (setting : Setting) (config : Config) (leaves : ℕ) (range : Range) (r
   first = (has_own before is.number).kept
 
   abbrev puts : Kept → Kept
-  puts = with_puts pass range row acked.marks
+  puts = with_puts pass range (Adds row) acked.marks
 
   abbrev last : Kept
   last = kept_with (of.Range range) (one.Range e) (puts first)
@@ -336,7 +331,7 @@ module _ (setting : Setting) (config : Config) (leaves : ℕ) (range : Range) (r
       (begins.met.own ∙ (has_own before is.number).is))
 
   number : last.number ≡ pass
-  number = puts_number pass range row acked.marks first ∙ (has_own before is.number).number
+  number = puts_number pass range (Adds row) acked.marks first ∙ (has_own before is.number).number
 
   added : (whose : History) → entries last.own whose ≡ own_entries before.purse.own whose ++ new whose
   added whose =
@@ -361,7 +356,7 @@ module _ (setting : Setting) (config : Config) (leaves : ℕ) (range : Range) (r
   found_down miss in_missed =
       let mark = missed_in acked.marks miss
       (subst (λ (a : Ack). Contains a.missed miss) (sym acked.ack_is) in_missed) in
-      let down = went_down range row pass (acknowledged_rows history) (serving history) begun acked.mid acked.marks
+      let down = went_down range (Adds row) pass (serving history) begun acked.mid acked.marks
       acked.through mark.0 mark.2 mark.1 mark.3 in
       subst (λ (m : Miss). WasFoundDown before after m.leaf m.cut) mark.4
       (over_down setting config leaves range before after is counted history begun acked.mid begins over returned

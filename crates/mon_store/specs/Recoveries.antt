@@ -8,7 +8,7 @@ use Rattle.history_book.specs.declared.views.History.{History}
 use Rattle.history_book.specs.declared.views.History.TheVariants as of
 use Rattle.know.specs.Knowledge.{Knowledge, stopped_count}
 use Rattle.mon_config.specs.declared.config.Config.{Config}
-use Rattle.mon_topo.specs.RangeHistories.{acknowledged_rows, serving}
+use Rattle.mon_topo.specs.RangeHistories.{left_rows, serving}
 use Rattle.mon_value.specs.Histories.{leaf_history, range_history}
 use Rattle.mon_value.specs.declared.histories.Entry.TheVariants as entry
 use Rattle.mon_value.specs.declared.histories.RangeEntry.{RangeEntry}
@@ -62,22 +62,23 @@ pub record WasSourceUp (before after : Knowledge) (replicas : List SlotLeaf) : T
   pub up : WasFoundUp before after source.leaf cut
 
 module _ (config : Config) (range : Range) (leaf : Leaf) (before after : Knowledge) where
-  -- The range's history opens one more replica on the leaf: in its next slot, with all rows that it acknowledges. That
-  -- stands in both histories, behind all that the range's had, and is all that was added; these rows were handed out
+  -- The range's history opens one more replica on the leaf: in its next slot, with the rows that are left of the range.
+  -- That stands in both histories, behind all that the range's had, and is all that was added; these rows were handed
+  -- out
   pub record IsRecovered (slot : Slot) : Type 0 where
     pub history : List RangeEntry
     pub found : WasFoundSo config range history before after
     pub free : denial_of history leaf ≡ None
     pub next : slot ≡ next_slot history
     pub on_leaf : Contains (leaf_history after.seen leaf)
-        (entry.Opened (pass_of before) range slot (acknowledged_rows history))
+        (entry.Opened (pass_of before) range slot (left_rows history))
     pub told : range_history after.seen range ≡ history ++ range_entry.Opened (pass_of before) slot leaf ∷ []
     pub own : (whose : History) → own_entries after.purse.own whose
-        ≡ own_entries before.purse.own whose ++ opened (pass_of before) range slot leaf (acknowledged_rows history) whose
+        ≡ own_entries before.purse.own whose ++ opened (pass_of before) range slot leaf (left_rows history) whose
     pub new : (whose : History) → new_entries before after whose
-        ≡ opened (pass_of before) range slot leaf (acknowledged_rows history) whose
+        ≡ opened (pass_of before) range slot leaf (left_rows history) whose
     pub moved : IsMoved before after
-    pub handed : after.handed ≡ stopped_count (before.handed + length (acknowledged_rows history))
+    pub handed : after.handed ≡ stopped_count (before.handed + length (left_rows history))
 
   -- The range was found with a history of which this is said
   pub record IsNotRecoveredAs (why : List RangeEntry → Type 0) : Type 0 where

@@ -5,7 +5,7 @@ ghost use Rattle.know.specs.Knowledge.{stopped_count};
 ghost use Rattle.know.specs.Sound.{IsSound};
 ghost use Rattle.mon_topo.specs.Zones.{leaves_in};
 ghost use Rattle.mon_value.specs.Histories.{leaf_history};
-ghost use Rattle.mon_value.specs.LeafHistories.{replica_rows};
+ghost use Rattle.mon_value.specs.LeafHistories.{kept_rows};
 ghost use Rattle.query_traces.specs.Traces.{source_of};
 ghost use Rattle.mon_store.specs.Gathers.{HasBeenHanded, HasSeenTrace};
 ghost use Rattle.mon_store.specs.Passes.{OwnsTheSame};
@@ -19,8 +19,8 @@ use std::alloc::Global;
 use std::sync::Wait;
 
 impl<N: Names> Store<N> {
-    /// The rows that a query stands on: of each slot that a range resolved to, at its leaf's cut, ranges in order. They
-    /// are counted as handed out.
+    /// The rows that a query stands on: those that each slot which a range resolved to keeps at its leaf's cut, ranges in
+    /// order. They are counted as handed out.
     pub fn gather<R: Wait>(
         &self,
         rt: &R,
@@ -75,7 +75,7 @@ impl<N: Names> Store<N> {
         Ok(RowList::from_vec(rows))
     }
 
-    // The rows of one slot, behind those of others.
+    // The rows that one slot keeps, behind those of others.
     fn gather_slot<R: Wait>(
         &self,
         rt: &R,
@@ -87,9 +87,9 @@ impl<N: Names> Store<N> {
         requires there { one.leaf.0 < length (leaves_in N.setting.zones) }
         requires seen { cut ≤ length (leaf_history know.old.seen one.leaf) }
         ensures rows { OnOk result (rows.new.items ≡ rows.old.items
-            ++ replica_rows one.range one.slot (take cut (leaf_history know.old.seen one.leaf))) }
+            ++ kept_rows one.range one.slot (take cut (leaf_history know.old.seen one.leaf))) }
         ensures handed { OnOk result (know.new.handed ≡ stopped_count (know.old.handed
-            + length (replica_rows one.range one.slot (take cut (leaf_history know.old.seen one.leaf))))) }
+            + length (kept_rows one.range one.slot (take cut (leaf_history know.old.seen one.leaf))))) }
         ensures same { OwnsTheSame know.old know.new }
     {
         let found = self

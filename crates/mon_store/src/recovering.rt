@@ -14,9 +14,10 @@ use std::alloc::Global;
 use std::sync::Wait;
 
 impl<N: Names> Store<N> {
-    /// Opens one replica more of a range on a leaf of its zone, with all acknowledged rows, and tells its slot. The rows
-    /// are copied from the first replica that serves whose leaf is up. A leaf that missed rows while it was down is
-    /// written to and read again once it is recovered. No row of the range is written meanwhile.
+    /// Opens one replica more of a range on a leaf of its zone, with the rows that are left of the range: acknowledged,
+    /// and hidden by no trim behind them. It tells the slot. The rows are copied from the first replica that serves whose
+    /// leaf is up. A leaf that missed rows while it was down is written to and read again once it is recovered. No row of
+    /// the range is written meanwhile.
     pub fn recover<R: Wait>(
         &self,
         rt: &R,

@@ -15,6 +15,7 @@ pub mod FirstLemmas
 pub mod FirstOpenings
 pub mod FrontLemmas
 pub mod HeldLemmas
+pub mod HeldSteps
 pub mod NameMapLemmas
 pub mod PartLemmas
 pub mod PositionLemmas
@@ -23,3 +24,5 @@ pub mod ServingLemmas
 pub mod SharedZoneLemmas
 pub mod SightLemmas
 pub mod PlacedRangeLemmas
+pub mod LeftLemmas
+pub mod TurnsSinceLemmas

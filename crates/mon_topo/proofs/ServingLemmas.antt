@@ -7,7 +7,8 @@ use Rattle.std.specs.List.{AllByRecursion as All}
 use Rattle.std.proofs.lemmas.Bool.Decides.{nat_tests}
 use Rattle.std.proofs.lemmas.List.Sums.{sum_by-append, sum_by-cons}
 use Rattle.mon_schema.specs.Names.{SchemaLists}
-use Rattle.mon_topo.proofs.RangeHistoryLemmas.{AreApart, IsFrom, IsLegal-push, not_missed, numbered, serving-push}
+use Rattle.mon_topo.proofs.RangeHistoryLemmas.{AreApart, IsFrom, IsLegal-push, not_missed, not_slot, numbered, serving-push}
+use Rattle.mon_topo.proofs.RangeHistoryLemmas.{serving-retired, serving-trimmed, serving_more}
 use Rattle.mon_topo.specs.HeldHistories.{BeginsWith}
 use Rattle.mon_topo.specs.RangeHistories as spec
 use Rattle.mon_value.specs.Histories.{same_slot}
@@ -160,11 +161,37 @@ first_of history (replica ∷ replicas) e some = record {
 opened_serves : (replicas : List SlotLeaf) (history : List RangeEntry) (pass : ℕ) (slot : Slot) (leaf : Leaf)
     → serving_after replicas (history ++ range_entry.Opened pass slot leaf ∷ [])
     ≡ serving_after replicas history ++ record { slot = slot; leaf = leaf } ∷ []
-opened_serves replicas [] pass slot leaf = refl
-opened_serves replicas (range_entry.Opened p s l ∷ history) pass slot leaf =
-    opened_serves (replicas ++ record { slot = s; leaf = l } ∷ []) history pass slot leaf
-opened_serves replicas (range_entry.Acked p row ack ∷ history) pass slot leaf =
-    opened_serves (filter (not_missed ack) replicas) history pass slot leaf
+opened_serves replicas history pass slot leaf = serving_more replicas history (range_entry.Opened pass slot leaf ∷ [])
+
+-- where one of several is retired, others are left
+rest_by : (slot : Slot) (replica : SlotLeaf) (replicas : List SlotLeaf) (b : Bool) → same_slot slot replica.slot ≡ b
+    → All (IsFrom replica) replicas → length replicas ≤ 1 + length (filter (not_slot slot) replicas)
+    → length (replica ∷ replicas)
+    ≤ 1 + length (cond (not b) (replica ∷ filter (not_slot slot) replicas) (filter (not_slot slot) replicas))
+rest_by slot replica replicas true e all rest =
+    let number : slot.0 ≡ replica.slot.0 = let test : nat_eq slot.0 replica.slot.0 ≡ true = e in
+    grind (arith, nat_tests) in
+    let same : filter (not_slot slot) replicas ≡ replicas = none_dropped slot replica replicas number all in
+    let count : length (filter (not_slot slot) replicas) ≡ length replicas = ap length same in
+    omega (arith, count)
+  where
+    apart_test : (a b : ℕ) → (a ≡ b → ⊥) → nat_eq a b ≡ false
+    apart_test a b apart = grind (arith, nat_tests)
+
+    none_dropped : (slot : Slot) (replica : SlotLeaf) (replicas : List SlotLeaf) → slot.0 ≡ replica.slot.0
+        → All (IsFrom replica) replicas → filter (not_slot slot) replicas ≡ replicas
+    none_dropped slot replica [] e all = refl
+    none_dropped slot replica (other ∷ replicas) e all =
+        let differ : nat_eq slot.0 other.slot.0 ≡ false = apart_test slot.0 other.slot.0 (λ same. all.0 (sym same ∙ e)) in
+        ap (λ c. cond (not c) (other ∷ filter (not_slot slot) replicas) (filter (not_slot slot) replicas)) differ
+        ∙ ap (λ xs. other ∷ xs) (none_dropped slot replica replicas e all.1)
+rest_by slot replica replicas false e all rest = omega (arith, rest)
+
+rest_left : (slot : Slot) (replicas : List SlotLeaf) → AreApart replicas
+    → length replicas ≤ 1 + length (filter (not_slot slot) replicas)
+rest_left slot [] apart = omega arith
+rest_left slot (replica ∷ replicas) apart =
+    rest_by slot replica replicas (same_slot slot replica.slot) refl apart.0 (rest_left slot replicas apart.1)
 
 some_of : (n : ℕ) → (n ≡ 0 → ⊥) → 0 < n
 some_of zero h = absurd (h refl)
@@ -184,6 +211,18 @@ module _ (held : SchemaLists) (zones : List ZoneSpec) (points : ℕ) (range : Ra
       some_of (length (serving (history ++ range_entry.Acked pass row ack ∷ [])))
       (λ none. some_left range (serving history) ack (numbered held zones points range history legal).apart may.0
       (sym (ap length (serving-push history pass row ack)) ∙ none))
+  serves_on history (range_entry.Trimmed pass before ack) legal may =
+      some_of (length (serving (history ++ range_entry.Trimmed pass before ack ∷ [])))
+      (λ none. some_left range (serving history) ack (numbered held zones points range history legal).apart may
+      (sym (ap length (serving-trimmed history pass before ack)) ∙ none))
+  serves_on history (range_entry.Retired pass slot) legal may =
+      let several : 1 < length (serving history) = may.1 in
+      omega (
+        arith,
+        several,
+        ap length (serving-retired history pass slot),
+        rest_left slot (serving history) (numbered held zones points range history legal).apart,
+      )
 
   serves_later : (history more : List RangeEntry) → spec.IsLegal held zones points range history
       → 0 < length (serving history) → spec.GoesOn held zones points range history more

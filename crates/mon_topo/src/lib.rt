@@ -21,6 +21,7 @@ mod sights;
 mod sizes;
 mod spans;
 mod topology;
+mod turn_laws;
 mod zones;
 
 pub use faults::{TopoFault, TopoKind};
@@ -35,4 +36,5 @@ pub use shared_zones::share_zone;
 pub use sight_laws::{sights_grow, sights_join};
 pub use sights::{RangeSight, Sight};
 pub use topology::Topology;
+pub use turn_laws::replicas_keep_what_is_left;
 pub use zones::{RangeSpec, RangeSpecs, ZoneSpec, ZoneSpecs};

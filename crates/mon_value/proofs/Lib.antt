@@ -6,6 +6,7 @@ pub mod FartherLemmas
 pub mod GridLemmas
 pub mod GroupLemmas
 pub mod IncreaseLemmas
+pub mod KeptRowLemmas
 pub mod KeyedLemmas
 pub mod LeafHistoryLemmas
 pub mod ListLendsLemmas
@@ -19,5 +20,8 @@ pub mod RowOrderLemmas
 pub mod SameLemmas
 pub mod SortingLemmas
 pub mod SourceLemmas
+pub mod SourceMoreLemmas
+pub mod StandingLemmas
 pub mod TextLemmas
+pub mod TurnLemmas
 pub mod ValueTextLemmas

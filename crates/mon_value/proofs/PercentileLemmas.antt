@@ -1,7 +1,7 @@
 -- The bucket in which a percentile lies.
 use Rattle.std.proofs.Common.{◌≡◌, ◌≢◌, ℕ, zero, suc, ◌+◌, ◌*◌, ◌<◌, ◌≤◌, Bool, true, false, nat_le, not, ℤ, List, []}
 use Rattle.std.proofs.Common.{◌∷◌, length, get_or, take, sum, Some, refl, ap, ◌∙◌, arith, add-one, zero-add, pos, ◌-◌}
-use Rattle.std.proofs.Common.{min, take_all, cond, ◌&&◌, int_lt, ◌≤ℤ◌, None, ◌==◌}
+use Rattle.std.proofs.Common.{min, take_all, cond, int_lt, ◌≤ℤ◌, None, ◌==◌}
 use Rattle.std.proofs.lemmas.Bool.{false≢true}
 use Rattle.std.proofs.lemmas.Int.{ints}
 use Rattle.std.specs.List.{prefix_len}

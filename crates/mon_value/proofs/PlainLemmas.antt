@@ -1,5 +1,5 @@
 -- Facts of truth values, numbers, options, results and lists that the kit doesn't have.
-use Rattle.std.proofs.Common.{◌≡◌, ◌∙◌, ◌+◌, ◌<◌, ◌≤◌, ◌==◌, ◌&&◌, ◌||◌, ◌∷◌, [], ◌++◌, ◌⊎◌, inl, inr}
+use Rattle.std.proofs.Common.{◌≡◌, ◌∙◌, ◌+◌, ◌<◌, ◌≤◌, ◌==◌, ◌&&◌, ◌||◌, ◌∷◌, [], ◌++◌}
 use Rattle.std.proofs.Common.{Bool, List, arith, cond, false, length, suc, true, filter, refl, subst, sym, zero, Some}
 use Rattle.std.specs.List.{Contains, AllByRecursion, sum_by, cons_option, filter_map, flat_map, range_with_len}
 use Rattle.std.proofs.Common.{slice_get, ap, ℕ, None, nat_eq, map, Err, IfOk, Ok, OnOk, is_ok, Option, not, take}

@@ -11,4 +11,5 @@ pub mod Parts
 pub mod Rooms
 pub mod Same
 pub mod Tables
+pub mod Turns
 pub mod Values

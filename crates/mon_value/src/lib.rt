@@ -21,6 +21,7 @@ mod schemas;
 mod shared;
 mod tables;
 mod texts;
+mod turn_laws;
 mod values;
 
 pub use aggregates::{Aggregate, AggregateKind, Aggregates};
@@ -50,6 +51,7 @@ pub use schemas::{Field, Fields, Kind, MetricSchema, MetricSchemas, TargetSchema
 pub use shared::Shared;
 pub use tables::{Cells, Positions, Table, TimedRow, TimedRows};
 pub use texts::{Text, Texts};
+pub use turn_laws::rows_stand_or_are_hidden;
 pub use values::{
     Bounds, Counts, FieldType, FieldValue, FieldValues, Value, ValueType, write_text,
 };

@@ -1,5 +1,5 @@
 -- What a caller must have to open a replica on a leaf, and what it has then.
-use Rattle.std.specs.Prelude.{◌≡◌, ◌<◌, ℕ, false, List, [], ◌∷◌, Some, Contains, length}
+use Rattle.std.specs.Prelude.{◌≡◌, ◌<◌, false, List, [], ◌∷◌, Some, Contains, length}
 use Rattle.history_book.specs.Seats.{hand_of, times_range}
 use Rattle.know.specs.declared.answers.Found.{Found}
 use Rattle.know.specs.Knowledge.{Knowledge}

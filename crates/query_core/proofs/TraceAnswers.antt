@@ -1,22 +1,24 @@
 -- What is known of the trace with which a query ends.
-use Rattle.std.proofs.Common.{◌≡◌, ◌∙◌, ℕ, ℤ, zero, suc, ◌+◌, ◌<◌, true, false, List, [], ◌∷◌, length, map, take}
-use Rattle.std.proofs.Common.{get_or, Option, Some, None, Contains, inl, inr, refl, sym, ap, subst, arith}
-use Rattle.std.specs.List.{AllByRecursion as All, list_any, range_with_len}
+use Rattle.std.proofs.Common.{◌≡◌, ◌∙◌, ℕ, ℤ, zero, suc, ◌+◌, ◌<◌, Bool, true, false, cond, List, [], ◌∷◌, ◌++◌}
+use Rattle.std.proofs.Common.{length, map, take, drop, get_or, Option, Some, None, Contains, inl, inr, refl, sym, ap}
+use Rattle.std.proofs.Common.{subst, arith}
+use Rattle.std.specs.List.{AllByRecursion as All, flat_map, list_any, range_with_len}
 use Rattle.std.proofs.lemmas.Bool.{or_cases, or_left, or_right}
-use Rattle.std.proofs.lemmas.List.{get_or-map, length-map}
+use Rattle.std.proofs.lemmas.List.{get_or-map, length-map, take-append-drop, take_all}
 use Rattle.std.proofs.lemmas.List.Elements.{Contains-append_right}
 use Rattle.mon_hints.specs.Formulas.{FormulaTree, any_holds, formula_tree, formulas, holds}
 use Rattle.mon_hints.specs.Hints.{series_buckets, history_buckets}
 use Rattle.mon_schema.specs.Fits.{fits, fits_both, row_fits}
 use Rattle.mon_schema.specs.Names.{SchemaLists, metric_named, target_named}
 use Rattle.mon_topo.proofs.RangeHistoryLemmas.{all_at, all_on}
-use Rattle.mon_value.specs.Histories.{leaf_history, range_history, range_numbered}
+use Rattle.mon_value.specs.Histories.{leaf_history, range_history, range_numbered, same_range}
 use Rattle.mon_value.specs.declared.histories.Histories.{Histories}
 use Rattle.mon_topo.specs.HeldHistories.{AreHeld, AreWithin}
-use Rattle.mon_topo.specs.RangeHistories.{acknowledged_rows}
+use Rattle.mon_topo.specs.RangeHistories.{acknowledged_rows, range_turns}
 use Rattle.mon_topo.specs.Settings.{Setting}
 use Rattle.mon_topo.specs.Zones.{first_leaf}
-use Rattle.mon_value.specs.LeafHistories.{IsDownAt, is_down, is_opened, leaf_rows, replica_rows}
+use Rattle.mon_value.specs.LeafHistories.{IsDownAt, IsWellFormed, is_down, is_opened, leaf_rows, replica_rows}
+use Rattle.mon_value.specs.Turns.{StandsOrIsHidden, Turn, is_hidden_by}
 use Rattle.mon_value.specs.declared.histories.Entry.{Entry}
 use Rattle.mon_value.specs.declared.histories.RangeEntry.{RangeEntry}
 use Rattle.mon_value.specs.declared.positions.FoundDown.{FoundDown}
@@ -31,17 +33,21 @@ use Rattle.typed_trees.specs.Levels.{sent_amount}
 use Rattle.typed_trees.specs.Plans.{fetches}
 use Rattle.plan_split.proofs.FitLemmas.{fields_of_fitting}
 use Rattle.plan_split.specs.Meeting.{AllHoldWhereMet, is_plan_met}
+use Rattle.query_traces.proofs.HiddenRows.{either_hides, hidden_behind, hidden_in, hidden_more, kept_or_hidden}
+use Rattle.query_traces.proofs.HiddenRows.{shown_on}
 use Rattle.query_traces.proofs.HintFacts.{none_wanted}
-use Rattle.query_traces.proofs.Spans.{ResolvedSo, StandsAt, look_at, range_of, up_to}
+use Rattle.query_traces.proofs.Spans.{ResolvedSo, StandsAt, StandsIn, look_at, range_of, up_to}
 use Rattle.query_core.proofs.TraceClaims as claim
 use Rattle.query_traces.proofs.ZoneFacts.{all_leaves, all_ranges}
-use Rattle.mon_value.proofs.PlainLemmas.{in_flat_map}
+use Rattle.mon_value.proofs.LeafHistoryLemmas.{front as formed_front}
+use Rattle.mon_value.proofs.PlainLemmas.{equal_itself, in_flat_map}
 use Rattle.query_traces.specs.Askings.{IsAskedOf}
 use Rattle.query_traces.specs.Founds.{IsFoundThen}
 use Rattle.query_traces.specs.Rounds.{unread_look, slots_on, QuerySetting, typed_of}
 use Rattle.mon_topo.specs.Views.{View}
 use Rattle.query_traces.specs.Traces.{IsFirstServing, IsFresh, IsReadRightly, IsTraceOf, cut_of, is_wanted, looked_at}
-use Rattle.query_traces.specs.Traces.{resolved_rows, rows_on, sent_by, sent_if, source_of, was_read}
+use Rattle.query_traces.specs.Traces.{resolved_rows, resolved_turns, rows_on, sent_by, sent_if, source_of, turns_over}
+use Rattle.query_traces.specs.Traces.{was_read}
 use Rattle.mon_meaning.specs.ReadableSlots.{slot_rows}
 use Rattle.query_traces.specs.declared.answers.Resolved.{Resolved}
 use Rattle.query_traces.specs.declared.answers.Trace.{Trace}
@@ -167,21 +173,41 @@ module _ (store : Setting) (setting : QuerySetting) (moment : ℤ) (at_entry : H
       (look_at 0 is.looks leaf)
   looked_is leaf within = ap (λ n. take n (leaf_history now.seen leaf)) (cut_is leaf within)
 
+  -- the range's turns, behind those of the slot
+  abbrev own_turns : Resolved → List Turn
+  own_turns one = resolved_turns now.seen trace one ++ range_turns (range_history now.seen one.range)
+
+  -- what had been acknowledged at entry stands in the slot, or is hidden
+  abbrev ShowsAll : Resolved → Type 0
+  ShowsAll one = All (StandsOrIsHidden (resolved_rows now.seen trace one) (own_turns one))
+      (acknowledged_rows (range_history at_entry one.range))
+
+  formed_at : (leaf : Leaf) → leaf.0 < all → IsWellFormed (looked_at now.seen trace leaf)
+  formed_at leaf within =
+      let history = leaf_history now.seen leaf in
+      let cut = cut_of trace leaf in
+      formed_front (take cut history) (drop cut history)
+      (subst IsWellFormed (sym (take-append-drop cut history))
+      (held.formed leaf (omega (arith, within, leaves_are))))
+
   stand_by : (some : List Resolved) → All (ResolvedSo at_entry now.seen is.avoided 0 all) some
       → All (StandsAt at_entry now.seen 0 is.looks) some
       → All (λ (one : Resolved). is_opened one.range one.slot (looked_at now.seen trace one.leaf) ≡ true) some
-      × All (λ (one : Resolved). All (Contains (resolved_rows now.seen trace one))
-      (acknowledged_rows (range_history at_entry one.range))) some
+      × All ShowsAll some
   stand_by [] each stand = (record {}, record {})
   stand_by (one ∷ some) each stand =
       let rest = stand_by some each.1 stand.1 in
-      let same = sym (looked_is one.leaf each.0.to) in (
-        (subst (λ (history : List Entry). is_opened one.range one.slot history ≡ true) same stand.0.opened, rest.0),
+      let is_here : StandsIn at_entry now.seen (looked_at now.seen trace one.leaf) one =
+      subst (λ (history : List Entry). StandsIn at_entry now.seen history one) (sym (looked_is one.leaf each.0.to))
+      stand.0 in
+      let bounds = range_turns (range_history now.seen one.range) in
+      let history = looked_at now.seen trace one.leaf in (
+        (is_here.opened, rest.0),
         (
-          subst (λ (history : List Entry).
-              All (Contains (replica_rows one.range one.slot history))
-              (acknowledged_rows (range_history at_entry one.range)))
-              same stand.0.rows,
+          all_on (StandsOrIsHidden (replica_rows one.range one.slot history) bounds)
+              (StandsOrIsHidden (resolved_rows now.seen trace one) (own_turns one))
+              (kept_or_hidden one.range one.slot history bounds (formed_at one.leaf each.0.to))
+              (acknowledged_rows (range_history at_entry one.range)) is_here.rows,
           rest.1,
         ),
       )
@@ -212,6 +238,29 @@ module _ (store : Setting) (setting : QuerySetting) (moment : ℤ) (at_entry : H
     sends = sends;
   }
 
+  -- what hides a row of a range's slot is among what may hide rows of the range
+  over_range : (one : Resolved) → Contains trace.resolved one → (row : Row) → is_hidden_by (own_turns one) row ≡ true
+      → is_hidden_by (turns_over now.seen (length (range_history now.seen one.range)) trace one.range) row ≡ true
+  over_range one there row is =
+      let history = range_history now.seen one.range in
+      let whole : take (length history) history ≡ history = take_all (length history) history (omega arith) in
+      let of_slot : Resolved → List Turn =
+      λ other. cond (same_range other.range one.range) (resolved_turns now.seen trace other) [] in
+      elim (either_hides (resolved_turns now.seen trace one) (range_turns history) row is) [
+        | inl here ↦ hidden_more (flat_map of_slot trace.resolved) (range_turns (take (length history) history)) row
+            (hidden_in of_slot trace.resolved one row there
+            (ap (λ (b : Bool). is_hidden_by (cond b (resolved_turns now.seen trace one) []) row)
+            (equal_itself one.range.0) ∙ here))
+        | inr hidden ↦ hidden_behind (flat_map of_slot trace.resolved) (range_turns (take (length history) history)) row
+            (ap (λ (front : List RangeEntry). is_hidden_by (range_turns front) row) whole ∙ hidden)
+      ]
+
+  -- a row stands among those of the query, or may be hidden
+  abbrev IsShown : Range → Row → Type 0
+  IsShown range =
+      StandsOrIsHidden (source_of now.seen trace)
+      (turns_over now.seen (length (range_history now.seen range)) trace range)
+
   pub trace_fresh : AreWithin at_entry now.seen → IsFresh at_entry now.seen trace
   trace_fresh since = record {
     cuts = λ leaf within.
@@ -222,16 +271,16 @@ module _ (store : Setting) (setting : QuerySetting) (moment : ℤ) (at_entry : H
         (let one = of_range trace.resolved 0 (length trace.resolved) range.0 is.span.ranges
         (omega (arith, within, resolved_long)) in
         let same : one.one.range ≡ range = one.is ∙ ap range_numbered (omega arith) in
-        let rows = all_at (λ (one : Resolved). All (Contains (resolved_rows now.seen trace one))
-        (acknowledged_rows (range_history at_entry one.range)))
-        trace.resolved one.one (stand_by trace.resolved is.span.each is.span.stand).1 one.there in
-        subst (λ (front : List RangeEntry). All (Contains (source_of now.seen trace)) (acknowledged_rows front))
-        (sym (since.ranges range))
-        (subst (λ (r : Range). All (Contains (source_of now.seen trace)) (acknowledged_rows (range_history at_entry r)))
-        same
-        (all_on (Contains (resolved_rows now.seen trace one.one)) (Contains (source_of now.seen trace))
-        (λ row here. in_flat_map (resolved_rows now.seen trace) trace.resolved one.one row one.there here)
-        (acknowledged_rows (range_history at_entry one.one.range)) rows)));
+        let slot = one.one in
+        let rows = all_at ShowsAll trace.resolved slot (stand_by trace.resolved is.span.each is.span.stand).1 one.there in
+        let over = turns_over now.seen (length (range_history now.seen slot.range)) trace slot.range in
+        subst (λ (front : List RangeEntry). All (IsShown range) (acknowledged_rows front)) (sym (since.ranges range))
+        (subst (λ (r : Range). All (IsShown r) (acknowledged_rows (range_history at_entry r))) same
+        (all_on (StandsOrIsHidden (resolved_rows now.seen trace slot) (own_turns slot)) (IsShown slot.range)
+        (λ row. shown_on (resolved_rows now.seen trace slot) (source_of now.seen trace) (own_turns slot) over row
+        (in_flat_map (resolved_rows now.seen trace) trace.resolved slot row one.there)
+        (over_range slot one.there row))
+        (acknowledged_rows (range_history at_entry slot.range)) rows)));
   }
 
   -- a leaf of which something is told was read, or not, rightly

@@ -5,9 +5,8 @@ use Rattle.mon_hints.specs.Covers.{AreBitsWithin, StaysSet, Bits}
 use Rattle.mon_hints.specs.Hints.{history_buckets}
 use Rattle.mon_topo.proofs.HeldLemmas.{seen_within_through}
 use Rattle.mon_topo.proofs.RangeHistoryLemmas.{all_on}
-use Rattle.mon_value.specs.Histories.{leaf_history, range_history, range_numbered}
+use Rattle.mon_value.specs.Histories.{leaf_history, range_numbered}
 use Rattle.mon_value.specs.declared.histories.Histories.{Histories}
-use Rattle.mon_topo.specs.RangeHistories.{acknowledged_rows}
 use Rattle.mon_topo.specs.HeldHistories.{AreWithin}
 use Rattle.mon_topo.specs.Settings.{Setting}
 use Rattle.mon_topo.specs.Zones.{first_leaf, first_range}
@@ -18,7 +17,8 @@ use Rattle.mon_value.specs.declared.positions.Range.{Range}
 use Rattle.mon_value.specs.declared.rows.Row.{Row}
 use Rattle.query_traces.proofs.FindingLemmas.{KeepsFounds, founds_on, no_replica_on}
 use Rattle.query_traces.proofs.HintFacts.{AreKnown}
-use Rattle.query_traces.proofs.Spans.{ResolvedSo, SpanSo, StandsIn, range_of, resolved_on, span_on, stands_on}
+use Rattle.query_traces.proofs.Spans.{ResolvedSo, SpanSo, StandsIn, range_of, resolved_on, span_on, stands_later}
+use Rattle.query_traces.proofs.Spans.{stands_on}
 use Rattle.query_traces.specs.Rounds.{area_of, range_at, Round, QuerySetting, typed_of}
 use Rattle.query_traces.specs.Founds.{HasNoReplica}
 use Rattle.plan_split.specs.Meeting.{flag_at, is_plan_met}
@@ -130,9 +130,7 @@ module _ (store : Setting) (setting : QuerySetting) (at_entry : Histories) where
 
   abbrev pub Opened : List Resolved → Histories → Type 0
   Opened resolved seen =
-      All (λ (one : Resolved). StandsIn (acknowledged_rows (range_history at_entry one.range))
-      (leaf_history seen one.leaf) one)
-      resolved
+      All (λ (one : Resolved). StandsIn at_entry seen (leaf_history seen one.leaf) one) resolved
 
   abbrev pub Resolves : View → List Leaf → ℕ → List Resolved → Type 0
   Resolves now avoided k = All (ResolvedSo at_entry now.seen avoided (first_leaf zones k) (first_leaf zones (k + 1)))
@@ -301,15 +299,11 @@ module _ (store : Setting) (setting : QuerySetting) (at_entry : Histories) where
           (λ one. resolved_on at_entry before.seen after.seen grown.seen avoided (first_leaf zones k)
           (first_leaf zones (k + 1)) one)
           resolved is.each;
-      opened = all_on
-          (λ (one : Resolved). StandsIn (acknowledged_rows (range_history at_entry one.range))
-          (leaf_history before.seen one.leaf)
-          one)
-          (λ (one : Resolved). StandsIn (acknowledged_rows (range_history at_entry one.range))
-          (leaf_history after.seen one.leaf)
-          one)
-          (λ one. stands_on (acknowledged_rows (range_history at_entry one.range)) (leaf_history after.seen one.leaf)
-          (leaf_history before.seen one.leaf) one (grown.seen.leaves one.leaf))
+      opened = all_on (λ (one : Resolved). StandsIn at_entry before.seen (leaf_history before.seen one.leaf) one)
+          (λ (one : Resolved). StandsIn at_entry after.seen (leaf_history after.seen one.leaf) one)
+          (λ one was. stands_on at_entry after.seen (leaf_history after.seen one.leaf)
+          (leaf_history before.seen one.leaf) one (grown.seen.leaves one.leaf)
+          (stands_later at_entry before.seen after.seen grown.seen (leaf_history before.seen one.leaf) one was))
           resolved is.opened;
     }
 

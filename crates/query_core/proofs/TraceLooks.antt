@@ -10,9 +10,8 @@ use Rattle.mon_hints.specs.Hints.{history_buckets}
 use Rattle.mon_schema.specs.Fits.{fits}
 use Rattle.mon_topo.proofs.FrontLemmas.{begins_length}
 use Rattle.mon_topo.proofs.HeldLemmas.{leaf_same}
-use Rattle.mon_value.specs.Histories.{leaf_history, range_history, range_numbered}
+use Rattle.mon_value.specs.Histories.{leaf_history, range_numbered}
 use Rattle.mon_value.specs.declared.histories.Histories.{Histories}
-use Rattle.mon_topo.specs.RangeHistories.{acknowledged_rows}
 use Rattle.mon_topo.specs.Replicas.{HasReplicas}
 use Rattle.mon_topo.specs.HeldHistories.{AreWithin}
 use Rattle.mon_topo.specs.Settings.{Setting}
@@ -20,8 +19,8 @@ use Rattle.mon_topo.specs.Zones.{first_leaf, first_range, ranges_in}
 use Rattle.mon_value.specs.LeafHistories.{leaf_rows}
 use Rattle.mon_value.specs.declared.histories.Entry.{Entry}
 use Rattle.mon_value.specs.declared.positions.Leaf.{Leaf}
-use Rattle.query_traces.proofs.Spans.{IsLookedAt, ResolvedSo, StandsAt, StandsIn, Tells, look_at, span_on, stands_on}
-use Rattle.query_traces.proofs.Spans.{up_to}
+use Rattle.query_traces.proofs.Spans.{IsLookedAt, ResolvedSo, StandsAt, StandsIn, Tells, look_at, span_on}
+use Rattle.query_traces.proofs.Spans.{stands_later, stands_on, up_to}
 use Rattle.query_traces.proofs.FindingLemmas.{KeepsFounds}
 use Rattle.query_core.proofs.TraceClaims as claim
 use Rattle.query_core.proofs.TraceVisits.{fronts_begin}
@@ -95,16 +94,16 @@ module _ (store : Setting) (setting : QuerySetting) (at_entry : Histories) (befo
   stand_here : (one : Resolved) → low ≤ one.leaf.0 → one.leaf.0 < high → one.leaf.0 ≡ leaf.0
       → StandsAt at_entry before.seen low looks one → StandsAt at_entry after.seen low now_looks one
   stand_here one above below e stands =
-      let rows = acknowledged_rows (range_history at_entry one.range) in
       let same : one.leaf ≡ leaf = leaf_same one.leaf leaf e in
       let old = look_at low looks one.leaf in
       let is_old = was.cuts one.leaf above below in
       let longer : length (leaf_history before.seen one.leaf) ≤ look.cut =
       subst (λ (it : Leaf). length (leaf_history before.seen it) ≤ look.cut) (sym same) between.from in
-      subst (λ (it : Look). StandsIn rows (up_to after.seen one.leaf it) one) (sym (look_here one.leaf e))
-      (stands_on rows (up_to after.seen one.leaf look) (up_to before.seen one.leaf old) one
+      subst (λ (it : Look). StandsIn at_entry after.seen (up_to after.seen one.leaf it) one) (sym (look_here one.leaf e))
+      (stands_on at_entry after.seen (up_to after.seen one.leaf look) (up_to before.seen one.leaf old) one
       (fronts_begin (leaf_history after.seen one.leaf) (leaf_history before.seen one.leaf) old.cut look.cut
-      (grown.seen.leaves one.leaf) is_old.to (omega (arith, is_old.to, longer))) stands)
+      (grown.seen.leaves one.leaf) is_old.to (omega (arith, is_old.to, longer)))
+      (stands_later at_entry before.seen after.seen grown.seen (up_to before.seen one.leaf old) one stands))
 
   stand_by : (some : List Resolved) → All (ResolvedSo at_entry before.seen avoided low high) some
       → All (StandsAt at_entry before.seen low looks) some → All (StandsAt at_entry after.seen low looks) some
@@ -113,9 +112,7 @@ module _ (store : Setting) (setting : QuerySetting) (at_entry : Histories) (befo
   stand_by (one ∷ some) each old new = (
     elim (cases_eq one.leaf.0 leaf.0) [
       | inl e ↦ stand_here one each.0.from each.0.to e old.0
-      | inr differ ↦ subst
-          (λ (it : Look). StandsIn (acknowledged_rows (range_history at_entry one.range))
-          (up_to after.seen one.leaf it) one)
+      | inr differ ↦ subst (λ (it : Look). StandsIn at_entry after.seen (up_to after.seen one.leaf it) one)
           (sym (look_there one.leaf each.0.from differ)) new.0
     ],
     stand_by some each.1 old.1 new.1,

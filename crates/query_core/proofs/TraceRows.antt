@@ -7,7 +7,7 @@ use Rattle.std.specs.List.{AllByRecursion, filter, flat_map, list_any}
 use Rattle.std.proofs.lemmas.Bool.Decides.{nat_tests}
 use Rattle.std.proofs.lemmas.List.Sorted.{IsPermutation-sym, IsPermutation-trans}
 use Rattle.mon_value.proofs.SameLemmas.{same_series-Decides}
-use Rattle.mon_value.specs.LeafHistories.{entry_rows, replica_rows, same_replica, points_by_series, points_of}
+use Rattle.mon_value.specs.LeafHistories.{entry_rows, kept_rows, same_replica, points_by_series, points_of}
 use Rattle.mon_value.specs.Same.{same_series}
 use Rattle.mon_value.specs.declared.histories.Entry.{Entry}
 use Rattle.mon_value.specs.declared.histories.Entry.TheVariants as entry
@@ -50,6 +50,7 @@ use Rattle.mon_meaning.proofs.MeaningOrderLemmas.{load_in_order, meaning_in_orde
 use Rattle.query_core.proofs.SegmentFacts.{RangesFrom}
 use Rattle.mon_meaning.proofs.SeriesOrderLemmas.{series_in_order}
 use Rattle.query_traces.proofs.WantedRows.{filter_alike, filter_empty, load_of_wanted, meaning_of_wanted, wanted}
+use Rattle.query_traces.proofs.HiddenRows.{kept_among}
 use Rattle.query_traces.proofs.LeafLemmas.{same_leaves}
 use Rattle.mon_value.proofs.PlainLemmas.{all_flat}
 
@@ -68,7 +69,7 @@ ranges_once n [] all = tt
 ranges_once n (one ∷ resolved) all =
     (later_other one n (n + 1) resolved all.0 (omega arith) all.1, ranges_once (n + 1) resolved all.1)
 
--- ---- the rows of a replica lie in its range
+-- ---- the rows that a replica keeps lie in its range
 
 module _ (held : SchemaLists) (zones : List ZoneSpec) (range : Range) (slot : Slot) where
   one_range : (a b : Range) (c : Bool) → (nat_eq a.0 b.0 && c) ≡ true → a ≡ b
@@ -99,16 +100,18 @@ module _ (held : SchemaLists) (zones : List ZoneSpec) (range : Range) (slot : Sl
             (sym (one_range range other (nat_eq slot.0 place.0) same)) home,
         tt,
       ))
+  entry_at_home (entry.Trim pass other place before) home = tt
   entry_at_home (entry.Down pass) home = tt
   entry_at_home (entry.Up pass) home = tt
 
-  pub replica_at_home : (history : List Entry) → AllByRecursion (AreAtHome held zones) history
-      → AllByRecursion (IsAtHome held zones range) (replica_rows range slot history)
-  replica_at_home history home =
-      all_flat (IsAtHome held zones range) (entry_rows range slot) history
+  pub kept_at_home : (history : List Entry) → AllByRecursion (AreAtHome held zones) history
+      → AllByRecursion (IsAtHome held zones range) (kept_rows range slot history)
+  kept_at_home history home =
+      kept_among (IsAtHome held zones range) range slot history
+      (all_flat (IsAtHome held zones range) (entry_rows range slot) history
       (all-map (AreAtHome held zones) (λ one. AllByRecursion (IsAtHome held zones range) (entry_rows range slot one))
       history
-      entry_at_home home)
+      entry_at_home home))
 
 -- ---- the rows of a trace
 
@@ -121,7 +124,7 @@ module _ (exit : Histories) (of : Trace) where
       → flat_map own_rows (cond b (one ∷ rest) rest) ≡ slot_rows (looked_at exit of leaf)
       (map slot_of (cond b (one ∷ rest) rest))
   slots_by leaf one rest true is same =
-      λ i. replica_rows one.range one.slot (looked_at exit of (is refl i)) ++ same i
+      λ i. kept_rows one.range one.slot (looked_at exit of (is refl i)) ++ same i
   slots_by leaf one rest false is same = same
 
   slots_alike : (leaf : Leaf) (resolved : List Resolved)
@@ -162,7 +165,7 @@ module _ (store : Setting) (setting : QuerySetting) (asked : IsAskedOf store set
       (own_rows exit of one)) some
   homes [] = tt
   homes (one ∷ some) = (
-    replica_at_home store.held store.zones one.range one.slot (looked_at exit of one.leaf)
+    kept_at_home store.held store.zones one.range one.slot (looked_at exit of one.leaf)
         (all-take (AreAtHome store.held store.zones) (trace.cut_of of one.leaf) (leaf_history exit one.leaf)
         (all_from (AreAtHome store.held store.zones) (leaf_history exit one.leaf) (held.at_home one.leaf))),
     homes some,

@@ -16,7 +16,7 @@ use Rattle.mon_topo.proofs.RangeHistoryLemmas.{all_append, all_filter, all_on}
 use Rattle.mon_value.specs.Histories.{leaf_history, range_history, range_numbered}
 use Rattle.mon_value.specs.declared.histories.Histories.{Histories}
 use Rattle.mon_topo.specs.HeldHistories.{BeginsWith, AreWithin}
-use Rattle.mon_topo.specs.RangeHistories.{acknowledged_rows, serving, is_avoided}
+use Rattle.mon_topo.specs.RangeHistories.{serving, is_avoided}
 use Rattle.mon_topo.specs.Replicas.{HasReplicas}
 use Rattle.mon_topo.specs.Settings.{Setting}
 use Rattle.mon_topo.specs.Zones.{first_leaf, first_range, range_zones, ranges_in}
@@ -32,7 +32,7 @@ use Rattle.query_traces.proofs.FindingLemmas.{no_replica, one_found}
 use Rattle.query_traces.proofs.RoundLemmas.{has_at}
 use Rattle.query_traces.proofs.SeenSpans.{near_at, resolves_so, seen_cut, tells_unmet}
 use Rattle.query_traces.proofs.Spans.{ResolvedSo, StandsAt, StandsIn, Tells, look_at, more_avoided, outside, range_of}
-use Rattle.query_traces.proofs.Spans.{up_to}
+use Rattle.query_traces.proofs.Spans.{stands_later, up_to}
 use Rattle.query_core.proofs.TraceClaims as claim
 use Rattle.query_core.proofs.TraceClaims.{Anybody}
 use Rattle.query_core.proofs.TraceSteps.{resolving_so}
@@ -170,9 +170,7 @@ module _ (store : Setting) (setting : QuerySetting) (at_entry : Histories)
           each = all_append (ResolvedSo at_entry after.seen avoided (first_leaf zs k) (first_leaf zs (k + 1)))
               round.resolved
               (one ∷ []) is.round_is.each (so.resolved, record {});
-          opened = all_append
-              (λ (one : Resolved). StandsIn (acknowledged_rows (range_history at_entry one.range))
-              (leaf_history after.seen one.leaf) one)
+          opened = all_append (λ (one : Resolved). StandsIn at_entry after.seen (leaf_history after.seen one.leaf) one)
               round.resolved (one ∷ []) is.round_is.opened (so.stands, record {});
         })
 
@@ -282,11 +280,12 @@ module _ (store : Setting) (setting : QuerySetting) (at_entry : Histories)
         → All (StandsAt at_entry now.seen (first_leaf zs k) (map unread_look cuts)) some
     stand_by [] each opened = record {}
     stand_by (one ∷ some) each opened =
-        let rows = acknowledged_rows (range_history at_entry one.range) in (
-          subst (λ (look : Look). StandsIn rows (up_to now.seen one.leaf look) one)
+        let then = loaded.then.seen in
+        let stands = stands_later at_entry then now.seen loaded.is.until (leaf_history then one.leaf) one opened.0 in (
+          subst (λ (look : Look). StandsIn at_entry now.seen (up_to now.seen one.leaf look) one)
               (sym (cut_is one.leaf each.0.from each.0.to))
-              (subst (λ (history : List Entry). StandsIn rows history one) (sym (loaded.is.until.leaves one.leaf))
-              opened.0),
+              (subst (λ (history : List Entry). StandsIn at_entry now.seen history one)
+              (sym (loaded.is.until.leaves one.leaf)) stands),
           stand_by some each.1 opened.1,
         )
 

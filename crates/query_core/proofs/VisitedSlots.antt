@@ -6,13 +6,12 @@ use Rattle.mixer.proofs.ApartTargets as apart_targets
 use Rattle.mon_meaning.specs.ReadableSlots.{AreApart, ShareNoTarget, CanBeRead, slot_rows}
 use Rattle.mon_schema.specs.Fits.{fits}
 use Rattle.mon_topo.proofs.RangeHistoryLemmas.{all_from}
-use Rattle.mon_value.specs.Histories.{leaf_history, range_history, same_leaf}
+use Rattle.mon_value.specs.Histories.{leaf_history, same_leaf}
 use Rattle.mon_value.specs.declared.histories.Histories.{Histories}
 use Rattle.mon_topo.specs.HeldHistories.{AreAtHome, AreHeld, IsAtHome, AreWithin}
 use Rattle.mon_topo.specs.Locations.{range_for}
-use Rattle.mon_topo.specs.RangeHistories.{acknowledged_rows}
 use Rattle.mon_topo.specs.Settings.{Setting}
-use Rattle.mon_value.specs.LeafHistories.{is_opened, replica_rows}
+use Rattle.mon_value.specs.LeafHistories.{is_opened, kept_rows}
 use Rattle.mon_value.specs.declared.histories.Entry.{Entry}
 use Rattle.mon_value.specs.declared.positions.Leaf.{Leaf}
 use Rattle.mon_value.specs.declared.positions.Range.{Range}
@@ -27,7 +26,7 @@ use Rattle.query_traces.specs.Rounds.{typed_of, slot_of, slots_on, QuerySetting}
 use Rattle.query_traces.specs.Traces.{IsBetween}
 use Rattle.query_core.proofs.DividedRows.{AreOthers, IsOther}
 use Rattle.query_traces.proofs.Spans.{IsLookedAt, StandsAt, StandsIn, look_at, stands_on, up_to}
-use Rattle.query_core.proofs.TraceRows.{replica_at_home, typed_for}
+use Rattle.query_core.proofs.TraceRows.{kept_at_home, typed_for}
 use Rattle.query_core.proofs.TraceVisits.{fronts_begin}
 use Rattle.query_traces.proofs.LeafLemmas.{same_leaves}
 use Rattle.mon_value.proofs.PlainLemmas.{equal_itself, all_flat}
@@ -65,10 +64,10 @@ fewer_others test (one ∷ some) others =
 module _ (store : Setting) (setting : QuerySetting) (asked : IsAskedOf store setting) (history : List Entry)
     (home : AllByRecursion (AreAtHome store.held store.zones) history) where
   abbrev own_rows : RangeSlot → List Row
-  own_rows one = replica_rows one.range one.slot history
+  own_rows one = kept_rows one.range one.slot history
 
   own_home : (one : RangeSlot) → AllByRecursion (IsAtHome store.held store.zones one.range) (own_rows one)
-  own_home one = replica_at_home store.held store.zones one.range one.slot history home
+  own_home one = kept_at_home store.held store.zones one.range one.slot history home
 
   apart_each : (one : Resolved) (some : List Resolved) → AllByRecursion (IsOther one) some
       → AllByRecursion (ShareNoTarget (own_rows (slot_of one))) (map own_rows (map slot_of some))
@@ -115,11 +114,10 @@ module _ (at_entry before after : Histories) (grown : AreWithin before after) (l
 
   opened_here : (one : Resolved) → one.leaf ≡ leaf → StandsAt at_entry before low looks one → IsOpened (slot_of one)
   opened_here one same stands =
-      let rows = acknowledged_rows (range_history at_entry one.range) in
       let look = look_at low looks leaf in
-      let was : StandsIn rows (up_to before leaf look) one =
-      subst (λ (l : Leaf). StandsIn rows (up_to before l (look_at low looks l)) one) same stands in
-      (stands_on rows (take cut (leaf_history after leaf)) (up_to before leaf look) one
+      let was : StandsIn at_entry before (up_to before leaf look) one =
+      subst (λ (l : Leaf). StandsIn at_entry before (up_to before l (look_at low looks l)) one) same stands in
+      (stands_on at_entry before (take cut (leaf_history after leaf)) (up_to before leaf look) one
       (fronts_begin (leaf_history after leaf) (leaf_history before leaf) look.cut cut (grown.leaves leaf) looked.to
       (omega (arith, looked.to, between.from))) was).opened
 

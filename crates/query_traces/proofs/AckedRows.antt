@@ -1,5 +1,6 @@
--- Rows that were acknowledged are in the history of the leaf of each replica that serves.
-use Rattle.std.proofs.Common.{◌≡◌, ◌∙◌, ℕ, zero, suc, ◌+◌, ◌<◌, ◌≤◌, Bool, true, false, not, cond, ◌||◌, nat_eq, List}
+-- Rows that were acknowledged are in the history of the leaf of each replica that serves, but for those that the range
+-- trimmed.
+use Rattle.std.proofs.Common.{◌≡◌, ◌∙◌, ℕ, zero, suc, ◌+◌, ◌<◌, ◌≤◌, Bool, true, false, not, cond, nat_eq, List}
 use Rattle.std.proofs.Common.{[], ◌∷◌, ◌++◌, length, map, take, slice_get, Some, ◌⊎◌, inl, inr, refl, sym, ap, subst}
 use Rattle.std.proofs.Common.{append-nil, append_assoc, length-append, arith}
 use Rattle.std.specs.Prelude.{filter, Contains}
@@ -10,7 +11,10 @@ use Rattle.std.proofs.lemmas.List.{get_or_at, take_at}
 use Rattle.std.proofs.lemmas.List.Concat.{flat_map-append}
 use Rattle.std.proofs.lemmas.List.Elements.{Contains-append_right}
 use Rattle.std.proofs.lemmas.List.Sums.{sum_by-append, sum_by-cons}
-use Rattle.mon_value.specs.LeafHistories.{entry_rows, is_opened, replica_rows, same_replica}
+use Rattle.mon_value.specs.LeafHistories.{entry_rows, is_opened, replica_rows}
+use Rattle.mon_value.specs.Turns.{StandsOrIsHidden}
+use Rattle.mon_value.proofs.KeptRowLemmas.{opened_there}
+use Rattle.mon_value.proofs.TurnLemmas.{came_stands}
 use Rattle.mon_value.specs.declared.histories.Ack.{Ack}
 use Rattle.mon_value.specs.declared.histories.Entry.{Entry}
 use Rattle.mon_value.specs.declared.histories.Entry.TheVariants as entry
@@ -23,7 +27,10 @@ use Rattle.mon_value.specs.declared.positions.Slot.{Slot}
 use Rattle.mon_value.specs.declared.positions.SlotLeaf.{SlotLeaf}
 use Rattle.mon_value.specs.declared.rows.Row.{Row}
 use Rattle.mon_schema.specs.Names.{SchemaLists}
-use Rattle.mon_topo.proofs.RangeHistoryLemmas.{AreNumbered, IsLegal-push, all_append, all_on, get_there, numbered}
+use Rattle.mon_topo.proofs.FrontLemmas.{begins_with}
+use Rattle.mon_topo.proofs.RangeHistoryLemmas.{AreNumbered, IsLegal-push, all_append, all_at, all_filter, all_from}
+use Rattle.mon_topo.proofs.RangeHistoryLemmas.{all_on, get_there, not_missed, not_slot, numbered, serving_more}
+use Rattle.mon_topo.proofs.TurnsSinceLemmas.{acknowledged_added}
 use Rattle.mon_value.proofs.LeafHistoryLemmas.{same_replica-itself}
 use Rattle.mon_value.proofs.PlainLemmas.{in_flat_map}
 use Rattle.mon_topo.proofs.ServingLemmas.{slot_is}
@@ -31,11 +38,12 @@ use Rattle.mon_value.specs.Histories.{leaf_history, same_slot}
 use Rattle.mon_value.specs.declared.histories.Histories.{Histories}
 use Rattle.mon_topo.specs.HeldHistories.{IsBorneOut}
 use Rattle.mon_topo.specs.RangeHistories as spec
-use Rattle.mon_topo.specs.RangeHistories.{acknowledged_rows, acked_row, is_missed, opened_slots, serving}
-use Rattle.mon_topo.specs.RangeHistories.{serving_after, times}
+use Rattle.mon_topo.specs.RangeHistories.{acknowledged_rows, acked_row, is_missed, left_rows, opened_slots, range_turns}
+use Rattle.mon_topo.specs.RangeHistories.{serving, times}
 use Rattle.mon_topo.specs.Replicas.{HasReplicas}
 use Rattle.mon_topo.specs.Zones.{first_replicas}
 use Rattle.mon_topo.specs.declared.zones.ZoneSpec.{ZoneSpec}
+use Rattle.query_traces.proofs.HiddenRows.{hidden_on, shown_on}
 
 -- ---- lists
 
@@ -57,31 +65,6 @@ at_place P (y ∷ xs) zero x all e = let same : y ≡ x = cc in subst P same all
 at_place P (y ∷ xs) (suc k) x all e = at_place P xs k x all.1 e
 
 -- ---- a leaf's history
-
-opened_at : (r other : Range) (slot place : Slot) (pass : ℕ) (rows : List Row) (history : List Entry)
-    → is_opened r slot history ≡ true → is_opened r slot (entry.Opened pass other place rows ∷ history) ≡ true
-opened_at r other slot place pass rows history rest = by (same_replica r slot other place)
-  where
-    by : (b : Bool) → (b || is_opened r slot history) ≡ true
-    by true = refl
-    by false = rest
-
-opened_behind : (r : Range) (slot : Slot) (e : Entry) (history : List Entry)
-    → is_opened r slot history ≡ true → is_opened r slot (e ∷ history) ≡ true
-opened_behind r slot (entry.Opened pass other place rows) history rest = opened_at r other slot place pass rows history
-    rest
-opened_behind r slot (entry.Put pass other place row) history rest = rest
-opened_behind r slot (entry.Down pass) history rest = rest
-opened_behind r slot (entry.Up pass) history rest = rest
-
-pub opened_there : (r : Range) (slot : Slot) (pass : ℕ) (rows : List Row) (history : List Entry)
-    → Contains history (entry.Opened pass r slot rows) → is_opened r slot history ≡ true
-opened_there r slot pass rows [] there = absurd (omega (arith, there.1))
-opened_there r slot pass rows (first ∷ history) (zero, l, e) =
-    subst (λ (one : Entry). is_opened r slot (one ∷ history) ≡ true) (sym e)
-    (ap (λ b. b || is_opened r slot history) (same_replica-itself r slot))
-opened_there r slot pass rows (first ∷ history) (suc k, l, e) =
-    opened_behind r slot first history (opened_there r slot pass rows history (k, omega (arith, l), e))
 
 rows_opened : (r : Range) (slot : Slot) (pass : ℕ) (rows : List Row) (history : List Entry)
     → Contains history (entry.Opened pass r slot rows) → All (Contains (replica_rows r slot history)) rows
@@ -171,20 +154,18 @@ took_it range replicas ack replica is there missed_not =
 
 -- ---- one entry after another
 
-serving_more : (replicas : List SlotLeaf) (history more : List RangeEntry)
-    → serving_after replicas (history ++ more) ≡ serving_after (serving_after replicas history) more
-serving_more replicas [] more = refl
-serving_more replicas (range_entry.Opened pass slot leaf ∷ history) more =
-    serving_more (replicas ++ record { slot = slot; leaf = leaf } ∷ []) history more
-serving_more replicas (range_entry.Acked pass row ack ∷ history) more =
-    serving_more (filter (λ replica. not (is_missed ack.missed replica)) replicas) history more
+-- a row is one of a replica's, or a bound in the range's history is above its end
+abbrev pub IsHadOrTrimmed : Range → List Entry → List RangeEntry → SlotLeaf → Row → Type 0
+IsHadOrTrimmed r own history replica =
+    StandsOrIsHidden (replica_rows r replica.slot own) (range_turns history)
 
 module _ (zones : List ZoneSpec) (seen : Histories) (r : Range) where
-  -- a replica of the range is opened on its leaf, in the range's zone, which has the rows that a history acknowledges
+  -- a replica of the range is opened on its leaf, in the range's zone, which has the rows that a history acknowledges, but
+  -- for those that the history trims
   pub record HasRows (history : List RangeEntry) (replica : SlotLeaf) : Type 0 where
     pub zoned : spec.IsInZoneOf zones r replica.leaf
     pub opened : is_opened r replica.slot (leaf_history seen replica.leaf) ≡ true
-    pub rows : All (Contains (replica_rows r replica.slot (leaf_history seen replica.leaf))) (acknowledged_rows history)
+    pub rows : All (IsHadOrTrimmed r (leaf_history seen replica.leaf) history replica) (acknowledged_rows history)
 
   abbrev ServeAll : List RangeEntry → Type 0
   ServeAll history = All (HasRows history) (serving history)
@@ -194,8 +175,45 @@ module _ (zones : List ZoneSpec) (seen : Histories) (r : Range) where
       ++ (acked_row e ++ [])
   acked_more history e = flat_map-append acked_row history (e ∷ [])
 
+  -- with an entry more a row is had or trimmed as before
+  carried : (history more : List RangeEntry) (replica : SlotLeaf) (row : Row)
+      → IsHadOrTrimmed r (leaf_history seen replica.leaf) history replica row
+      → IsHadOrTrimmed r (leaf_history seen replica.leaf) (history ++ more) replica row
+  carried history more replica row =
+      let own = replica_rows r replica.slot (leaf_history seen replica.leaf) in
+      shown_on own own (range_turns history) (range_turns (history ++ more)) row (λ has. has)
+      (hidden_on (history ++ more) history row (begins_with history more))
+
+  -- an entry that acknowledges no row keeps this of a replica
+  quietly : (history : List RangeEntry) (e : RangeEntry) (one : SlotLeaf)
+      → acknowledged_rows (history ++ e ∷ []) ≡ acknowledged_rows history → HasRows history one
+      → HasRows (history ++ e ∷ []) one
+  quietly history e one same has = record {
+    zoned = has.zoned;
+    opened = has.opened;
+    rows = subst (All (IsHadOrTrimmed r (leaf_history seen one.leaf) (history ++ e ∷ []) one)) (sym same)
+        (all_on (IsHadOrTrimmed r (leaf_history seen one.leaf) history one)
+        (IsHadOrTrimmed r (leaf_history seen one.leaf) (history ++ e ∷ []) one)
+        (carried history (e ∷ []) one) (acknowledged_rows history) has.rows);
+  }
+
+  -- each acknowledged row is left, or trimmed
+  left_or_trimmed : (history : List RangeEntry) (leaf : Leaf) (slot : Slot)
+      → All (Contains (replica_rows r slot (leaf_history seen leaf))) (left_rows history)
+      → All (IsHadOrTrimmed r (leaf_history seen leaf) history (record { slot = slot; leaf = leaf }))
+      (acknowledged_rows history)
+  left_or_trimmed history leaf slot all =
+      let replica : SlotLeaf = record { slot = slot; leaf = leaf } in
+      all_from (IsHadOrTrimmed r (leaf_history seen leaf) history replica) (acknowledged_rows history)
+      (λ row there. elim (came_stands (range_turns history) [] row
+      (subst (λ (rows : List Row). Contains rows row) (acknowledged_added history) there)) [
+        | inl stands ↦ inl (all_at (Contains (replica_rows r slot (leaf_history seen leaf))) (left_rows history) row all
+            stands)
+        | inr hidden ↦ inr hidden
+      ])
+
   opened_step : (history : List RangeEntry) (pass : ℕ) (slot : Slot) (leaf : Leaf) → ServeAll history
-      → Contains (leaf_history seen leaf) (entry.Opened pass r slot (acknowledged_rows history))
+      → Contains (leaf_history seen leaf) (entry.Opened pass r slot (left_rows history))
       → (whose : ℕ) → spec.IsInZoneOf zones r leaf → ServeAll (history ++ range_entry.Opened whose slot leaf ∷ [])
   opened_step history pass slot leaf all there whose zoned =
       let replica : SlotLeaf = record { slot = slot; leaf = leaf } in
@@ -203,19 +221,25 @@ module _ (zones : List ZoneSpec) (seen : Histories) (r : Range) where
       let same : acknowledged_rows more
       ≡ acknowledged_rows history = acked_more history (range_entry.Opened whose slot leaf)
       ∙ append-nil (acknowledged_rows history) in
-      let to : (one : SlotLeaf) → HasRows history one → HasRows more one = λ one has. record {
-        zoned = has.zoned;
-        opened = has.opened;
-        rows = subst (All (Contains (replica_rows r one.slot (leaf_history seen one.leaf)))) (sym same) has.rows;
-      } in
+      let to : (one : SlotLeaf) → HasRows history one → HasRows more one =
+      λ one has. quietly history (range_entry.Opened whose slot leaf) one same has in
       let new : HasRows history replica = record {
         zoned = zoned;
-        opened = opened_there r slot pass (acknowledged_rows history) (leaf_history seen leaf) there;
-        rows = rows_opened r slot pass (acknowledged_rows history) (leaf_history seen leaf) there;
+        opened = opened_there r slot pass (left_rows history) (leaf_history seen leaf) there;
+        rows = left_or_trimmed history leaf slot (rows_opened r slot pass (left_rows history) (leaf_history seen leaf) there);
       } in
       subst (All (HasRows more)) (sym (serving_more [] history (range_entry.Opened whose slot leaf ∷ [])))
       (all_on (HasRows history) (HasRows more) to (serving history ++ replica ∷ [])
       (all_append (HasRows history) (serving history) (replica ∷ []) all (new, record {})))
+
+  -- some serve no longer behind an entry that acknowledges no row
+  fewer_step : (history : List RangeEntry) (e : RangeEntry) (test : SlotLeaf → Bool)
+      → acknowledged_rows (history ++ e ∷ []) ≡ acknowledged_rows history
+      → serving (history ++ e ∷ []) ≡ filter test (serving history) → ServeAll history → ServeAll (history ++ e ∷ [])
+  fewer_step history e test same serve all =
+      subst (All (HasRows (history ++ e ∷ []))) (sym serve)
+      (all_on (HasRows history) (HasRows (history ++ e ∷ [])) (λ one has. quietly history e one same has)
+      (filter test (serving history)) (all_filter (HasRows history) test (serving history) all))
 
   module _ (history : List RangeEntry) (pass : ℕ) (row : Row) (ack : Ack) (is : spec.IsAckOf r (serving history) ack)
       (put : (replica : SlotLeaf) → Contains (opened_slots history) replica → Contains ack.took replica.slot
@@ -234,8 +258,13 @@ module _ (zones : List ZoneSpec) (seen : Histories) (r : Range) where
           record {
             zoned = has.zoned;
             opened = has.opened;
-            rows = subst (All (Contains own)) (sym (acked_more history (range_entry.Acked pass row ack)))
-                (all_append (Contains own) (acknowledged_rows history) (row ∷ []) has.rows (here, record {}));
+            rows = (let after = IsHadOrTrimmed r (leaf_history seen replica.leaf)
+                (history ++ range_entry.Acked pass row ack ∷ []) replica in
+                subst (All after) (sym (acked_more history (range_entry.Acked pass row ack)))
+                (all_append after (acknowledged_rows history) (row ∷ [])
+                (all_on (IsHadOrTrimmed r (leaf_history seen replica.leaf) history replica) after
+                (carried history (range_entry.Acked pass row ack ∷ []) replica) (acknowledged_rows history) has.rows)
+                (inl here, record {})));
           },
           rest,
         )
@@ -271,7 +300,7 @@ module _ (zones : List ZoneSpec) (seen : Histories) (r : Range) where
     one_step history (range_entry.Opened pass slot leaf) more legal may all out =
         opened_step history out.pass slot leaf all
         (subst (λ (front : List RangeEntry). Contains (leaf_history seen leaf)
-        (entry.Opened out.pass r slot (acknowledged_rows front)))
+        (entry.Opened out.pass r slot (left_rows front)))
         (take_at history (range_entry.Opened pass slot leaf ∷ more) (length history) refl) out.entered) pass
         (placed_by slot.0 leaf (cases_lt slot.0 (length (first_replicas zones r.0))) (serving history) may.2)
     one_step history (range_entry.Acked pass row ack) more legal may all out =
@@ -280,6 +309,14 @@ module _ (zones : List ZoneSpec) (seen : Histories) (r : Range) where
         (λ replica known took. (out.0 replica
         (subst (λ (fore : List RangeEntry). Contains (opened_slots fore) replica) (sym front) known) took).put)
         all (numbered held zones points r history legal)
+    one_step history (range_entry.Trimmed pass before ack) more legal may all out =
+        fewer_step history (range_entry.Trimmed pass before ack) (not_missed ack)
+        (acked_more history (range_entry.Trimmed pass before ack) ∙ append-nil (acknowledged_rows history))
+        (serving_more [] history (range_entry.Trimmed pass before ack ∷ [])) all
+    one_step history (range_entry.Retired pass slot) more legal may all out =
+        fewer_step history (range_entry.Retired pass slot) (not_slot slot)
+        (acked_more history (range_entry.Retired pass slot) ∙ append-nil (acknowledged_rows history))
+        (serving_more [] history (range_entry.Retired pass slot ∷ [])) all
 
     abbrev BornOut : List RangeEntry → Type 0
     BornOut all = (k : ℕ) (e : RangeEntry) → slice_get all k ≡ Some e → IsBorneOut seen r all k e

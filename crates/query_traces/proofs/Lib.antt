@@ -1,6 +1,7 @@
 mod AckedRows
 mod AreaLemmas
 pub mod FindingLemmas
+pub mod HiddenRows
 pub mod HintFacts
 pub mod LeafLemmas
 pub mod NextPlaces

@@ -5,22 +5,23 @@ use Rattle.std.proofs.Common.{◌++◌, length, map, take, drop, filter, get_or,
 use Rattle.std.proofs.Common.{refl, sym, ap, subst, arith}
 use Rattle.std.specs.List.{AllByRecursion as All, range_with_len}
 use Rattle.std.proofs.lemmas.List.{get_or-drop, get_or-map, get_or-take, length-drop, length-map, length-take-le}
-use Rattle.std.proofs.lemmas.List.{drop-map, take-map, take-take, take_all}
+use Rattle.std.proofs.lemmas.List.{drop-map, take-append-drop, take-map, take-take, take_all}
 use Rattle.std.proofs.lemmas.List.Elements.{Contains-append_right}
 use Rattle.std.proofs.lemmas.List.FromFn.{length-map-range_with_len}
 use Rattle.mon_hints.specs.Hints.{history_buckets}
 use Rattle.mon_schema.specs.Fits.{fits}
 use Rattle.mon_schema.specs.Names.{SchemaLists}
-use Rattle.mon_topo.proofs.FrontLemmas.{begins-flat_map, begins_length, begins_to}
+use Rattle.mon_topo.proofs.FrontLemmas.{begins-flat_map, begins_from, begins_length, begins_to}
 use Rattle.mon_topo.proofs.RangeHistoryLemmas.{all_at, all_back, all_from, all_front, all_on}
 use Rattle.mon_topo.specs.Replicas.{HasReplicas}
 use Rattle.mon_value.specs.Histories.{leaf_history, range_history, range_numbered}
 use Rattle.mon_value.specs.declared.histories.Histories.{Histories}
 use Rattle.mon_topo.specs.HeldHistories.{AreAtHome, AreHeld, BeginsWith, AreWithin}
-use Rattle.mon_topo.specs.RangeHistories.{acknowledged_rows, acked_row, serving, first_serving, is_avoided}
+use Rattle.mon_topo.specs.RangeHistories.{acknowledged_rows, acked_row, first_serving, is_avoided, range_turns, serving}
 use Rattle.mon_topo.specs.Zones.{first_leaf, first_range, no_zone, ranges_in}
 use Rattle.mon_topo.specs.declared.zones.ZoneSpec.{ZoneSpec}
-use Rattle.mon_value.specs.LeafHistories.{brought_rows, entry_rows, leaf_rows, replica_rows, same_replica}
+use Rattle.mon_value.specs.LeafHistories.{brought_rows, entry_rows, kept_rows, leaf_rows, replica_rows, same_replica}
+use Rattle.mon_value.specs.Turns.{StandsOrIsHidden}
 use Rattle.mon_value.specs.declared.histories.Entry.{Entry}
 use Rattle.mon_value.specs.declared.histories.Entry.TheVariants as entry
 use Rattle.mon_value.specs.declared.histories.RangeEntry.{RangeEntry}
@@ -32,8 +33,9 @@ use Rattle.mon_value.specs.declared.positions.SlotLeaf.{SlotLeaf}
 use Rattle.mon_value.specs.declared.rows.Row.{Row}
 use Rattle.mon_value.specs.declared.rows.SeriesKey.{SeriesKey}
 use Rattle.query_traces.proofs.AckedRows.{HasRows, serve_at}
+use Rattle.query_traces.proofs.HiddenRows.{hidden_on, kept_among, shown_on}
 use Rattle.query_traces.proofs.Spans.{IsLookedAt, ResolvedSo, SpanSo, StandsAt, StandsIn, Tells, look_at, more_avoided}
-use Rattle.query_traces.proofs.Spans.{outside, range_of, resolved_on, up_to}
+use Rattle.query_traces.proofs.Spans.{outside, range_of, resolved_on, stands_later, up_to}
 use Rattle.mon_topo.proofs.SizeLemmas.{parts_so_far}
 use Rattle.query_traces.proofs.ZoneFacts.{leaf_zoned, leaves_next, ranges_next}
 use Rattle.query_traces.specs.Rounds.{area_of, unread_look, slots_on}
@@ -97,6 +99,7 @@ module _ (P : Row → Type 0) where
   entry_among : (r : Range) (slot : Slot) (e : Entry) → All P (brought_rows e) → All P (entry_rows r slot e)
   entry_among r slot (entry.Opened pass other place rows) all = brought_by (same_replica r slot other place) rows all
   entry_among r slot (entry.Put pass other place row) all = brought_by (same_replica r slot other place) (row ∷ []) all
+  entry_among r slot (entry.Trim pass other place before) all = record {}
   entry_among r slot (entry.Down pass) all = record {}
   entry_among r slot (entry.Up pass) all = record {}
 
@@ -116,14 +119,16 @@ module _ (P : Row → Type 0) where
       → All P (slot_rows history slots)
   slots_among history [] all = record {}
   slots_among history (one ∷ slots) all =
-      all_join (replica_rows one.range one.slot history) (slot_rows history slots)
-      (replica_among one.range one.slot history all) (slots_among history slots all)
+      all_join (kept_rows one.range one.slot history) (slot_rows history slots)
+      (kept_among P one.range one.slot history (replica_among one.range one.slot history all))
+      (slots_among history slots all)
 
 module _ (held : SchemaLists) (zones : List ZoneSpec) where
   home_entry : (e : Entry) → AreAtHome held zones e → All (λ row. fits held row ≡ true) (brought_rows e)
   home_entry (entry.Opened pass range slot rows) home =
       all_from (λ row. fits held row ≡ true) rows (λ row there. (home row there).0)
   home_entry (entry.Put pass range slot row) home = (home.0, record {})
+  home_entry (entry.Trim pass range slot before) home = record {}
   home_entry (entry.Down pass) home = record {}
   home_entry (entry.Up pass) home = record {}
 
@@ -184,10 +189,11 @@ module _ (held : SchemaLists) (zones : List ZoneSpec) (points : ℕ)
       (bounds.0, omega (arith, bounds.1, leaves_next zones k there))))
       (serving (take n (range_history seen range))) (serve_near range in_zone n)
 
-  -- a range of a zone that resolves does so to a leaf of the zone, which has the rows that were acknowledged
+  -- a range of a zone that resolves does so to a leaf of the zone, which has the rows that were acknowledged, but for those
+  -- that the range trimmed
   pub record ResolvesSo (avoided : List Leaf) (one : Resolved) : Type 0 where
     pub resolved : ResolvedSo at_entry seen avoided (first_leaf zones k) (first_leaf zones (k + 1)) one
-    pub stands : StandsIn (acknowledged_rows (range_history at_entry one.range)) (leaf_history seen one.leaf) one
+    pub stands : StandsIn at_entry seen (leaf_history seen one.leaf) one
 
   pub resolves_so : (avoided : List Leaf) (one : Resolved) → IsOfZone one.range
       → IsFirstServing at_entry seen avoided one → ResolvesSo avoided one
@@ -195,6 +201,7 @@ module _ (held : SchemaLists) (zones : List ZoneSpec) (points : ℕ)
       let history = range_history seen one.range in
       let front = take is.found history in
       let was = range_history at_entry one.range in
+      let own = replica_rows one.range one.slot (leaf_history seen one.leaf) in
       let serves : Contains (serving front) (replica_of one) = first_there avoided (replica_of one) (serving front)
       is.first in
       let near = all_at (λ (replica : SlotLeaf). (first_leaf zones k ≤ replica.leaf.0)
@@ -207,12 +214,16 @@ module _ (held : SchemaLists) (zones : List ZoneSpec) (points : ℕ)
         resolved = record { first = is; near = near_at one.range in_zone is.found; from = near.0; to = near.1 };
         stands = record {
           opened = has.opened;
-          rows = all_front (Contains (replica_rows one.range one.slot (leaf_history seen one.leaf)))
+          rows = all_on (StandsOrIsHidden own (range_turns front)) (StandsOrIsHidden own (range_turns history))
+              (λ row. shown_on own own (range_turns front) (range_turns history) row (λ there. there)
+              (hidden_on history front row
+              (begins_from history front (drop is.found history) (sym (take-append-drop is.found history)))))
               (acknowledged_rows was)
+              (all_front (StandsOrIsHidden own (range_turns front)) (acknowledged_rows was)
               (drop (length (acknowledged_rows was)) (acknowledged_rows front))
-              (subst (All (Contains (replica_rows one.range one.slot (leaf_history seen one.leaf))))
+              (subst (All (StandsOrIsHidden own (range_turns front)))
               (begins_to (acknowledged_rows front) (acknowledged_rows was)
-              (begins-flat_map acked_row front was begins)) has.rows);
+              (begins-flat_map acked_row front was begins)) has.rows));
         };
       }
 
@@ -370,9 +381,9 @@ module _ (held : SchemaLists) (zones : List ZoneSpec) (points : ℕ)
         let is = resolves_so held zones points replicated at_entry seen holds since k there avoided one within.0
         (first_is one within.0 serve.0) in
         let look = seen_cut one.leaf is.resolved.from (omega (arith, is.resolved.to, leaves_next zones k there)) in
-        let rows = acknowledged_rows (range_history at_entry one.range) in (
-          subst (λ (look : Look). StandsIn rows (up_to now one.leaf look) one) (sym look)
-              (subst (λ (history : List Entry). StandsIn rows history one) (sym (whole one.leaf)) is.stands),
+        let stands = stands_later at_entry seen now until (leaf_history seen one.leaf) one is.stands in (
+          subst (λ (look : Look). StandsIn at_entry now (up_to now one.leaf look) one) (sym look)
+              (subst (λ (history : List Entry). StandsIn at_entry now history one) (sym (whole one.leaf)) stands),
           each_stands some within.1 serve.1,
         )
 

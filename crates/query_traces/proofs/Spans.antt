@@ -1,6 +1,6 @@
 -- What is known of the leaves and the ranges from one zone to another, once a query is through with them.
 use Rattle.std.proofs.Common.{◌≡◌, ◌∙◌, ℕ, zero, suc, ◌+◌, ◌-◌, ◌<◌, ◌≤◌, Bool, true, false, not, cond, ◌||◌, List, []}
-use Rattle.std.proofs.Common.{◌∷◌, ◌++◌, length, map, take, drop, filter, get_or, Contains, ◌⊎◌, inl, inr, refl, sym}
+use Rattle.std.proofs.Common.{◌∷◌, ◌++◌, length, map, take, drop, filter, get_or, ◌⊎◌, inl, inr, refl, sym}
 use Rattle.std.proofs.Common.{ap, subst, append-nil, length-append, arith}
 use Rattle.std.specs.List.{AllByRecursion as All, list_any, range_with_len}
 use Rattle.std.proofs.lemmas.Bool.{cases_lt}
@@ -14,9 +14,10 @@ use Rattle.mon_topo.proofs.RangeHistoryLemmas.{all_append, all_on}
 use Rattle.mon_value.specs.Histories.{leaf_history, range_history, range_numbered, same_leaf}
 use Rattle.mon_value.specs.declared.histories.Histories.{Histories}
 use Rattle.mon_topo.specs.HeldHistories.{BeginsWith, AreWithin}
-use Rattle.mon_topo.specs.RangeHistories.{acknowledged_rows, serving, first_serving, is_avoided}
+use Rattle.mon_topo.specs.RangeHistories.{acknowledged_rows, first_serving, is_avoided, range_turns, serving}
 use Rattle.mon_value.proofs.LeafHistoryLemmas.{is_opened-append}
 use Rattle.mon_value.specs.LeafHistories.{entry_rows, is_down, is_opened, replica_rows}
+use Rattle.mon_value.specs.Turns.{StandsOrIsHidden}
 use Rattle.mon_value.specs.declared.histories.Entry.{Entry}
 use Rattle.mon_value.specs.declared.histories.RangeEntry.{RangeEntry}
 use Rattle.mon_value.specs.declared.positions.Leaf.{Leaf}
@@ -25,6 +26,7 @@ use Rattle.mon_value.specs.declared.positions.RangeSlot.{RangeSlot}
 use Rattle.mon_value.specs.declared.positions.SlotLeaf.{SlotLeaf}
 use Rattle.mon_value.specs.declared.rows.Row.{Row}
 use Rattle.mon_value.specs.declared.rows.SeriesKey.{SeriesKey}
+use Rattle.query_traces.proofs.HiddenRows.{hidden_on, shown_on}
 use Rattle.query_traces.specs.Rounds.{unread_look, slot_of, slots_on}
 use Rattle.query_traces.specs.Traces.{IsBetween, IsFirstServing}
 use Rattle.mon_meaning.specs.ReadableSlots.{slot_rows}
@@ -42,21 +44,43 @@ range_of one = one.range
 abbrev pub look_at : ℕ → List Look → Leaf → Look
 look_at low looks leaf = get_or looks (leaf.0 - low) (unread_look 0)
 
--- a replica was opened in its leaf's history, which has rows that were acknowledged
-pub record StandsIn (acknowledged : List Row) (history : List Entry) (one : Resolved) : Type 0 where
+-- a replica was opened in its leaf's history, which has the rows that had been acknowledged at entry, but for those that a
+-- bound in the range's history hides
+pub record StandsIn (at_entry seen : Histories) (history : List Entry) (one : Resolved) : Type 0 where
   pub opened : is_opened one.range one.slot history ≡ true
-  pub rows : All (Contains (replica_rows one.range one.slot history)) acknowledged
+  pub rows : All (StandsOrIsHidden (replica_rows one.range one.slot history) (range_turns (range_history seen one.range)))
+      (acknowledged_rows (range_history at_entry one.range))
 
-pub stands_on : (rows : List Row) (now was : List Entry) (one : Resolved) → BeginsWith now was → StandsIn rows was one
-    → StandsIn rows now one
-stands_on rows now was one grows is = record {
-  opened = subst (λ (history : List Entry). is_opened one.range one.slot history ≡ true) (sym (begins_to now was grows))
-      (is_opened-append one.range one.slot was (drop (length was) now) is.opened);
-  rows = all_on (Contains (replica_rows one.range one.slot was)) (Contains (replica_rows one.range one.slot now))
-      (λ row. contains_on (replica_rows one.range one.slot now) (replica_rows one.range one.slot was) row
-      (begins-flat_map (entry_rows one.range one.slot) now was grows))
-      rows is.rows;
-}
+pub stands_on : (at_entry seen : Histories) (now was : List Entry) (one : Resolved) → BeginsWith now was
+    → StandsIn at_entry seen was one → StandsIn at_entry seen now one
+stands_on at_entry seen now was one grows is =
+    let turns = range_turns (range_history seen one.range) in
+    let before = replica_rows one.range one.slot was in
+    let after = replica_rows one.range one.slot now in
+    record {
+      opened = subst (λ (history : List Entry). is_opened one.range one.slot history ≡ true)
+          (sym (begins_to now was grows))
+          (is_opened-append one.range one.slot was (drop (length was) now) is.opened);
+      rows = all_on (StandsOrIsHidden before turns) (StandsOrIsHidden after turns)
+          (λ row. shown_on before after turns turns row
+          (contains_on after before row (begins-flat_map (entry_rows one.range one.slot) now was grows)) (λ hidden. hidden))
+          (acknowledged_rows (range_history at_entry one.range)) is.rows;
+    }
+
+-- so too as histories grow
+pub stands_later : (at_entry before after : Histories) → AreWithin before after → (history : List Entry)
+    (one : Resolved) → StandsIn at_entry before history one → StandsIn at_entry after history one
+stands_later at_entry before after grown history one is =
+    let rows = replica_rows one.range one.slot history in
+    let was = range_history before one.range in
+    let now = range_history after one.range in
+    record {
+      opened = is.opened;
+      rows = all_on (StandsOrIsHidden rows (range_turns was)) (StandsOrIsHidden rows (range_turns now))
+          (λ row. shown_on rows rows (range_turns was) (range_turns now) row (λ there. there)
+          (hidden_on now was row (grown.ranges one.range)))
+          (acknowledged_rows (range_history at_entry one.range)) is.rows;
+    }
 
 -- ---- resolved ranges
 
@@ -167,9 +191,7 @@ IsLookedAt at_entry now leaf look =
     IsBetween (length (leaf_history at_entry leaf)) (length (leaf_history now leaf)) look.cut
 
 abbrev pub StandsAt : Histories → Histories → ℕ → List Look → Resolved → Type 0
-StandsAt at_entry now low looks one =
-    StandsIn (acknowledged_rows (range_history at_entry one.range)) (up_to now one.leaf (look_at low looks one.leaf))
-    one
+StandsAt at_entry now low looks one = StandsIn at_entry now (up_to now one.leaf (look_at low looks one.leaf)) one
 
 module _ (at_entry : Histories) (wanted : Row → Bool) (met : List ℕ → Bool) (buckets_of : SeriesKey → List ℕ) where
   -- the leaves from one number on and below another, and the ranges; of some leaves nothing is told yet
@@ -207,10 +229,10 @@ module _ (at_entry : Histories) (wanted : Row → Bool) (met : List ℕ → Bool
       → All (StandsAt at_entry before low looks) resolved → All (StandsAt at_entry after low looks) resolved
   stand_all_on before after grown avoided low high looks cuts [] each stand = record {}
   stand_all_on before after grown avoided low high looks cuts (one ∷ resolved) each stand = (
-    subst (λ (history : List Entry). StandsIn (acknowledged_rows (range_history at_entry one.range)) history one)
+    subst (λ (history : List Entry). StandsIn at_entry after history one)
         (sym (same_up_to before after grown one.leaf (look_at low looks one.leaf)
         (cuts one.leaf each.0.from each.0.to)))
-        stand.0,
+        (stands_later at_entry before after grown (up_to before one.leaf (look_at low looks one.leaf)) one stand.0),
     stand_all_on before after grown avoided low high looks cuts resolved each.1 stand.1,
   )
 
@@ -298,8 +320,7 @@ module _ (at_entry : Histories) (wanted : Row → Bool) (met : List ℕ → Bool
             → All (StandsAt at_entry now low (looks ++ others)) some
         by [] each stand = record {}
         by (x ∷ some) each stand = (
-          subst (λ (look : Look). StandsIn (acknowledged_rows (range_history at_entry x.range)) (up_to now x.leaf look)
-              x)
+          subst (λ (look : Look). StandsIn at_entry now (up_to now x.leaf look) x)
               (sym (front_look low looks others x.leaf each.0.from (omega (arith, one.long, each.0.to)))) stand.0,
           by some each.1 stand.1,
         )
@@ -311,8 +332,7 @@ module _ (at_entry : Histories) (wanted : Row → Bool) (met : List ℕ → Bool
             → All (StandsAt at_entry now middle others) some → All (StandsAt at_entry now low (looks ++ others)) some
         by [] each stand = record {}
         by (x ∷ some) each stand = (
-          subst (λ (look : Look). StandsIn (acknowledged_rows (range_history at_entry x.range)) (up_to now x.leaf look)
-              x)
+          subst (λ (look : Look). StandsIn at_entry now (up_to now x.leaf look) x)
               (sym (back_look low middle looks others x.leaf one.long each.0.from
               (omega (arith, two.long, each.0.to)))) stand.0,
           by some each.1 stand.1,

@@ -1,23 +1,25 @@
 -- What is said of a trace between two moments stays as histories grow, and between an earlier moment and a later one.
 use Rattle.std.proofs.Common.{◌≡◌, ◌∙◌, ℕ, ℤ, ◌<◌, ◌≤◌, Bool, true, false, nat_lt, List, ◌++◌, length, take}
-use Rattle.std.proofs.Common.{drop}
-use Rattle.std.proofs.Common.{Contains, refl, sym, ap, subst, arith}
+use Rattle.std.proofs.Common.{[], cond, drop, inl, inr, Contains, refl, sym, ap, subst, arith}
 use Rattle.std.specs.List.{AllByRecursion as All, flat_map}
 use Rattle.std.proofs.lemmas.Bool.Decides.{nat_tests}
 use Rattle.std.proofs.lemmas.List.{get_or_past, take-append-drop, take-take}
 use Rattle.std.proofs.lemmas.List.Concat.{flat_map-append}
 use Rattle.mon_hints.specs.Hints.{history_buckets}
-use Rattle.mon_topo.proofs.FrontLemmas.{take_on}
+use Rattle.mon_topo.proofs.FrontLemmas.{begins_from, take_on}
 use Rattle.mon_topo.proofs.HeldLemmas.{down_on}
 use Rattle.mon_topo.proofs.RangeHistoryLemmas.{all_front, all_on}
-use Rattle.mon_topo.specs.RangeHistories.{acked_row, acknowledged_rows, first_serving}
-use Rattle.mon_value.specs.Histories.{leaf_history, range_history}
-use Rattle.mon_value.specs.LeafHistories.{IsDownAt, is_down, is_opened, replica_rows}
+use Rattle.mon_topo.specs.HeldHistories.{BeginsWith}
+use Rattle.mon_topo.specs.RangeHistories.{acked_row, acknowledged_rows, first_serving, range_turns}
+use Rattle.mon_value.specs.Histories.{leaf_history, range_history, same_range}
+use Rattle.mon_value.specs.LeafHistories.{IsDownAt, is_down, is_opened, kept_rows, replica_turns}
+use Rattle.mon_value.specs.Turns.{StandsOrIsHidden, Turn, is_hidden_by}
 use Rattle.mon_value.specs.declared.histories.Entry.{Entry}
 use Rattle.mon_value.specs.declared.histories.Histories.{Histories}
 use Rattle.mon_value.specs.declared.histories.RangeEntry.{RangeEntry}
 use Rattle.mon_value.specs.declared.positions.FoundDown.{FoundDown}
 use Rattle.mon_value.specs.declared.positions.Leaf.{Leaf}
+use Rattle.mon_value.specs.declared.positions.Range.{Range}
 use Rattle.mon_value.specs.declared.rows.Row.{Row}
 use Rattle.mon_value.specs.declared.rows.SeriesKey.{SeriesKey}
 use Rattle.typed_trees.specs.Nodes.{TypedTree}
@@ -26,9 +28,10 @@ use Rattle.typed_trees.specs.declared.plans.Plan.{Plan}
 use Rattle.query_traces.specs.Founds.{IsFoundBetween}
 use Rattle.plan_split.specs.Meeting.{is_plan_met}
 use Rattle.query_traces.specs.Rounds.{slots_on}
-use Rattle.query_traces.specs.Traces.{IsFirstServingBetween, IsFreshSince, IsReadRightly, IsTraceBetween, Lengths, cut_of}
-use Rattle.query_traces.specs.Traces.{AreWider, IsOfRanges, found_leaves, is_wanted, looked_at, resolved_rows, rows_on}
-use Rattle.query_traces.specs.Traces.{sent_if, source_of, was_read}
+use Rattle.query_traces.specs.Traces.{IsFirstServingBetween, IsFreshBetween, IsReadRightly, IsTraceBetween, Lengths}
+use Rattle.query_traces.specs.Traces.{AreWider, IsOfRanges, cut_of, found_leaves, is_wanted, looked_at, resolved_rows}
+use Rattle.query_traces.specs.Traces.{resolved_turns, rows_on, sent_if, source_of, turns_over, was_read}
+use Rattle.query_traces.proofs.HiddenRows.{either_hides, hidden_behind, hidden_more, hidden_on, shown_on}
 use Rattle.mon_meaning.specs.ReadableSlots.{slot_rows}
 use Rattle.query_traces.specs.declared.answers.Resolved.{Resolved}
 use Rattle.query_traces.specs.declared.answers.Trace.{Trace}
@@ -65,7 +68,7 @@ module _ (typed : TypedTree) (moment : ℤ) (from to earlier later : Lengths) (s
 
   resolved_still : (one : Resolved) → resolved_rows more trace one ≡ resolved_rows seen trace one
   resolved_still one =
-      ap (λ (history : List Entry). replica_rows one.range one.slot history) (looked_still one.leaf)
+      ap (λ (history : List Entry). kept_rows one.range one.slot history) (looked_still one.leaf)
 
   pub source_still : source_of more trace ≡ source_of seen trace
   source_still = ap (λ (rows : Resolved → List Row). flat_map rows trace.resolved) (λ i one. resolved_still one i)
@@ -136,7 +139,38 @@ module _ (typed : TypedTree) (moment : ℤ) (from to earlier later : Lengths) (s
       all_front P (acknowledged_rows (take short history)) (acknowledged_rows (drop short (take long history)))
       (subst (λ (rows : List Row). All P rows) both all)
 
-  pub fresh_still : IsFreshSince from seen trace → IsFreshSince earlier more trace
+  turns_still : (one : Resolved) → resolved_turns more trace one ≡ resolved_turns seen trace one
+  turns_still one =
+      ap (λ (history : List Entry). replica_turns one.range one.slot history) (looked_still one.leaf)
+
+  -- what hid a row of a range by a moment hides it by a later one
+  hidden_still : (range : Range) (row : Row)
+      → is_hidden_by (turns_over seen (to.ranges range) trace range) row ≡ true
+      → is_hidden_by (turns_over more (later.ranges range) trace range) row ≡ true
+  hidden_still range row is =
+      let front = take (to.ranges range) (range_history seen range) in
+      let history = take (later.ranges range) (range_history more range) in
+      let past = wide.later.ranges range in
+      let short = wide.within.ranges range in
+      let same : take (to.ranges range) history ≡ front =
+      take-take (to.ranges range) (later.ranges range) (range_history more range) past
+      ∙ take_on (range_history more range) (range_history seen range) (to.ranges range) (wide.grown.ranges range)
+      (omega (arith, short)) in
+      let begins : BeginsWith history front =
+      begins_from history front (drop (to.ranges range) history)
+      (sym (take-append-drop (to.ranges range) history)
+      ∙ ap (λ (first : List RangeEntry). first ++ drop (to.ranges range) history) same) in
+      let own : (Resolved → List Turn) → List Turn =
+      λ turns. flat_map (λ (one : Resolved). cond (same_range one.range range) (turns one) []) trace.resolved in
+      let slots : own (resolved_turns more trace) ≡ own (resolved_turns seen trace) = ap own (λ i one. turns_still one i) in
+      elim (either_hides (own (resolved_turns seen trace)) (range_turns front) row is) [
+        | inl here ↦ hidden_more (own (resolved_turns more trace)) (range_turns history) row
+            (ap (λ (turns : List Turn). is_hidden_by turns row) slots ∙ here)
+        | inr there ↦ hidden_behind (own (resolved_turns more trace)) (range_turns history) row
+            (hidden_on history front row begins there)
+      ]
+
+  pub fresh_still : IsFreshBetween from to seen trace → IsFreshBetween earlier later more trace
   fresh_still so = record {
     cuts = λ leaf there. omega (arith, so.cuts leaf (omega (arith, there, wide.leaves)), wide.sooner.leaves leaf);
     rows = λ range there.
@@ -146,12 +180,16 @@ module _ (typed : TypedTree) (moment : ℤ) (from to earlier later : Lengths) (s
         ≡ take (earlier.ranges range) (range_history seen range) =
         take_on (range_history more range) (range_history seen range) (earlier.ranges range) (wide.grown.ranges range)
         (omega (arith, sooner, short)) in
-        subst (λ (front : List RangeEntry). All (Contains (source_of more trace)) (acknowledged_rows front)) (sym same)
-        (subst (λ (rows : List Row).
-        All (Contains rows) (acknowledged_rows (take (earlier.ranges range) (range_history seen range))))
-        (sym source_still)
-        (acked_sooner (range_history seen range) (earlier.ranges range) (from.ranges range) sooner
-        (Contains (source_of seen trace)) (so.rows range (omega (arith, there, wide.ranges))))));
+        let was = StandsOrIsHidden (source_of seen trace) (turns_over seen (to.ranges range) trace range) in
+        let now = StandsOrIsHidden (source_of more trace) (turns_over more (later.ranges range) trace range) in
+        let front = acknowledged_rows (take (earlier.ranges range) (range_history seen range)) in
+        subst (λ (front : List RangeEntry). All now (acknowledged_rows front)) (sym same)
+        (all_on was now
+        (λ row. shown_on (source_of seen trace) (source_of more trace) (turns_over seen (to.ranges range) trace range)
+        (turns_over more (later.ranges range) trace range) row
+        (subst (λ (rows : List Row). Contains rows row) (sym source_still)) (hidden_still range row)) front
+        (acked_sooner (range_history seen range) (earlier.ranges range) (from.ranges range) sooner was
+        (so.rows range (omega (arith, there, wide.ranges))))));
   }
 
 -- ---- leaves that were found down

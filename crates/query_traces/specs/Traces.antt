@@ -1,13 +1,14 @@
 -- What a query looked at, against the histories of leaves and ranges that were seen.
-use Rattle.std.specs.Prelude.{◌≡◌, ◌≤◌, ◌<◌, ℕ, ℤ, Bool, true, false, List, length, map, take, get_or}
-use Rattle.std.specs.Prelude.{Some, Contains, if◌then◌else◌}
+use Rattle.std.specs.Prelude.{◌≡◌, ◌≤◌, ◌<◌, ℕ, ℤ, Bool, true, false, List, [], ◌++◌, length, map, take, get_or}
+use Rattle.std.specs.Prelude.{Some, if◌then◌else◌}
 use Rattle.std.specs.List.{AllByRecursion, flat_map, list_any, range_with_len}
 use Rattle.mon_hints.specs.Hints.{history_buckets}
-use Rattle.mon_value.specs.Histories.{leaf_history, range_history, range_numbered}
+use Rattle.mon_value.specs.Histories.{leaf_history, range_history, range_numbered, same_range}
 use Rattle.mon_value.specs.declared.histories.Histories.{Histories}
-use Rattle.mon_topo.specs.RangeHistories.{acknowledged_rows, first_serving}
+use Rattle.mon_topo.specs.RangeHistories.{acknowledged_rows, first_serving, range_turns}
 use Rattle.mon_topo.specs.HeldHistories.{AreWithin}
-use Rattle.mon_value.specs.LeafHistories.{IsDownAt, is_down, is_opened, replica_rows}
+use Rattle.mon_value.specs.LeafHistories.{IsDownAt, is_down, is_opened, kept_rows, replica_turns}
+use Rattle.mon_value.specs.Turns.{StandsOrIsHidden, Turn}
 use Rattle.mon_value.specs.declared.histories.Entry.{Entry}
 use Rattle.mon_value.specs.declared.positions.FoundDown.{FoundDown}
 use Rattle.mon_value.specs.declared.positions.Leaf.{Leaf}
@@ -94,9 +95,13 @@ sent_by trace leaf = get_or trace.sent leaf.0 0
 abbrev pub looked_at : Histories → Trace → Leaf → List Entry
 looked_at seen trace leaf = take (cut_of trace leaf) (leaf_history seen leaf)
 
--- the rows of a range: those of the slot that it resolved to, in its leaf's history at the leaf's cut
+-- the rows of a range: those that the slot that it resolved to kept, in its leaf's history at the leaf's cut
 abbrev pub resolved_rows : Histories → Trace → Resolved → List Row
-resolved_rows seen trace one = replica_rows one.range one.slot (looked_at seen trace one.leaf)
+resolved_rows seen trace one = kept_rows one.range one.slot (looked_at seen trace one.leaf)
+
+-- the turns of that slot up to the cut
+abbrev pub resolved_turns : Histories → Trace → Resolved → List Turn
+resolved_turns seen trace one = replica_turns one.range one.slot (looked_at seen trace one.leaf)
 
 -- all rows that the query stands on
 abbrev pub source_of : Histories → Trace → List Row
@@ -140,17 +145,24 @@ abbrev pub IsTraceOf : TypedTree → ℤ → Histories → Histories → Trace �
 IsTraceOf typed moment at_entry at_exit =
     IsTraceBetween typed moment (lengths_of at_entry) (lengths_of at_exit) at_exit
 
+-- what may have hidden rows of a range: the turns of the slot that it resolved to, up to its leaf's cut, and those of the
+-- range's own history up to a length
+abbrev pub turns_over : Histories → ℕ → Trace → Range → List Turn
+turns_over seen upto trace range =
+    flat_map (λ one. if same_range one.range range then resolved_turns seen trace one else []) trace.resolved
+    ++ range_turns (take upto (range_history seen range))
+
 -- no leaf is looked at before a moment, and each row that had been acknowledged by then is among those that the query
--- stands on
-pub record IsFreshSince (from : Lengths) (seen : Histories) (trace : Trace) : Type 0 where
+-- stands on, or hidden: by a bound in the history of the slot's leaf at its cut, or in the range's at a later moment
+pub record IsFreshBetween (from to : Lengths) (seen : Histories) (trace : Trace) : Type 0 where
   pub cuts : (leaf : Leaf) → leaf.0 < length seen.leaves → from.leaves leaf ≤ cut_of trace leaf
   pub rows : (range : Range) → range.0 < length seen.ranges
-      → AllByRecursion (Contains (source_of seen trace))
+      → AllByRecursion (StandsOrIsHidden (source_of seen trace) (turns_over seen (to.ranges range) trace range))
       (acknowledged_rows (take (from.ranges range) (range_history seen range)))
 
--- so since entry
+-- so between entry and exit
 abbrev pub IsFresh : Histories → Histories → Trace → Type 0
-IsFresh at_entry at_exit = IsFreshSince (lengths_of at_entry) at_exit
+IsFresh at_entry at_exit = IsFreshBetween (lengths_of at_entry) (lengths_of at_exit) at_exit
 
 -- whether a row's series meets a fetch of a query
 abbrev pub is_wanted : TypedTree → Row → Bool

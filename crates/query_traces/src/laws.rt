@@ -7,7 +7,7 @@ ghost use Rattle.mon_value.specs.declared.rows.SeriesKey.{SeriesKey as KeyOf};
 ghost use Rattle.typed_trees.specs.Nodes.{TypedTree as Typed};
 ghost use Rattle.typed_trees.specs.declared.plans.Plan.{Plan as PlanOf};
 ghost use Rattle.query_traces.specs.Founds.{IsFoundBetween};
-ghost use Rattle.query_traces.specs.Traces.{AreWider, IsFreshSince, IsReadRightly, IsTraceBetween, Lengths};
+ghost use Rattle.query_traces.specs.Traces.{AreWider, IsFreshBetween, IsReadRightly, IsTraceBetween, Lengths};
 ghost use Rattle.query_traces.specs.Traces.{source_of};
 ghost use Rattle.query_traces.specs.declared.answers.Trace.{Trace as TraceOf};
 
@@ -22,7 +22,7 @@ pub fn traces_stay()
         → source_of more trace ≡ source_of seen trace }
     ensures fresh { (typed : Typed) (moment : ℤ) (from to earlier later : Lengths) (seen more : Histories)
         (trace : TraceOf) → AreWider from to earlier later seen more → IsTraceBetween typed moment from to seen trace
-        → IsFreshSince from seen trace → IsFreshSince earlier more trace }
+        → IsFreshBetween from to seen trace → IsFreshBetween earlier later more trace }
     ensures read { (typed : Typed) (moment : ℤ) (from to earlier later : Lengths) (seen more : Histories)
         (trace : TraceOf) (plan : PlanOf) (buckets_of : KeyOf → List ℕ) (leaf : LeafOf)
         → AreWider from to earlier later seen more → IsTraceBetween typed moment from to seen trace

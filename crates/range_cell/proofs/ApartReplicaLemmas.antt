@@ -1,11 +1,11 @@
--- The replicas of a write's marks stand apart, so a row that is put into one is none of another.
-use Rattle.std.proofs.Common.{◌≡◌, ℕ, false, List, [], ◌∷◌, ◌++◌, map, refl, ap, ◌∙◌, cond, nat_eq}
-use Rattle.std.specs.Prelude.{◌&&◌}
+-- The replicas of a write's marks stand apart, so what comes to one is none of another's.
+use Rattle.std.proofs.Common.{◌≡◌, ℕ, false, List, [], ◌∷◌, ◌++◌, map, refl, ap, nat_eq}
 use Rattle.std.specs.List.{AllByRecursion}
-use Rattle.mon_value.specs.LeafHistories.{replica_rows}
 use Rattle.mon_value.specs.declared.positions.Range.{Range}
 use Rattle.mon_value.specs.declared.positions.SlotLeaf.{SlotLeaf}
-use Rattle.mon_value.specs.declared.rows.Row.{Row}
+use Rattle.mon_value.specs.Turns.{Turn}
+use Rattle.range_cell.proofs.CallLemmas.{BringNothing}
+use Rattle.range_cell.proofs.TurnEntryLemmas.{others_nothing}
 use Rattle.range_cell.specs.Stages.{AreApart, IsApart}
 use Rattle.range_cell.specs.Writing.{put_of}
 use Rattle.write_core.specs.Marks.{replica_of, with_fate}
@@ -23,15 +23,12 @@ module _ (P : SlotLeaf → Type 0) where
   at_mark [] left mark h = h.0
   at_mark (x ∷ done) left mark h = at_mark done left mark h.1
 
-module _ (range : Range) (row : Row) (pass : ℕ) (mark : Mark) where
+module _ (range : Range) (turn : Turn) (pass : ℕ) (mark : Mark) where
   abbrev Nothing : Mark → Type 0
-  Nothing x = replica_rows range x.slot (put_of pass range row mark ∷ []) ≡ []
+  Nothing x = BringNothing range x.slot (put_of pass range turn mark ∷ [])
 
   nothing_at : (x : Mark) → nat_eq x.slot.0 mark.slot.0 ≡ false → Nothing x
-  nothing_at x apart =
-      ap (λ b. cond (b && nat_eq x.slot.0 mark.slot.0) (row ∷ []) [] ++ [])
-      (Rattle.std.proofs.Common.eq-eqb range.0 range.0 refl)
-      ∙ ap (λ b. cond b (row ∷ []) [] ++ []) apart
+  nothing_at x apart = others_nothing pass range mark.slot turn x.slot apart
 
   nothing_behind : (left : List Mark) → AllByRecursion (IsApart (replica_of mark)) (map replica_of left)
       → AllByRecursion Nothing left

@@ -1,11 +1,9 @@
 -- A write that asks for a leaf is behind the range's lock.
-use Rattle.std.proofs.Common.{◌≡◌, ◌≢◌, List, [], ◌∷◌, sym, ap, ◌∙◌}
+use Rattle.std.proofs.Common.{◌≡◌, ◌≢◌, sym, ap, ◌∙◌}
 use Rattle.mon_value.specs.declared.positions.Leaf.{Leaf}
 use Rattle.mon_value.specs.declared.positions.Slot.{Slot}
-use Rattle.write_core.specs.Program.{Acking, Ended, Entering, Inside, Locking, Reserving, Stage, after, ask_of, reserve}
+use Rattle.write_core.specs.Program.{Locking, Stage, ask_of}
 use Rattle.write_core.specs.declared.asks.WriteAsk.TheVariants as ask
-use Rattle.write_core.specs.declared.asks.WriteTold.TheVariants as told
-use Rattle.write_core.specs.declared.marks.Mark.{Mark}
 
 pub begun_reserve : (stage : Stage) (slot : Slot) (leaf : Leaf) → ask_of stage ≡ ask.Reserve slot leaf → stage ≢ Locking
 begun_reserve stage slot leaf asks is = lock_not (sym asks ∙ ap ask_of is)

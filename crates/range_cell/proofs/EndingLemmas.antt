@@ -1,15 +1,16 @@
 -- How a write's machine ends once all replicas are decided, and what the range's lock tells a row.
-use Rattle.std.proofs.Common.{◌≡◌, ℕ, ◌+◌, ◌≤◌, Bool, true, false, List, [], ◌∷◌, ◌++◌, length, length-append, refl}
-use Rattle.std.proofs.Common.{ap, subst, ◌∙◌, arith, cond, None, Some}
-use Rattle.std.specs.Prelude.{Option, Result, Ok, Err, ℤ}
+use Rattle.std.proofs.Common.{◌≡◌, ℕ, Bool, true, false, List, refl}
+use Rattle.std.proofs.Common.{ap, subst, ◌∙◌, cond, None, Some}
+use Rattle.std.specs.Prelude.{Option, Result, Ok, Err}
 use Rattle.std.specs.List.{flat_map}
-use Rattle.leaf_store.proofs.FollowLemmas.{source_more}
+use Rattle.mon_value.proofs.SourceMoreLemmas.{source_more}
 use Rattle.mon_topo.specs.RangeHistories.{IsLegal, acknowledged_rows, serving}
 use Rattle.mon_topo.specs.Settings.{Setting}
 use Rattle.mon_value.specs.declared.histories.Ack.{Ack}
 use Rattle.mon_value.specs.declared.histories.RangeEntry.{RangeEntry}
 use Rattle.mon_value.specs.declared.positions.FoundDown.{FoundDown}
 use Rattle.mon_value.specs.declared.positions.Range.{Range}
+use Rattle.mon_value.specs.Turns.{Adds}
 use Rattle.mon_value.specs.declared.rows.Row.{Row}
 use Rattle.know.specs.Knowledge.{Knowledge}
 use Rattle.range_cell.specs.Calls.{HasBegun}
@@ -18,8 +19,7 @@ use Rattle.range_cell.specs.declared.answers.WriteFault.{WriteFault}
 use Rattle.range_cell.specs.declared.answers.WriteFault.TheVariants as fault
 use Rattle.write_core.proofs.LockLemmas.{lock_told}
 use Rattle.write_core.proofs.OpeningLemmas.{acked_source}
-use Rattle.write_core.specs.Marks.{ack_of, end_of, found_in_mark, has_taken, miss_of, missed_slot, some_took}
-use Rattle.write_core.specs.Marks.{taken_slot}
+use Rattle.write_core.specs.Marks.{ack_of, end_of, found_in_mark, some_took}
 use Rattle.write_core.specs.Program.{Acking, Ended, EndsSo, Marked, Stage, after}
 use Rattle.write_core.specs.RangeAnswers.{lock_answer, refusal, told_unless}
 use Rattle.write_core.specs.Steps.{IsToldByRange}
@@ -27,8 +27,6 @@ use Rattle.write_core.specs.declared.asks.WriteEnd.{WriteEnd}
 use Rattle.write_core.specs.declared.asks.WriteEnd.TheVariants as end
 use Rattle.write_core.specs.declared.asks.WriteTold.{WriteTold}
 use Rattle.write_core.specs.declared.asks.WriteTold.TheVariants as told
-use Rattle.write_core.specs.declared.marks.Fate.{Fate}
-use Rattle.write_core.specs.declared.marks.Fate.TheVariants as fates
 use Rattle.write_core.specs.declared.marks.Mark.{Mark}
 use Rattle.write_core.specs.declared.refusals.Refused.{Refused}
 use Rattle.write_core.specs.declared.refusals.Refused.TheVariants as refused
@@ -70,7 +68,7 @@ module _ (range : Range) (marks : List Mark) where
 -- a row that goes in may come behind the acknowledged ones
 pub taken_true : (setting : Setting) (range : Range) (history : List RangeEntry) (row : Row)
     → IsLegal setting.held setting.zones setting.points range history
-    → IsToldByRange setting history row (lock_answer setting.points history row)
+    → IsToldByRange setting history (Adds row) (lock_answer setting.points history row)
 taken_true setting range history row legal =
     lock_told setting range history row legal
     (source_more (acknowledged_rows history) row
@@ -121,11 +119,11 @@ pub ruleset never_at_lock = (never_up, never_down, never_done)
 module _ (leaves : ℕ) (range : Range) (row : Row) (limit pass : ℕ) (before after : Knowledge)
     (history : List RangeEntry) (begun : Knowledge) (takes : lock_answer limit history row ≡ told.Slots (serving history))
     (begins : HasBegun leaves range history before begun) where
-  tried : (result : Result Ack WriteFault) → HasEnded leaves range row history pass begun after result
+  tried : (result : Result Ack WriteFault) → HasEnded leaves range (Adds row) history pass begun after result
       → HasTriedTo leaves range row limit pass before after result
   tried result ended = record { history = history; begun = begun; takes = takes; begins = begins; ends = ended }
 
-  pub ended_written : (result : Result Ack WriteFault) → HasEnded leaves range row history pass begun after result
+  pub ended_written : (result : Result Ack WriteFault) → HasEnded leaves range (Adds row) history pass begun after result
       → HasWritten leaves range row limit pass before after result
   ended_written (Ok ack) ended = tried (Ok ack) ended
   ended_written (Err fault.NoZone) ended = absurd ended

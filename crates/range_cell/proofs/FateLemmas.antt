@@ -2,7 +2,7 @@
 use Rattle.std.proofs.Common.{◌≡◌, ℕ, true, List, [], ◌∷◌, refl}
 use Rattle.history_book.specs.declared.views.Kept.{Kept}
 use Rattle.mon_value.specs.declared.positions.Range.{Range}
-use Rattle.mon_value.specs.declared.rows.Row.{Row}
+use Rattle.mon_value.specs.Turns.{Turn}
 use Rattle.range_cell.proofs.WritingLemmas.{PutNothing}
 use Rattle.range_cell.specs.Writing.{with_put_of}
 use Rattle.write_core.specs.Invariant.{AreAll, is_asked, is_waiting}
@@ -23,23 +23,23 @@ ready_is fate.Ready h = refl
 ready_is fate.Took h = absurd cc
 ready_is (fate.Missed cut) h = absurd cc
 
-module _ (pass : ℕ) (range : Range) (row : Row) where
-  asked_puts : (mark : Mark) (f : Fate) → is_asked f ≡ true → (kept : Kept) → with_put_of pass range row mark f kept ≡ kept
+module _ (pass : ℕ) (range : Range) (turn : Turn) where
+  asked_puts : (mark : Mark) (f : Fate) → is_asked f ≡ true → (kept : Kept) → with_put_of pass range turn mark f kept ≡ kept
   asked_puts mark fate.Waiting h kept = refl
   asked_puts mark fate.Ready h kept = refl
   asked_puts mark fate.Took h kept = absurd cc
   asked_puts mark (fate.Missed cut) h kept = refl
 
-  waiting_puts : (mark : Mark) (f : Fate) → is_waiting f ≡ true → (kept : Kept) → with_put_of pass range row mark f kept ≡ kept
+  waiting_puts : (mark : Mark) (f : Fate) → is_waiting f ≡ true → (kept : Kept) → with_put_of pass range turn mark f kept ≡ kept
   waiting_puts mark fate.Waiting h kept = refl
   waiting_puts mark fate.Ready h kept = refl
   waiting_puts mark fate.Took h kept = absurd cc
   waiting_puts mark (fate.Missed cut) h kept = refl
 
-  pub asked_nothing : (marks : List Mark) → AreAll is_asked marks → PutNothing pass range row marks
+  pub asked_nothing : (marks : List Mark) → AreAll is_asked marks → PutNothing pass range turn marks
   asked_nothing [] h = tt
   asked_nothing (mark ∷ marks) h = (asked_puts mark mark.fate h.0, asked_nothing marks h.1)
 
-  pub waiting_nothing : (marks : List Mark) → AreAll is_waiting marks → PutNothing pass range row marks
+  pub waiting_nothing : (marks : List Mark) → AreAll is_waiting marks → PutNothing pass range turn marks
   waiting_nothing [] h = tt
   waiting_nothing (mark ∷ marks) h = (waiting_puts mark mark.fate h.0, waiting_nothing marks h.1)

@@ -9,21 +9,23 @@ use Rattle.history_book.specs.declared.views.History.TheVariants as of
 use Rattle.history_book.specs.Histories.{with_book_entry}
 use Rattle.history_book.specs.Seats.{Owner}
 use Rattle.know.specs.Sound.{IsSound}
-use Rattle.mon_topo.proofs.FirstLemmas.{no_acks, no_acks_yet, opened_count}
+use Rattle.mon_topo.proofs.FirstLemmas.{no_turns, no_turns_since, no_turns_yet, opened_count}
 use Rattle.mon_topo.proofs.HeldLemmas.{range_entry_held}
 use Rattle.mon_topo.specs.HeldHistories.{openings_from, slot_numbered, AreHeld, BeginsWith, IsBorneOut, IsHeldBy}
 use Rattle.mon_topo.specs.HeldHistories.{IsOpened}
-use Rattle.mon_topo.specs.RangeHistories.{MayFollow, acknowledged_rows, opened_slots, serving, serving_after}
+use Rattle.mon_topo.specs.RangeHistories.{MayFollow, left_rows, opened_slots, serving, serving_after, turns_since}
 use Rattle.mon_topo.specs.Replicas.{HasReplicas}
 use Rattle.mon_topo.specs.Settings.{Setting}
 use Rattle.mon_topo.specs.Zones.{first_replicas, ranges_in}
 use Rattle.mon_value.specs.Histories.{leaf_history, range_history}
-use Rattle.mon_value.specs.LeafHistories.{replica_rows}
+use Rattle.mon_value.specs.LeafHistories.{replica_turns}
+use Rattle.mon_value.specs.Turns.{after_turns}
 use Rattle.mon_value.specs.declared.histories.Histories.{Histories}
 use Rattle.mon_value.specs.declared.histories.RangeEntry.{RangeEntry}
 use Rattle.mon_value.specs.declared.histories.RangeEntry.TheVariants as range_entry
 use Rattle.mon_value.specs.declared.positions.Leaf.{Leaf}
 use Rattle.mon_value.specs.declared.positions.Range.{Range}
+use Rattle.mon_value.specs.declared.positions.Slot.{Slot}
 use Rattle.mon_value.specs.declared.positions.SlotLeaf.{SlotLeaf}
 use Rattle.mon_value.specs.declared.rows.Row.{Row}
 use Rattle.owners.proofs.EntryLemmas.{same_range_entry}
@@ -111,12 +113,12 @@ module _ (setting : Setting) (r : Range) (has : HasReplicas setting.zones r) (k 
         ((λ below. at), (λ past. absurd (omega (arith, past, within)))),
       )
 
-  no_rows : acknowledged_rows (range_history seen r ++ e ∷ []) ≡ []
-  no_rows = ap acknowledged_rows with_next ∙ no_acks 0 (take (k + 1) firsts)
+  none_since : (slot : Slot) → turns_since slot (range_history seen r ++ e ∷ []) ≡ []
+  none_since slot = ap (turns_since slot) with_next ∙ no_turns_since slot 0 (take (k + 1) firsts)
 
-  no_rows_yet : acknowledged_rows (take (length (range_history seen r)) (range_history seen r ++ e ∷ [])) ≡ []
-  no_rows_yet = ap acknowledged_rows (take_at (range_history seen r) (e ∷ []) (length (range_history seen r)) refl)
-      ∙ ap acknowledged_rows whole ∙ no_acks 0 (take k firsts)
+  none_left : left_rows (take (length (range_history seen r)) (range_history seen r ++ e ∷ [])) ≡ []
+  none_left = ap left_rows (take_at (range_history seen r) (e ∷ []) (length (range_history seen r)) refl)
+      ∙ ap left_rows whole ∙ ap (after_turns []) (no_turns 0 (take k firsts))
 
   borne_next : IsHeldBy seen r (openings_from 0 firsts)
       → IsBorneOut seen r (range_history seen r ++ e ∷ []) (length (range_history seen r)) e
@@ -125,7 +127,7 @@ module _ (setting : Setting) (r : Range) (has : HasReplicas setting.zones r) (k 
       borne.borne_out k e (opening_there firsts 0 k leaf at
       ∙ ap (λ n. Some (range_entry.Opened 0 (slot_numbered n) leaf)) (omega arith)) in
       subst (λ (rows : List Row). IsOpened r (record { slot = slot_numbered k; leaf = leaf }) rows
-      (leaf_history seen leaf)) (no_acks_yet k 0 firsts ∙ sym no_rows_yet) was
+      (leaf_history seen leaf)) (ap (after_turns []) (no_turns_yet k 0 firsts) ∙ sym none_left) was
 
   pub sound_next : r.0 < length (ranges_in setting.zones) → IsHeldBy seen r (openings_from 0 firsts)
       → IsSound setting hints seen
@@ -135,8 +137,8 @@ module _ (setting : Setting) (r : Range) (has : HasReplicas setting.zones r) (k 
       record {
         held = subst (AreHeld setting.held setting.zones setting.points) (sym (same_range_entry r e seen here))
             (range_entry_held seen r e here setting.held setting.zones setting.points sound.held
-            (λ replica served. subst (BeginsWith (replica_rows r replica.slot (leaf_history seen replica.leaf)))
-            (sym no_rows) refl) (borne_next borne) may_follow);
+            (λ replica served. subst (BeginsWith (replica_turns r replica.slot (leaf_history seen replica.leaf)))
+            (sym (none_since replica.slot)) refl) (borne_next borne) may_follow);
         covered = sound.covered;
       }
 

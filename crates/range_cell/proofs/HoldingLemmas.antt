@@ -8,16 +8,16 @@ use Rattle.history_book.specs.Seats.{hand_of, times_range}
 use Rattle.know.specs.Knowledge.{Knowledge}
 use Rattle.mon_topo.proofs.FrontLemmas.{begins_to, behind}
 use Rattle.mon_topo.proofs.PartLemmas.{length-zones_of}
-use Rattle.mon_topo.proofs.RangeHistoryLemmas.{all_from}
+use Rattle.mon_topo.proofs.RangeHistoryLemmas.{all_at, all_from}
 use Rattle.mon_topo.specs.HeldHistories.{first_range_history, AreHeld, BeginsWith, IsAtHome}
 use Rattle.mon_topo.specs.RangeHistories as range_spec
-use Rattle.mon_topo.specs.RangeHistories.{IsInZoneOf, IsLegal, acknowledged_rows, opened_slots, serving}
+use Rattle.mon_topo.specs.RangeHistories.{IsInZoneOf, left_rows, opened_slots, serving}
 use Rattle.mon_topo.specs.Settings.{Setting}
 use Rattle.mon_topo.specs.Zones.{first_replicas, leaves_in}
 use Rattle.mon_topo.specs.declared.zones.ZoneSpec.{ZoneSpec}
-use Rattle.mon_value.proofs.LeafHistoryLemmas.{no_rows}
+use Rattle.mon_value.proofs.KeptRowLemmas.{in_turn}
 use Rattle.mon_value.specs.Histories.{leaf_history, range_history}
-use Rattle.mon_value.specs.LeafHistories.{replica_rows}
+use Rattle.mon_value.specs.LeafHistories.{kept_rows}
 use Rattle.mon_value.specs.declared.histories.RangeEntry.{RangeEntry}
 use Rattle.mon_value.specs.declared.positions.Leaf.{Leaf}
 use Rattle.mon_value.specs.declared.positions.Range.{Range}
@@ -25,7 +25,7 @@ use Rattle.mon_value.specs.declared.positions.Slot.{Slot}
 use Rattle.mon_value.specs.declared.positions.SlotLeaf.{SlotLeaf}
 use Rattle.mon_value.specs.declared.rows.Row.{Row}
 use Rattle.owners.specs.Puts.{pass_of}
-use Rattle.range_cell.proofs.BeginLemmas.{placed}
+use Rattle.range_cell.proofs.BeginLemmas.{formed, kept, legal, placed}
 use Rattle.range_cell.specs.Calls.{HasBegun, HasGivenBack, HasMetRange}
 use Rattle.range_cell.specs.Copying.{IsHolding}
 use Rattle.range_cell.specs.Recoveries.{AtItsLeaf, AtLock, Behind, HasEndedSo, HasEndedThere, HasNotCopied}
@@ -34,7 +34,7 @@ use Rattle.range_cell.specs.Recoveries.{Once, OnTheWay, after_copying}
 use Rattle.range_cell.specs.Rest.{HaveJust}
 use Rattle.range_cell.specs.declared.answers.RecoverFault.{RecoverFault}
 use Rattle.range_cell.specs.declared.answers.RecoverFault.TheVariants as fault
-use Rattle.write_core.proofs.OpeningLemmas.{acked_source, replica_at_home}
+use Rattle.write_core.proofs.OpeningLemmas.{kept_at_home}
 use Rattle.mon_topo.proofs.FirstLemmas.{opened_count}
 use Rattle.write_core.specs.CopySteps.{next_slot}
 use Rattle.write_core.specs.Recovering.{denial_of}
@@ -49,9 +49,6 @@ module _ (setting : Setting) (range : Range) (leaf : Leaf) (history : List Range
     (held : AreHeld setting.held setting.zones setting.points know.seen)
     (here : range.0 < length know.seen.ranges) (whole : range_history know.seen range ≡ history)
     (just : HaveJust know.seen range history) where
-  legal : IsLegal setting.held setting.zones setting.points range history
-  legal = subst (IsLegal setting.held setting.zones setting.points range) whole (held.legal range here)
-
   -- its first replicas were opened
   firsts_opened : BeginsWith history (first_range_history setting.zones range.0)
       → length (first_replicas setting.zones range.0) ≤ length (opened_slots history)
@@ -66,16 +63,18 @@ module _ (setting : Setting) (range : Range) (leaf : Leaf) (history : List Range
       opened_count 0 (first_replicas setting.zones range.0) in
       omega (arith, count, firsts)
 
-  -- the rows that it acknowledges lie in it, where some replica has them
+  -- the rows that are left of it lie in it, where some replica keeps them
   rows_home : 0 < length (serving history)
-      → AllByRecursion (IsAtHome setting.held setting.zones range) (acknowledged_rows history)
+      → AllByRecursion (IsAtHome setting.held setting.zones range) (left_rows history)
   rows_home some =
       let one = first_of (serving history) some in
-      let has = just.rows one.0 one.1 in
-      subst (λ (rows : List Row). AllByRecursion (IsAtHome setting.held setting.zones range) rows) has.all
+      let keeps = all_at (λ (x : SlotLeaf). kept_rows range x.slot (leaf_history know.seen x.leaf) ≡ left_rows history)
+      (serving history) one.0 (kept setting range history know held here whole just) one.1 in
+      subst (λ (rows : List Row). AllByRecursion (IsAtHome setting.held setting.zones range) rows) keeps
       (all_from (IsAtHome setting.held setting.zones range)
-      (replica_rows range one.0.slot (leaf_history know.seen one.0.leaf))
-      (replica_at_home setting.held setting.zones range one.0.slot (leaf_history know.seen one.0.leaf)
+      (kept_rows range one.0.slot (leaf_history know.seen one.0.leaf))
+      (kept_at_home setting.held setting.zones range one.0.slot (leaf_history know.seen one.0.leaf)
+      (formed setting range history know held here whole just one.0 one.1)
       (λ e among. held.at_home one.0.leaf e among)))
 
   pub is_holding : IsInZoneOf setting.zones range leaf → denial_of history leaf ≡ None
@@ -92,12 +91,13 @@ module _ (setting : Setting) (range : Range) (leaf : Leaf) (history : List Range
         number = number;
         held = holds;
         just = just;
-        bare = no_rows range (next_slot history) (leaf_history know.seen leaf)
-            (held.formed leaf (subst (λ (n : ℕ). leaf.0 < n) (sym held.all_leaves) there))
-            (just.fresh (next_slot history) leaf (omega arith));
+        legal = legal setting range history know held here whole just;
+        kept = kept setting range history know held here whole just;
+        bare = ((in_turn range (next_slot history) (leaf_history know.seen leaf)
+            (held.formed leaf (subst (λ (n : ℕ). leaf.0 < n) (sym held.all_leaves) there))).none
+            (just.fresh (next_slot history) leaf (omega arith))).1;
         there = (placed setting range history know held here whole just).there;
         home = rows_home;
-        source = acked_source setting.held setting.zones setting.points range history legal;
       }
 
 -- ---- how it ended

@@ -1,4 +1,5 @@
 pub mod CallLemmas
+pub mod TurnEntryLemmas
 pub mod WritingLemmas
 pub mod AckingLemmas
 pub mod FateLemmas

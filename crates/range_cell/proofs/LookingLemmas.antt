@@ -1,22 +1,27 @@
 -- A caller that holds a range and looks at leaves knows of the range's replicas what it knew.
-use Rattle.std.proofs.Common.{◌≡◌, ◌≢◌, ℕ, ◌<◌, ◌≤◌, Bool, true, false, ◌||◌, List, [], ◌∷◌, ◌++◌, length, map, take, refl}
+use Rattle.std.proofs.Common.{◌≡◌, ℕ, ◌<◌, ◌≤◌, Bool, true, false, ◌&&◌, cond, nat_eq, List, [], ◌∷◌, ◌++◌, length}
+use Rattle.std.proofs.Common.{filter, take, refl}
 use Rattle.std.proofs.Common.{sym, ap, subst, ◌∙◌, arith, inl, inr, ◌⊎◌, Some, None, append-nil, append_assoc}
+use Rattle.std.specs.List.{AllByRecursion}
 use Rattle.std.specs.Prelude.{Contains, Option, option_map}
 use Rattle.std.proofs.lemmas.Bool.{cases_eq}
-use Rattle.std.proofs.lemmas.List.{map-append, take_all}
+use Rattle.std.proofs.lemmas.List.{take_all}
 use Rattle.std.proofs.lemmas.List.Elements.{Contains-append_cases, Contains-push}
-use Rattle.history_book.proofs.ListLemmas.{prefix_refl, prefix_trans}
-use Rattle.history_book.specs.Seats.{hand_of, length_note, times_range}
+use Rattle.history_book.proofs.ListLemmas.{prefix_trans}
+use Rattle.history_book.specs.Histories.{leaf_entry_is_about}
+use Rattle.history_book.specs.Seats.{length_note, times_range}
 use Rattle.history_book.specs.declared.views.Kept.{Kept}
 use Rattle.know.specs.Knowledge.{Knowledge}
 use Rattle.mon_topo.proofs.FrontLemmas.{begins_from, begins_length, take_on}
 use Rattle.mon_topo.proofs.HeldLemmas.{leaf_same}
 use Rattle.mon_topo.specs.HeldHistories.{BeginsWith}
-use Rattle.mon_topo.specs.RangeHistories.{acknowledged_rows, opened_slots, serving}
+use Rattle.mon_topo.specs.RangeHistories.{left_rows, serving}
 use Rattle.mon_topo.specs.Settings.{Setting}
 use Rattle.mon_value.specs.Histories.{leaf_history, range_history}
-use Rattle.mon_value.specs.LeafHistories.{IsDownAt, is_down, is_opened, replica_rows}
+use Rattle.mon_value.specs.LeafHistories.{IsDownAt, begun_rows, first_rows, is_down, kept_rows}
+use Rattle.mon_value.specs.Turns.{after_turns}
 use Rattle.mon_value.specs.declared.histories.Entry.{Entry}
+use Rattle.mon_value.specs.declared.histories.Entry.TheVariants as entry
 use Rattle.mon_value.specs.declared.histories.RangeEntry.{RangeEntry}
 use Rattle.mon_value.specs.declared.positions.FoundDown.{FoundDown}
 use Rattle.mon_value.specs.declared.positions.Leaf.{Leaf}
@@ -24,12 +29,12 @@ use Rattle.mon_value.specs.declared.positions.Range.{Range}
 use Rattle.mon_value.specs.declared.positions.Slot.{Slot}
 use Rattle.mon_value.specs.declared.positions.SlotLeaf.{SlotLeaf}
 use Rattle.mon_value.specs.declared.rows.Row.{Row}
-use Rattle.owners.proofs.EntryLemmas.{same_opened, same_rows}
+use Rattle.owners.proofs.EntryLemmas.{same_opened, same_turns}
 use Rattle.owners.specs.Calls.{HasCalled, kept_with_all}
 use Rattle.owners.specs.Puts.{number_or, pass_of}
 use Rattle.range_cell.proofs.CallLemmas.{down_stays, noted_stays}
 use Rattle.range_cell.specs.Copying.{IsHolding}
-use Rattle.range_cell.specs.Recoveries.{IsFoundDown, IsFoundUp, IsLooking, IsSameReplica}
+use Rattle.range_cell.specs.Recoveries.{HasSameEntries, IsFoundDown, IsFoundUp, IsLooking}
 use Rattle.range_cell.specs.Rest.{HaveJust}
 use Rattle.range_cell.specs.Writing.{IsNotedSince}
 use Rattle.write_core.proofs.AckLemmas.{contains_one}
@@ -46,38 +51,67 @@ module _ (leaf : Leaf) (history : List Entry) (old new : Knowledge) (called : Ha
   whole : leaf_history new.seen leaf ≡ history
   whole = called.whole ∙ append-nil history
 
-  -- the range's replicas are the same on every leaf
-  pub same_replicas : (slot : Slot) (at : Leaf)
-      → IsSameReplica range slot (leaf_history old.seen at) (leaf_history new.seen at)
-  same_replicas slot at =
+  -- the entries about the range are the same on every leaf
+  pub same_entries : (at : Leaf) → HasSameEntries range (leaf_history old.seen at) (leaf_history new.seen at)
+  same_entries at =
       elim (cases_eq at.0 leaf.0) [
         | inl same ↦
-            subst (λ (l : Leaf). IsSameReplica range slot (leaf_history old.seen l) (leaf_history new.seen l))
+            subst (λ (l : Leaf). HasSameEntries range (leaf_history old.seen l) (leaf_history new.seen l))
             (sym (leaf_same at leaf same))
-            (record {
-              opened = ap (is_opened range slot) whole
-                  ∙ same_opened range slot history (leaf_history old.seen leaf) (called.here range held);
-              rows = ap (replica_rows range slot) whole
-                  ∙ same_rows range slot history (leaf_history old.seen leaf) (called.here range held);
-            })
-        | inr apart ↦ record {
-          opened = same_opened range slot (leaf_history new.seen at) (leaf_history old.seen at)
-              (called.elsewhere range at held apart);
-          rows = same_rows range slot (leaf_history new.seen at) (leaf_history old.seen at)
-              (called.elsewhere range at held apart);
-        }
+            (ap (filter (leaf_entry_is_about range)) whole ∙ called.here range held)
+        | inr apart ↦ called.elsewhere range at held apart
       ]
+
+-- who has seen all entries about a range knows what a replica keeps
+begun_elsewhere : (range : Range) (slot : Slot) (e : Entry) → leaf_entry_is_about range e ≡ false
+    → begun_rows range slot e ≡ []
+begun_elsewhere range slot (entry.Opened pass other place rows) away =
+    ap (λ b. cond (b && nat_eq slot.0 place.0) rows []) away
+begun_elsewhere range slot (entry.Put pass other place row) away = refl
+begun_elsewhere range slot (entry.Trim pass other place before) away = refl
+begun_elsewhere range slot (entry.Down pass) away = refl
+begun_elsewhere range slot (entry.Up pass) away = refl
+
+module _ (range : Range) (slot : Slot) where
+  first_by : (e : Entry) (history : List Entry) (b : Bool) → leaf_entry_is_about range e ≡ b
+      → first_rows range slot history ≡ first_rows range slot (filter (leaf_entry_is_about range) history)
+      → first_rows range slot (e ∷ history)
+      ≡ first_rows range slot (cond b (e ∷ filter (leaf_entry_is_about range) history)
+      (filter (leaf_entry_is_about range) history))
+  first_by e history true is rest = ap (λ rows. begun_rows range slot e ++ rows) rest
+  first_by e history false is rest =
+      ap (λ rows. rows ++ first_rows range slot history) (begun_elsewhere range slot e is) ∙ rest
+
+  first_of_about : (history : List Entry)
+      → first_rows range slot history ≡ first_rows range slot (filter (leaf_entry_is_about range) history)
+  first_of_about [] = refl
+  first_of_about (e ∷ history) =
+      first_by e history (leaf_entry_is_about range e) refl (first_of_about history)
+
+  pub same_kept : (old new : List Entry) → HasSameEntries range old new
+      → kept_rows range slot new ≡ kept_rows range slot old
+  same_kept old new same =
+      let first : first_rows range slot new ≡ first_rows range slot old =
+      first_of_about new ∙ ap (first_rows range slot) same ∙ sym (first_of_about old) in
+      λ i. after_turns (first i) (same_turns range slot new old same i)
 
 -- so what is known of the replicas that serve stays
 pub same_just : (range : Range) (history : List RangeEntry) (old new : Knowledge)
-    → ((slot : Slot) (leaf : Leaf) → IsSameReplica range slot (leaf_history old.seen leaf) (leaf_history new.seen leaf))
+    → ((leaf : Leaf) → HasSameEntries range (leaf_history old.seen leaf) (leaf_history new.seen leaf))
     → HaveJust old.seen range history → HaveJust new.seen range history
 same_just range history old new same just = record {
-  rows = λ replica there.
-      let was = just.rows replica there in
-      let is = same replica.slot replica.leaf in
-      record { opened = is.opened ∙ was.opened; all = is.rows ∙ was.all };
-  fresh = λ slot leaf past. (same slot leaf).opened ∙ just.fresh slot leaf past;
+  turns = λ replica there.
+      let was = just.turns replica there in
+      let is = same replica.leaf in
+      record {
+        opened = same_opened range replica.slot (leaf_history new.seen replica.leaf)
+            (leaf_history old.seen replica.leaf) is ∙ was.opened;
+        all = same_turns range replica.slot (leaf_history new.seen replica.leaf)
+            (leaf_history old.seen replica.leaf) is ∙ was.all;
+      };
+  fresh = λ slot leaf past.
+      same_opened range slot (leaf_history new.seen leaf) (leaf_history old.seen leaf) (same leaf)
+      ∙ just.fresh slot leaf past;
 }
 
 -- ---- from the lock on
@@ -96,10 +130,7 @@ module _ (range : Range) (n m : ℕ) (begun old new : Knowledge) (looking : IsLo
       λ r. prefix_trans (range_history begun.seen r) (range_history old.seen r) (range_history new.seen r)
           (looking.fronts.1 r) (called.fronts.1 r),
     );
-    same = λ slot at.
-        let was = looking.same slot at in
-        let is = same_replicas leaf history old new called range still_held slot at in
-        record { opened = is.opened ∙ was.opened; rows = is.rows ∙ was.rows };
+    same = λ at. same_entries leaf history old new called range still_held at ∙ looking.same at;
     own = called.own ∙ none_kept leaf old.purse.own ∙ looking.own;
     rooms = rooms ∙ looking.rooms;
     notes = (
@@ -114,13 +145,12 @@ module _ (range : Range) (n m : ℕ) (begun old new : Knowledge) (looking : IsLo
     counted = handed;
   }
 
-  -- the leaf was found with the rows that a replica there had at first
+  -- the leaf was found with the rows that a replica there kept at first
   pub found_rows : (slot : Slot) (rows : List Row)
-      → replica_rows range slot (leaf_history begun.seen leaf) ≡ rows → replica_rows range slot history ≡ rows
+      → kept_rows range slot (leaf_history begun.seen leaf) ≡ rows → kept_rows range slot history ≡ rows
   found_rows slot rows is =
-      ap (replica_rows range slot) (sym (whole leaf history old new called range still_held))
-      ∙ (same_replicas leaf history old new called range still_held slot leaf).rows
-      ∙ (looking.same slot leaf).rows ∙ is
+      same_kept range slot (leaf_history begun.seen leaf) history
+      (called.here range still_held ∙ looking.same leaf) ∙ is
 
   -- what was found down stays so
   pub down_on : (at : Leaf) (cut : ℕ) → IsFoundDown begun old at cut → IsFoundDown begun new at cut
@@ -192,6 +222,15 @@ module _ (setting : Setting) (range : Range) (leaf : Leaf) (history : List Range
   pub same_pass : pass_of know ≡ pass_of begun
   same_pass = ap (λ o. number_or 0 (option_map (λ (kept : Kept). kept.number) o)) looking.own
 
+  kept_on : (xs : List SlotLeaf)
+      → AllByRecursion (λ (x : SlotLeaf). kept_rows range x.slot (leaf_history begun.seen x.leaf) ≡ left_rows history) xs
+      → AllByRecursion (λ (x : SlotLeaf). kept_rows range x.slot (leaf_history know.seen x.leaf) ≡ left_rows history) xs
+  kept_on [] h = tt
+  kept_on (x ∷ xs) h = (
+    same_kept range x.slot (leaf_history begun.seen x.leaf) (leaf_history know.seen x.leaf) (looking.same x.leaf) ∙ h.0,
+    kept_on xs h.1,
+  )
+
   pub holds_on : IsHolding setting range leaf history know
   holds_on = record {
     zoned = holding.zoned;
@@ -201,10 +240,12 @@ module _ (setting : Setting) (range : Range) (leaf : Leaf) (history : List Range
         ∙ ap (λ (k : ℕ). Some k) (sym same_pass);
     held = subst (λ xs. 0 < times_range range xs) (sym looking.holds) holding.held;
     just = same_just range history begun know looking.same holding.just;
-    bare = (looking.same (next_slot history) leaf).rows ∙ holding.bare;
+    legal = holding.legal;
+    kept = kept_on (serving history) holding.kept;
+    bare = same_turns range (next_slot history) (leaf_history know.seen leaf) (leaf_history begun.seen leaf)
+        (looking.same leaf) ∙ holding.bare;
     there = holding.there;
     home = holding.home;
-    source = holding.source;
   }
 
 -- ---- leaves that were found down one after another

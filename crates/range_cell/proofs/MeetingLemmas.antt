@@ -17,7 +17,7 @@ use Rattle.know.specs.Lending.{back_with, lent_seat, without_purse}
 use Rattle.know.specs.Sound.{IsSound}
 use Rattle.mon_topo.proofs.HeldLemmas.{range_same}
 use Rattle.mon_topo.specs.HeldHistories.{AreHeld}
-use Rattle.mon_topo.specs.RangeHistories.{acknowledged_rows, opened_slots}
+use Rattle.mon_topo.specs.RangeHistories.{opened_slots, turns_since}
 use Rattle.mon_topo.specs.Settings.{Setting}
 use Rattle.mon_topo.specs.Zones.{ranges_in}
 use Rattle.mon_value.specs.Histories.{joined_histories, leaf_history, range_history}
@@ -26,7 +26,7 @@ use Rattle.mon_value.specs.declared.histories.RangeEntry.{RangeEntry}
 use Rattle.mon_value.specs.declared.positions.Leaf.{Leaf}
 use Rattle.mon_value.specs.declared.positions.Range.{Range}
 use Rattle.mon_value.specs.declared.positions.SlotLeaf.{SlotLeaf}
-use Rattle.owners.proofs.EntryLemmas.{range_pushed, same_opened, same_range_entry, same_rows}
+use Rattle.owners.proofs.EntryLemmas.{range_pushed, same_opened, same_range_entry, same_turns}
 use Rattle.owners.specs.Owners.{IsOfRange, RangeView}
 use Rattle.raise_table.proofs.KnowsLemmas.{meet_knows_both}
 use Rattle.raise_table.specs.Seats.{met, without_notes}
@@ -40,15 +40,16 @@ use Rattle.write_core.specs.Replays.{Replay}
 use Rattle.write_core.specs.declared.asks.WriteTold.{WriteTold}
 use Rattle.write_core.specs.declared.asks.WriteTold.TheVariants as told
 
--- who has seen all entries about a range knows what its replicas have
+-- who has seen all entries about a range knows which turns came to its replicas
 pub just_same : (range : Range) (mine theirs : Histories) (replica : SlotLeaf) (history : List RangeEntry)
     → filter (leaf_entry_is_about range) (leaf_history mine replica.leaf)
     ≡ filter (leaf_entry_is_about range) (leaf_history theirs replica.leaf)
-    → HasJust theirs range (acknowledged_rows history) replica → HasJust mine range (acknowledged_rows history) replica
+    → HasJust theirs range (turns_since replica.slot history) replica
+    → HasJust mine range (turns_since replica.slot history) replica
 just_same range mine theirs replica history about was = record {
   opened = same_opened range replica.slot (leaf_history mine replica.leaf) (leaf_history theirs replica.leaf) about
       ∙ was.opened;
-  all = same_rows range replica.slot (leaf_history mine replica.leaf) (leaf_history theirs replica.leaf) about
+  all = same_turns range replica.slot (leaf_history mine replica.leaf) (leaf_history theirs replica.leaf) about
       ∙ was.all;
 }
 
@@ -70,7 +71,7 @@ rest_as n owner replay other same rest = record {
   holds = rest.holds;
   only = rest.only;
   history = rest.history ∙ sym same;
-  rows = subst (λ (h : List RangeEntry). HaveJust owner.book.seen owner.range h) (sym same) rest.rows;
+  turns = subst (λ (h : List RangeEntry). HaveJust owner.book.seen owner.range h) (sym same) rest.turns;
 }
 
 module _ (leaves : ℕ) (know : Knowledge) (owner now : RangeView) (own : owner.book.history ≡ of.Range owner.range)
@@ -132,12 +133,12 @@ module _ (leaves : ℕ) (know : Knowledge) (owner now : RangeView) (own : owner.
 
   -- what the replicas have, as the owner knew it
   module _ (replay : Replay) (rest : IsRangeAtRest owner.range.0 replay owner) where
-    pub rows_kept : HaveJust joined owner.range replay.history
-    rows_kept = record {
-      rows = λ replica there. just_same owner.range joined owner.book.seen replica replay.history
-          (came.kept owner.range replica.leaf rest.holds) (rest.rows.rows replica there);
+    pub turns_kept : HaveJust joined owner.range replay.history
+    turns_kept = record {
+      turns = λ replica there. just_same owner.range joined owner.book.seen replica replay.history
+          (came.kept owner.range replica.leaf rest.holds) (rest.turns.turns replica there);
       fresh = unopened_same owner.range joined owner.book.seen (length (opened_slots replay.history))
-          (λ leaf. came.kept owner.range leaf rest.holds) rest.rows.fresh;
+          (λ leaf. came.kept owner.range leaf rest.holds) rest.turns.fresh;
     }
 
     -- it went, and the range is at rest again
@@ -153,7 +154,7 @@ module _ (leaves : ℕ) (know : Knowledge) (owner now : RangeView) (own : owner.
           only = ap (λ h. others owner.range (owner.book.held ++ filter (is_own_range h) know.purse.holds)) own
               ∙ others_rest owner.range owner.book.held know.purse.holds rest.only;
           history = came.whole ∙ rest.history;
-          rows = rows_kept;
+          turns = turns_kept;
         })
 
     -- it went with the range
@@ -177,8 +178,8 @@ module _ (leaves : ℕ) (know : Knowledge) (owner now : RangeView) (own : owner.
       some = more_held owner.range owner.book.held know.purse.holds rest.holds;
       only = rest.only;
       whole = whole_so true alone gone left back ∙ rest.history;
-      rows = subst (λ (s : Histories). HaveJust s owner.range replay.history) (sym (seen_so true alone gone left back))
-          rows_kept;
+      turns = subst (λ (s : Histories). HaveJust s owner.range replay.history) (sym (seen_so true alone gone left back))
+          turns_kept;
     }
 
     -- by whether it went with the range
@@ -209,13 +210,13 @@ module _ (leaves : ℕ) (know : Knowledge) (owner now : RangeView) (own : owner.
   module _ (replay : Replay) (held : IsRangeHeld owner.range.0 replay owner)
       (holds : 0 < times_range owner.range know.purse.holds) where
     -- what the replicas have, as the caller knew it
-    pub rows_brought : (history : List RangeEntry) → HaveJust know.seen owner.range history
+    pub turns_brought : (history : List RangeEntry) → HaveJust know.seen owner.range history
         → HaveJust joined owner.range history
-    rows_brought history rows = record {
-      rows = λ replica there. just_same owner.range joined know.seen replica history
-          (came.held owner.range replica.leaf holds) (rows.rows replica there);
+    turns_brought history just = record {
+      turns = λ replica there. just_same owner.range joined know.seen replica history
+          (came.held owner.range replica.leaf holds) (just.turns replica there);
       fresh = unopened_same owner.range joined know.seen (length (opened_slots history))
-          (λ leaf. came.held owner.range leaf holds) rows.fresh;
+          (λ leaf. came.held owner.range leaf holds) just.fresh;
     }
 
     abbrev held_then : List Range
@@ -233,7 +234,7 @@ module _ (leaves : ℕ) (know : Knowledge) (owner now : RangeView) (own : owner.
 
     pub rests_back : HaveJust know.seen owner.range replay.history → (back : RangeView)
         → back ≡ parted_owner false now → IsRangeAtRest owner.range.0 replay back
-    rests_back rows back is =
+    rests_back just back is =
         subst (IsRangeAtRest owner.range.0 replay) (sym (is ∙ ap (parted_owner false) now_is))
         (record {
           range_is = held.range_is;
@@ -242,7 +243,7 @@ module _ (leaves : ℕ) (know : Knowledge) (owner now : RangeView) (own : owner.
           holds = holds_then;
           only = only_then;
           history = came.whole ∙ held.history;
-          rows = rows_brought replay.history rows;
+          turns = turns_brought replay.history just;
         })
 
     -- ---- with an entry
@@ -277,7 +278,7 @@ module _ (leaves : ℕ) (know : Knowledge) (owner now : RangeView) (own : owner.
       pub rests_entered : (grows : Replay) → grows.history ≡ replay.history ++ e ∷ []
           → HaveJust know.seen owner.range (replay.history ++ e ∷ []) → (back : RangeView)
           → back ≡ parted_owner false (entered_owner now) → IsRangeAtRest owner.range.0 grows back
-      rests_entered grows more rows back is =
+      rests_entered grows more just back is =
           subst (IsRangeAtRest owner.range.0 grows)
           (sym (is ∙ ap (λ o. parted_owner false (entered_owner o)) now_is))
           (record {
@@ -287,19 +288,19 @@ module _ (leaves : ℕ) (know : Knowledge) (owner now : RangeView) (own : owner.
             holds = holds_then;
             only = only_then;
             history = ap (λ (s : Histories). range_history s owner.range) grown_is ∙ pushed ∙ sym more;
-            rows = subst (λ (h : List RangeEntry).
+            turns = subst (λ (h : List RangeEntry).
                 HaveJust (with_book_entry owner.book.history (one.Range e) joined) owner.range h) (sym more)
                 (subst (λ (s : Histories). HaveJust s owner.range (replay.history ++ e ∷ [])) (sym grown_is)
-                (rows_grown (replay.history ++ e ∷ []) rows));
+                (turns_grown (replay.history ++ e ∷ []) just));
           })
         where
-          rows_grown : (history : List RangeEntry) → HaveJust know.seen owner.range history
+          turns_grown : (history : List RangeEntry) → HaveJust know.seen owner.range history
               → HaveJust grown owner.range history
-          rows_grown history has =
-              let was = rows_brought history has in
+          turns_grown history has =
+              let was = turns_brought history has in
               record {
-                rows = λ replica there.
-                    let one = was.rows replica there in
+                turns = λ replica there.
+                    let one = was.turns replica there in
                     record { opened = one.opened; all = one.all };
                 fresh = was.fresh;
               }

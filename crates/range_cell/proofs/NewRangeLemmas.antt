@@ -27,7 +27,7 @@ use Rattle.owners.specs.Owners.{RangeView, range_owner}
 use Rattle.raise_table.proofs.KnowsLemmas.{meet_knows_both}
 use Rattle.raise_table.specs.Seats.{met, without_notes}
 use Rattle.raise_table.specs.declared.views.Hints.{Hints}
-use Rattle.range_cell.proofs.MeetingLemmas.{holds_then, now_is, only_then, rows_brought}
+use Rattle.range_cell.proofs.MeetingLemmas.{holds_then, now_is, only_then, turns_brought}
 use Rattle.range_cell.specs.Calls.{HasCome, parted_owner}
 use Rattle.range_cell.specs.NewRanges.{HasOpenedFirst, added_all, after_entries, kept_with_entries, new_range_of}
 use Rattle.range_cell.specs.NewRanges.{purse_with_entries, with_entries}
@@ -175,8 +175,8 @@ rests_new range known book replay own free holds only none fresh empty = record 
   holds = holds;
   only = only;
   history = none ∙ sym empty;
-  rows = subst (HaveJust book.seen range) (sym empty)
-      (record { rows = λ replica there. absurd (omega (arith, there.1)); fresh = fresh });
+  turns = subst (HaveJust book.seen range) (sym empty)
+      (record { turns = λ replica there. absurd (omega (arith, there.1)); fresh = fresh });
 }
 
 module _ (leaves : ℕ) (know : Knowledge) (owner now : RangeView) (own : owner.book.history ≡ of.Range owner.range)
@@ -209,7 +209,7 @@ module _ (leaves : ℕ) (know : Knowledge) (owner now : RangeView) (own : owner.
 
     pub rests_opened : (grows : Replay) → grows.history ≡ es → HaveJust know.seen owner.range es → (back : RangeView)
         → back ≡ parted_owner false (opened_owner now) → IsRangeAtRest owner.range.0 grows back
-    rests_opened grows grown rows back is =
+    rests_opened grows grown just back is =
         subst (IsRangeAtRest owner.range.0 grows)
         (sym (is ∙ ap (λ o. parted_owner false (opened_owner o)) (now_is leaves know owner now own came)))
         (record {
@@ -219,11 +219,11 @@ module _ (leaves : ℕ) (know : Knowledge) (owner now : RangeView) (own : owner.
           holds = holds_then leaves know owner now own came replay held holds;
           only = only_then leaves know owner now own came replay held holds;
           history = whole ∙ sym grown;
-          rows = subst (HaveJust (with_entries owner.range es joined) owner.range) (sym grown)
-              (let was = rows_brought leaves know owner now own came replay held holds es rows in
+          turns = subst (HaveJust (with_entries owner.range es joined) owner.range) (sym grown)
+              (let was = turns_brought leaves know owner now own came replay held holds es just in
               record {
-                rows = λ replica there.
-                    let one = was.rows replica there in
+                turns = λ replica there.
+                    let one = was.turns replica there in
                     record { opened = one.opened; all = one.all };
                 fresh = was.fresh;
               });

@@ -5,7 +5,7 @@ use Rattle.std.proofs.lemmas.Bool.{cond_both}
 use Rattle.know.specs.Knowledge.{Knowledge}
 use Rattle.mon_value.specs.declared.positions.Range.{Range}
 use Rattle.mon_value.specs.declared.positions.SlotLeaf.{SlotLeaf}
-use Rattle.mon_value.specs.declared.rows.Row.{Row}
+use Rattle.mon_value.specs.Turns.{Turn}
 use Rattle.range_cell.proofs.ApartReplicaLemmas.{same_replicas}
 use Rattle.range_cell.proofs.WritingLemmas.{all_both}
 use Rattle.range_cell.specs.Stages.{IsAt, IsSoFar}
@@ -18,12 +18,12 @@ use Rattle.write_core.specs.Rounds.{Round, again, after_skip, is_no_mark_left, i
 use Rattle.write_core.specs.declared.marks.Fate.{Fate}
 use Rattle.write_core.specs.declared.marks.Mark.{Mark}
 
-module _ (range : Range) (row : Row) (pass : ℕ) (rows : List Row) (before : Knowledge) (replicas : List SlotLeaf) where
+module _ (range : Range) (turn : Turn) (pass : ℕ) (before : Knowledge) (replicas : List SlotLeaf) where
   abbrev SoFar : Knowledge → List Mark → Type 0
-  SoFar = IsSoFar range row pass rows before replicas
+  SoFar = IsSoFar range turn pass before replicas
 
   abbrev At : Knowledge → Stage → Type 0
-  At = IsAt range row pass rows before replicas
+  At = IsAt range turn pass before replicas
 
   pub at_entering : (know : Knowledge) (done left : List Mark) → SoFar know (done ++ left) → AreAll is_decided done
       → AreAll is_asked left → At know (entering (record { done = done; left = left }))
@@ -60,7 +60,7 @@ module _ (range : Range) (row : Row) (pass : ℕ) (rows : List Row) (before : Kn
 
   -- one mark is decided further
   pub moved : (know : Knowledge) (done left : List Mark) (mark : Mark) (f : Fate)
-      → IsWriting range row pass rows before know (done ++ with_fate mark f ∷ left)
+      → IsWriting range turn pass before know (done ++ with_fate mark f ∷ left)
       → map replica_of (done ++ mark ∷ left) ≡ replicas
       → SoFar know ((done ++ with_fate mark f ∷ []) ++ left)
   moved know done left mark f writing serve =

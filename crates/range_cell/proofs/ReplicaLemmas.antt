@@ -16,18 +16,20 @@ use Rattle.history_book.specs.declared.views.Kept.{Kept}
 use Rattle.know.specs.Knowledge.{Knowledge}
 use Rattle.mon_topo.proofs.FrontLemmas.{begins-flat_map, begins_from}
 use Rattle.mon_topo.proofs.HeldLemmas.{leaf_same, range_entry_held}
+use Rattle.mon_topo.proofs.HeldSteps.{serving_since}
 use Rattle.mon_topo.proofs.PartLemmas.{length-zones_of}
-use Rattle.mon_topo.proofs.RangeHistoryLemmas.{all_at}
+use Rattle.mon_topo.proofs.RangeHistoryLemmas.{all_at, all_from, numbered, slot_below}
+use Rattle.mon_topo.proofs.TurnsSinceLemmas.{IsFresh, since_opened}
 use Rattle.mon_topo.specs.HeldHistories.{AreHeld, BeginsWith, IsAtHome, IsBorneOut, with_range_entry}
 use Rattle.mon_topo.specs.RangeHistories as range_spec
-use Rattle.mon_topo.specs.RangeHistories.{acknowledged_rows, is_on, opened_slots, serving}
+use Rattle.mon_topo.specs.RangeHistories.{is_on, left_rows, opened_slots, serving, turns_since}
 use Rattle.mon_topo.specs.Settings.{Setting}
 use Rattle.mon_topo.specs.Zones.{leaves_in}
 use Rattle.mon_topo.specs.declared.limits.TheConstants.{MOST_REPLICAS, MOST_SLOTS}
 use Rattle.mon_topo.specs.declared.zones.ZoneSpec.{ZoneSpec}
 use Rattle.mon_value.proofs.LeafHistoryLemmas.{opened_more, parts_same}
 use Rattle.mon_value.specs.Histories.{leaf_history, range_history}
-use Rattle.mon_value.specs.LeafHistories.{entry_rows, is_opened, replica_rows, same_replica}
+use Rattle.mon_value.specs.LeafHistories.{entry_turns, is_opened, replica_turns, same_replica}
 use Rattle.mon_value.specs.declared.histories.Entry.{Entry}
 use Rattle.mon_value.specs.declared.histories.Entry.TheVariants as entry
 use Rattle.mon_value.specs.declared.histories.Histories.{Histories}
@@ -38,7 +40,8 @@ use Rattle.mon_value.specs.declared.positions.Range.{Range}
 use Rattle.mon_value.specs.declared.positions.Slot.{Slot}
 use Rattle.mon_value.specs.declared.positions.SlotLeaf.{SlotLeaf}
 use Rattle.mon_value.specs.declared.rows.Row.{Row}
-use Rattle.owners.proofs.EntryLemmas.{same_opened, same_rows}
+use Rattle.mon_value.specs.Turns.{Turn}
+use Rattle.owners.proofs.EntryLemmas.{same_opened, same_turns}
 use Rattle.owners.specs.Calls.{HasCalled}
 use Rattle.owners.specs.Openings.{MayOpen}
 use Rattle.owners.specs.Puts.{number_or, pass_of}
@@ -46,7 +49,7 @@ use Rattle.range_cell.specs.Calls.{MayEnter}
 use Rattle.range_cell.specs.Copying.{IsHolding}
 use Rattle.range_cell.specs.Rest.{HasJust, HaveJust}
 use Rattle.write_core.proofs.AckLemmas.{contains_one}
-use Rattle.write_core.proofs.OpeningLemmas.{acked-opened, opened-opened, serving-opened}
+use Rattle.write_core.proofs.OpeningLemmas.{left_source, opened-opened, serving-opened}
 use Rattle.write_core.specs.CopySteps.{next_slot}
 use Rattle.write_core.specs.Recovering.{denial_of, denied_by}
 use Rattle.write_core.specs.declared.copies.Denial.{Denial}
@@ -113,26 +116,27 @@ module _ (setting : Setting) (range : Range) (leaf : Leaf) (history : List Range
   there = subst (λ (n : ℕ). leaf.0 < n) (length-zones_of (λ (zone : ZoneSpec). zone.leaves) 0 setting.zones)
       holding.zoned.0
 
-  pub may_open : (rows : List Row) → rows ≡ acknowledged_rows history → 0 < length (serving history)
+  pub may_open : (rows : List Row) → rows ≡ left_rows history → 0 < length (serving history)
       → MayOpen setting know leaf range slot rows
   may_open rows is some = record {
     there = there;
     number = holding.number;
     holds = holding.held;
     new = holding.just.fresh slot leaf (omega arith);
-    home = λ row among. all_at (IsAtHome setting.held setting.zones range) (acknowledged_rows history) row
+    home = λ row among. all_at (IsAtHome setting.held setting.zones range) (left_rows history) row
         (holding.home some)
         (subst (λ (xs : List Row). Contains xs row) is among);
-    source = subst Rattle.mon_value.specs.LeafHistories.IsSource (sym is) holding.source;
+    source = subst Rattle.mon_value.specs.LeafHistories.IsSource (sym is)
+        (left_source setting.held setting.zones setting.points range history holding.legal);
   }
 
   -- ---- it was opened there
 
   module _ (found : List Entry) (opened : Knowledge)
-      (called : HasCalled leaf found (entry.Opened (pass_of know) range slot (acknowledged_rows history) ∷ []) know opened)
+      (called : HasCalled leaf found (entry.Opened (pass_of know) range slot (left_rows history) ∷ []) know opened)
     where
       abbrev brings : Entry
-      brings = entry.Opened (pass_of know) range slot (acknowledged_rows history)
+      brings = entry.Opened (pass_of know) range slot (left_rows history)
 
       abbrev replica : SlotLeaf
       replica = record { slot = slot; leaf = leaf }
@@ -156,16 +160,14 @@ module _ (setting : Setting) (range : Range) (leaf : Leaf) (history : List Range
           by true is = absurd (apart (ap (λ (s : Slot). s.0) (parts_same range range place slot is).1))
           by false is = refl
 
-      -- it has the acknowledged rows
-      own_rows : replica_rows range slot (leaf_history opened.seen leaf) ≡ acknowledged_rows history
-      own_rows =
-          ap (replica_rows range slot) after
-          ∙ flat_map-append (entry_rows range slot) found (brings ∷ [])
-          ∙ (λ i. same_rows range slot found (leaf_history know.seen leaf) (called.here range holding.held) i
-          ++ replica_rows range slot (brings ∷ []))
-          ∙ (λ i. holding.bare i ++ replica_rows range slot (brings ∷ []))
-          ∙ ap (λ (b : Bool). cond b (acknowledged_rows history) [] ++ []) self_same
-          ∙ append-nil (acknowledged_rows history)
+      -- no turn has come to it
+      own_turns : replica_turns range slot (leaf_history opened.seen leaf) ≡ []
+      own_turns =
+          ap (replica_turns range slot) after
+          ∙ flat_map-append (entry_turns range slot) found (brings ∷ [])
+          ∙ append-nil (replica_turns range slot found)
+          ∙ same_turns range slot found (leaf_history know.seen leaf) (called.here range holding.held)
+          ∙ holding.bare
 
       or_true : (b : Bool) → (b || true) ≡ true
       or_true true = refl
@@ -176,8 +178,8 @@ module _ (setting : Setting) (range : Range) (leaf : Leaf) (history : List Range
           ap (is_opened range slot) after ∙ opened_more range slot found (brings ∷ [])
           ∙ ap (λ (b : Bool). is_opened range slot found || (b || false)) self_same ∙ or_true (is_opened range slot found)
 
-      pub own_just : HasJust opened.seen range (acknowledged_rows history) replica
-      own_just = record { opened = own_opened; all = own_rows }
+      pub own_just : HasJust opened.seen range [] replica
+      own_just = record { opened = own_opened; all = own_turns }
 
       -- a replica in another slot has what it had
       or_none : (b : Bool) → (b || false) ≡ b
@@ -198,18 +200,16 @@ module _ (setting : Setting) (range : Range) (leaf : Leaf) (history : List Range
             (called.elsewhere range at holding.held away)
       ]
 
-      others_rows : (place : Slot) (at : Leaf) → place.0 ≢ slot.0
-          → replica_rows range place (leaf_history opened.seen at) ≡ replica_rows range place (leaf_history know.seen at)
-      others_rows place at apart = elim (cases_eq at.0 leaf.0) [
+      others_turns : (place : Slot) (at : Leaf)
+          → replica_turns range place (leaf_history opened.seen at) ≡ replica_turns range place (leaf_history know.seen at)
+      others_turns place at = elim (cases_eq at.0 leaf.0) [
         | inl same ↦
-            subst (λ (l : Leaf). replica_rows range place (leaf_history opened.seen l)
-            ≡ replica_rows range place (leaf_history know.seen l)) (sym (leaf_same at leaf same))
-            (ap (replica_rows range place) after ∙ flat_map-append (entry_rows range place) found (brings ∷ [])
-            ∙ ap (λ (b : Bool). replica_rows range place found ++ (cond b (acknowledged_rows history) [] ++ []))
-            (other_slot place apart)
-            ∙ append-nil (replica_rows range place found)
-            ∙ same_rows range place found (leaf_history know.seen leaf) (called.here range holding.held))
-        | inr away ↦ same_rows range place (leaf_history opened.seen at) (leaf_history know.seen at)
+            subst (λ (l : Leaf). replica_turns range place (leaf_history opened.seen l)
+            ≡ replica_turns range place (leaf_history know.seen l)) (sym (leaf_same at leaf same))
+            (ap (replica_turns range place) after ∙ flat_map-append (entry_turns range place) found (brings ∷ [])
+            ∙ append-nil (replica_turns range place found)
+            ∙ same_turns range place found (leaf_history know.seen leaf) (called.here range holding.held))
+        | inr away ↦ same_turns range place (leaf_history opened.seen at) (leaf_history know.seen at)
             (called.elsewhere range at holding.held away)
       ]
 
@@ -217,7 +217,7 @@ module _ (setting : Setting) (range : Range) (leaf : Leaf) (history : List Range
       served_apart : (other : SlotLeaf) → Contains (serving history) other → other.slot.0 ≢ slot.0
       served_apart other among same =
           let place : other.slot ≡ slot = (λ i. record { 0 = same i }) in
-          let was = (holding.just.rows other among).opened in
+          let was = (holding.just.turns other among).opened in
           let none = holding.just.fresh slot other.leaf (omega arith) in
           clash (is_opened range slot (leaf_history know.seen other.leaf))
           (subst (λ (s : Slot). is_opened range s (leaf_history know.seen other.leaf) ≡ true) place was) none
@@ -226,27 +226,42 @@ module _ (setting : Setting) (range : Range) (leaf : Leaf) (history : List Range
           clash true h k = cc
           clash false h k = cc
 
-      rows_same : acknowledged_rows (history ++ e ∷ []) ≡ acknowledged_rows history
-      rows_same = acked-opened history (pass_of know) slot leaf
+      -- nothing was acknowledged
+      since : (other : SlotLeaf) → Contains (serving history) other
+          → turns_since other.slot (history ++ e ∷ []) ≡ turns_since other.slot history
+      since other among =
+          serving_since setting.held setting.zones setting.points range know.seen history holding.legal other among e
+          ∙ append-nil (turns_since other.slot history)
+
+      no_such_slot : IsFresh slot history
+      no_such_slot =
+          all_from (λ (one : SlotLeaf). slot.0 ≢ one.slot.0) (opened_slots history)
+          (λ one known same. (let below : one.slot.0 < length (opened_slots history) =
+          slot_below history (numbered setting.held setting.zones setting.points range history holding.legal) one known in
+          let own : length (opened_slots history) ≡ one.slot.0 = same in
+          absurd (omega (arith, below, own))))
+
+      none_since : turns_since slot (history ++ e ∷ []) ≡ []
+      none_since = since_opened slot (pass_of know) replica history [] refl no_such_slot
 
       serve_then : serving (history ++ e ∷ []) ≡ serving history ++ replica ∷ []
       serve_then = serving-opened history (pass_of know) slot leaf
 
       just_by : (other : SlotLeaf) → Contains (serving history) other ⊎ Contains (replica ∷ []) other
-          → HasJust opened.seen range (acknowledged_rows history) other
+          → HasJust opened.seen range (turns_since other.slot (history ++ e ∷ [])) other
       just_by other (inl before) =
-          let was = holding.just.rows other before in
-          let apart = served_apart other before in
+          let was = holding.just.turns other before in
           record {
-            opened = others_opened other.slot other.leaf apart ∙ was.opened;
-            all = others_rows other.slot other.leaf apart ∙ was.all;
+            opened = others_opened other.slot other.leaf (served_apart other before) ∙ was.opened;
+            all = others_turns other.slot other.leaf ∙ was.all ∙ sym (since other before);
           }
       just_by other (inr here) =
-          subst (λ (x : SlotLeaf). HasJust opened.seen range (acknowledged_rows history) x)
-          (contains_one replica other here) own_just
+          subst (λ (x : SlotLeaf). HasJust opened.seen range (turns_since x.slot (history ++ e ∷ [])) x)
+          (contains_one replica other here)
+          (subst (λ (turns : List Turn). HasJust opened.seen range turns replica) (sym none_since) own_just)
 
       just_then : (other : SlotLeaf) → Contains (serving (history ++ e ∷ [])) other
-          → HasJust opened.seen range (acknowledged_rows history) other
+          → HasJust opened.seen range (turns_since other.slot (history ++ e ∷ [])) other
       just_then other among =
           just_by other (Contains-append_cases (serving history) (replica ∷ []) other
           (subst (λ (xs : List SlotLeaf). Contains xs other) serve_then among))
@@ -263,8 +278,7 @@ module _ (setting : Setting) (range : Range) (leaf : Leaf) (history : List Range
 
       pub just_opened : HaveJust opened.seen range (history ++ e ∷ [])
       just_opened = record {
-        rows = λ other among. subst (λ (rows : List Row). HasJust opened.seen range rows other) (sym rows_same)
-            (just_then other among);
+        turns = just_then;
         fresh = fresh_then;
       }
 
@@ -285,13 +299,13 @@ module _ (setting : Setting) (range : Range) (leaf : Leaf) (history : List Range
 
       module _ (seen : Histories) (up : AreFronts opened.seen seen) (whole : range_history seen range ≡ history)
           (here : range.0 < length seen.ranges) (held : AreHeld setting.held setting.zones setting.points seen) where
-        keeps_rows : (other : SlotLeaf) → Contains (serving (history ++ e ∷ [])) other
-            → BeginsWith (replica_rows range other.slot (leaf_history seen other.leaf))
-            (acknowledged_rows (history ++ e ∷ []))
-        keeps_rows other among =
-            subst (λ (rows : List Row). BeginsWith (replica_rows range other.slot (leaf_history seen other.leaf)) rows)
-            ((just_then other among).all ∙ sym rows_same)
-            (begins-flat_map (entry_rows range other.slot) (leaf_history seen other.leaf)
+        keeps_turns : (other : SlotLeaf) → Contains (serving (history ++ e ∷ [])) other
+            → BeginsWith (replica_turns range other.slot (leaf_history seen other.leaf))
+            (turns_since other.slot (history ++ e ∷ []))
+        keeps_turns other among =
+            subst (λ (turns : List Turn). BeginsWith (replica_turns range other.slot (leaf_history seen other.leaf)) turns)
+            (just_then other among).all
+            (begins-flat_map (entry_turns range other.slot) (leaf_history seen other.leaf)
             (leaf_history opened.seen other.leaf)
             (begins_from (leaf_history seen other.leaf) (leaf_history opened.seen other.leaf) (up.0 other.leaf).0
             (sym (up.0 other.leaf).1)))
@@ -300,7 +314,7 @@ module _ (setting : Setting) (range : Range) (leaf : Leaf) (history : List Range
         borne = record {
           pass = pass_of know;
           entered = subst (λ (front : List RangeEntry). Contains (leaf_history seen leaf)
-              (entry.Opened (pass_of know) range slot (acknowledged_rows front)))
+              (entry.Opened (pass_of know) range slot (left_rows front)))
               (sym (take_at history (e ∷ []) (length history) refl))
               (prefix_contains (leaf_history opened.seen leaf) (leaf_history seen leaf) brings (up.0 leaf)
               (subst (λ (h : List Entry). Contains h brings) (sym after) (Contains-push found brings)));
@@ -310,14 +324,15 @@ module _ (setting : Setting) (range : Range) (leaf : Leaf) (history : List Range
         held_then =
             range_entry_held seen range e here setting.held setting.zones setting.points held
             (subst (λ (h : List RangeEntry). (other : SlotLeaf) → Contains (serving (h ++ e ∷ [])) other
-            → BeginsWith (replica_rows range other.slot (leaf_history seen other.leaf)) (acknowledged_rows (h ++ e ∷ [])))
-            (sym whole) keeps_rows)
+            → BeginsWith (replica_turns range other.slot (leaf_history seen other.leaf))
+            (turns_since other.slot (h ++ e ∷ [])))
+            (sym whole) keeps_turns)
             (subst (λ (h : List RangeEntry). IsBorneOut seen range (h ++ e ∷ []) (length h) e) (sym whole) borne)
             (subst (λ (h : List RangeEntry). range_spec.MayFollow setting.held setting.zones setting.points range h e)
             (sym whole) may_follow)
 
       pub may_tell : MayEnter setting range history e opened
-      may_tell = record { held = held_then; rows = just_opened }
+      may_tell = record { held = held_then; turns = just_opened }
 
       -- the caller still holds the range, under its number
       pub still_holds : 0 < times_range range opened.purse.holds

@@ -7,7 +7,7 @@ use Rattle.mon_value.specs.declared.positions.Leaf.{Leaf}
 use Rattle.mon_value.specs.declared.positions.Range.{Range}
 use Rattle.mon_value.specs.declared.positions.Slot.{Slot}
 use Rattle.mon_value.specs.declared.positions.SlotLeaf.{SlotLeaf}
-use Rattle.mon_value.specs.declared.rows.Row.{Row}
+use Rattle.mon_value.specs.Turns.{Turn}
 use Rattle.owners.specs.Calls.{HasReserved}
 use Rattle.range_cell.proofs.FateLemmas.{waiting_is}
 use Rattle.range_cell.proofs.NextStageLemmas.{at_reserving, moved, pushed}
@@ -22,27 +22,27 @@ use Rattle.write_core.specs.declared.asks.WriteAsk.TheVariants as ask
 use Rattle.write_core.specs.declared.marks.Fate.TheVariants as fate
 use Rattle.write_core.specs.declared.marks.Mark.{Mark}
 
-module _ (range : Range) (row : Row) (pass : ℕ) (rows : List Row) (before : Knowledge) (replicas : List SlotLeaf)
+module _ (range : Range) (turn : Turn) (pass : ℕ) (before : Knowledge) (replicas : List SlotLeaf)
     (old new : Knowledge) where
   abbrev SoFar : Knowledge → List Mark → Type 0
-  SoFar = IsSoFar range row pass rows before replicas
+  SoFar = IsSoFar range turn pass before replicas
 
   abbrev At : Knowledge → Stage → Type 0
-  At = IsAt range row pass rows before replicas
+  At = IsAt range turn pass before replicas
 
   by_reserved : (done left : List Mark) (mark : Mark) → SoFar old (done ++ mark ∷ left) → AreAll is_asked done
       → AreAll is_waiting (mark ∷ left) → (f : Found) → HasReserved mark.leaf f old new
       → At new (after (Reserving (record { done = done; left = mark ∷ left })) (told_of f))
   by_reserved done left mark so asked waits found.Up reserved =
-      at_reserving range row pass rows before replicas new (done ++ with_fate mark fate.Ready ∷ []) left
-      (moved range row pass rows before replicas new done left mark fate.Ready
-      (reserved_up range row pass rows before old new done left mark so.writing (waiting_is mark.fate waits.0) reserved)
+      at_reserving range turn pass before replicas new (done ++ with_fate mark fate.Ready ∷ []) left
+      (moved range turn pass before replicas new done left mark fate.Ready
+      (reserved_up range turn pass before old new done left mark so.writing (waiting_is mark.fate waits.0) reserved)
       so.serve)
       (pushed (λ (m : Mark). is_asked m.fate ≡ true) done (with_fate mark fate.Ready) asked refl) waits.1
   by_reserved done left mark so asked waits (found.Down cut) reserved =
-      at_reserving range row pass rows before replicas new (done ++ with_fate mark (fate.Missed cut) ∷ []) left
-      (moved range row pass rows before replicas new done left mark (fate.Missed cut)
-      (reserved_down range row pass rows before old new done left mark so.writing (waiting_is mark.fate waits.0) cut
+      at_reserving range turn pass before replicas new (done ++ with_fate mark (fate.Missed cut) ∷ []) left
+      (moved range turn pass before replicas new done left mark (fate.Missed cut)
+      (reserved_down range turn pass before old new done left mark so.writing (waiting_is mark.fate waits.0) cut
       reserved)
       so.serve)
       (pushed (λ (m : Mark). is_asked m.fate ≡ true) done (with_fate mark (fate.Missed cut)) asked refl) waits.1

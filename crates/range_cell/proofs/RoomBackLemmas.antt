@@ -15,18 +15,17 @@ use Rattle.mon_value.specs.Histories.{leaf_history, range_history, same_leaf}
 use Rattle.mon_value.specs.declared.positions.Leaf.{Leaf}
 use Rattle.mon_value.specs.declared.positions.Range.{Range}
 use Rattle.mon_value.specs.declared.positions.SlotLeaf.{SlotLeaf}
-use Rattle.mon_value.specs.declared.rows.Row.{Row}
 use Rattle.owners.specs.Calls.{HasLooked, kept_with_all}
-use Rattle.range_cell.proofs.CallLemmas.{opened_stay, rows_stay}
+use Rattle.range_cell.proofs.CallLemmas.{opened_stay, turns_stay}
 use Rattle.range_cell.proofs.WritingLemmas.{ready-cons}
 use Rattle.range_cell.specs.Stages.{ArePlaced, IsWithdrawing}
-use Rattle.range_cell.specs.Writing.{HasRows, ready_count}
+use Rattle.range_cell.specs.Writing.{HasTurns, ready_count}
 use Rattle.write_core.specs.Marks.{is_ready, replica_of}
 use Rattle.write_core.specs.declared.marks.Mark.{Mark}
 
-module _ (range : Range) (pass : ℕ) (rows : List Row) (before : Knowledge) (replicas : List SlotLeaf)
+module _ (range : Range) (pass : ℕ) (before : Knowledge) (replicas : List SlotLeaf)
     (old : Knowledge) (mark : Mark) (left : List Mark)
-    (w : IsWithdrawing range pass rows before replicas old (mark ∷ left)) where
+    (w : IsWithdrawing range pass before replicas old (mark ∷ left)) where
   one_more : (l : Leaf) → times_room l old.purse.rooms ≡ times_room l before.purse.rooms
       + (cond {A = ℕ} (is_ready mark.fate && same_leaf l mark.leaf) 1 0 + ready_count l left)
   one_more l = w.rooms l ∙ ap (λ n. times_room l before.purse.rooms + n) (ready-cons l mark left)
@@ -46,7 +45,7 @@ module _ (range : Range) (pass : ℕ) (rows : List Row) (before : Knowledge) (re
       all_at (λ (x : SlotLeaf). x.leaf.0 < length (leaves_in setting.zones)) replicas (replica_of mark) placed.there
       w.among.0
 
-  pub passed_by : is_ready mark.fate ≡ false → IsWithdrawing range pass rows before replicas old left
+  pub passed_by : is_ready mark.fate ≡ false → IsWithdrawing range pass before replicas old left
   passed_by not_ready = record {
     among = w.among.1;
     fronts = w.fronts;
@@ -69,7 +68,7 @@ module _ (range : Range) (pass : ℕ) (rows : List Row) (before : Knowledge) (re
 
   pub cancelled : (new : Knowledge) → is_ready mark.fate ≡ true
       → HasLooked mark.leaf (without_one mark.leaf old.purse.rooms) old new
-      → IsWithdrawing range pass rows before replicas new left
+      → IsWithdrawing range pass before replicas new left
   cancelled new ready looked = record {
     among = w.among.1;
     fronts = (
@@ -108,10 +107,10 @@ module _ (range : Range) (pass : ℕ) (rows : List Row) (before : Knowledge) (re
       mapped_id None = refl
       mapped_id (Some x) = refl
 
-      stay : (xs : List SlotLeaf) → AllByRecursion (λ (x : SlotLeaf). HasRows old range x.slot x.leaf rows) xs
-          → AllByRecursion (λ (x : SlotLeaf). HasRows new range x.slot x.leaf rows) xs
+      stay : (xs : List SlotLeaf) → AllByRecursion (λ (x : SlotLeaf). HasTurns before old range x.slot x.leaf []) xs
+          → AllByRecursion (λ (x : SlotLeaf). HasTurns before new range x.slot x.leaf []) xs
       stay [] h = tt
       stay (x ∷ xs) h = (
-        rows_stay mark.leaf looked.history [] old new looked.called range w.held x.slot x.leaf rows refl h.0,
+        turns_stay mark.leaf looked.history [] old new looked.called range w.held before x.slot x.leaf [] (refl, refl) h.0,
         stay xs h.1,
       )

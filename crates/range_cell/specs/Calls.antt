@@ -79,14 +79,14 @@ pub record HasResolved (leaves : ℕ) (range : Range) (avoid : List Leaf) (told 
   pub met : HasMetRange leaves range before.purse.holds before after
   pub first : first_serving avoid (range_history after.seen range) ≡ told
 
--- it holds the range, and knows of the replicas that serve what they have, and of no other that was opened
+-- it holds the range, and knows of the replicas that serve which turns came to them, and of no other that was opened
 pub record HasBegun (leaves : ℕ) (range : Range) (history : List RangeEntry) (before after : Knowledge) : Type 0 where
   pub lent : List Range
   pub met : HasMetRange leaves range (lent ++ before.purse.holds) before after
   pub some : 0 < times_range range (lent ++ before.purse.holds)
   pub only : others range lent ≡ []
   pub whole : range_history after.seen range ≡ history
-  pub rows : HaveJust after.seen range history
+  pub turns : HaveJust after.seen range history
 
 -- what a write was told at the lock: where the row goes in, the range is held
 abbrev pub HasAnswered : ℕ → Range → Replay → RangeView → WriteTold → Knowledge → Knowledge → Type 0
@@ -103,13 +103,13 @@ HasAnswered leaves range replay owner told.Done before after = Unit {0}
 -- ---- an entry of the range
 
 -- An entry may come to a range's history: whatever else was seen with what the holder of the range has seen, it is held
--- with the entry, and the replicas that serve then have just the rows that are acknowledged then
+-- with the entry, and to the replicas that serve then came just the turns that are acknowledged then
 pub record MayEnter (setting : Setting) (range : Range) (history : List RangeEntry) (e : RangeEntry)
     (know : Knowledge) : Type 0 where
   pub held : (seen : Histories) → AreFronts know.seen seen → range_history seen range ≡ history
       → range.0 < length seen.ranges → AreHeld setting.held setting.zones setting.points seen
       → AreHeld setting.held setting.zones setting.points (with_range_entry range e seen)
-  pub rows : HaveJust know.seen range (history ++ e ∷ [])
+  pub turns : HaveJust know.seen range (history ++ e ∷ [])
 
 -- The caller added an entry to a range of this history, and holds the range no more
 pub record HasEntered (leaves : ℕ) (range : Range) (history : List RangeEntry) (e : RangeEntry)

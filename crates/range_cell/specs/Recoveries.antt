@@ -1,12 +1,12 @@
 -- How a recovery ended, and what its caller has then.
-use Rattle.std.specs.Prelude.{◌≡◌, ◌≤◌, ◌+◌, ℕ, false, List, [], ◌∷◌, ◌++◌, length, map, take, Option, Some, None, Result}
-use Rattle.std.specs.Prelude.{Ok, Err, Contains}
-use Rattle.history_book.specs.Histories.{AreFronts}
+use Rattle.std.specs.Prelude.{◌≡◌, ◌≤◌, ◌+◌, ℕ, false, List, [], ◌∷◌, ◌++◌, length, filter, map, take, Some, None}
+use Rattle.std.specs.Prelude.{Result, Ok, Err, Contains}
+use Rattle.history_book.specs.Histories.{AreFronts, leaf_entry_is_about}
 use Rattle.history_book.specs.declared.views.LengthNote.{LengthNote}
 use Rattle.know.specs.Knowledge.{Knowledge, stopped_count}
-use Rattle.mon_topo.specs.RangeHistories.{acknowledged_rows, serving}
+use Rattle.mon_topo.specs.RangeHistories.{left_rows, serving}
 use Rattle.mon_value.specs.Histories.{leaf_history}
-use Rattle.mon_value.specs.LeafHistories.{IsDownAt, is_down, is_opened, replica_rows}
+use Rattle.mon_value.specs.LeafHistories.{IsDownAt, is_down}
 use Rattle.mon_value.specs.declared.histories.Entry.{Entry}
 use Rattle.mon_value.specs.declared.histories.Entry.TheVariants as entry
 use Rattle.mon_value.specs.declared.histories.RangeEntry.{RangeEntry}
@@ -39,16 +39,14 @@ IsDeniedAs history leaf fault.OutOfMemory = Unit {0}
 
 -- ---- behind the lock: `begun` is what the caller had once it held the range
 
--- a replica is opened in both histories or in neither, and has the same rows
-pub record IsSameReplica (range : Range) (slot : Slot) (old new : List Entry) : Type 0 where
-  pub opened : is_opened range slot new ≡ is_opened range slot old
-  pub rows : replica_rows range slot new ≡ replica_rows range slot old
+-- a leaf has the same entries about a range
+abbrev pub HasSameEntries : Range → List Entry → List Entry → Type 0
+HasSameEntries range old new = filter (leaf_entry_is_about range) new ≡ filter (leaf_entry_is_about range) old
 
 -- The caller looked at leaves and appended nothing; so many rows are counted then as handed out
 pub record IsLooking (range : Range) (handed : ℕ) (begun know : Knowledge) : Type 0 where
   pub fronts : AreFronts begun.seen know.seen
-  pub same : (slot : Slot) (leaf : Leaf)
-      → IsSameReplica range slot (leaf_history begun.seen leaf) (leaf_history know.seen leaf)
+  pub same : (leaf : Leaf) → HasSameEntries range (leaf_history begun.seen leaf) (leaf_history know.seen leaf)
   pub own : know.purse.own ≡ begun.purse.own
   pub rooms : know.purse.rooms ≡ begun.purse.rooms
   pub notes : (more : List LengthNote) × (know.purse.notes ≡ begun.purse.notes ++ more)
@@ -58,9 +56,9 @@ pub record IsLooking (range : Range) (handed : ℕ) (begun know : Knowledge) : T
   pub lost : know.purse.lost ≡ begun.purse.lost
   pub counted : know.handed ≡ handed
 
--- the rows of a range's history were handed out once more
+-- the rows that are left of a range were handed out once more
 abbrev pub after_copying : List RangeEntry → Knowledge → ℕ
-after_copying history begun = stopped_count (begun.handed + length (acknowledged_rows history))
+after_copying history begun = stopped_count (begun.handed + length (left_rows history))
 
 -- a leaf was down at a length that was noted since
 pub record IsFoundDown (begun know : Knowledge) (leaf : Leaf) (cut : ℕ) : Type 0 where
@@ -86,7 +84,7 @@ pub record AreFoundDown (begun know : Knowledge) (replicas : List SlotLeaf) (fou
       ≡ map (λ (replica : SlotLeaf). replica.leaf) replicas
   pub down : (found : FoundDown) → Contains founds found → IsFoundDown begun know found.leaf found.cut
 
--- what was copied: the acknowledged rows of the range's history; or each source was down; or memory ran out
+-- what was copied: the rows that are left of the range; or each source was down; or memory ran out
 module _ (range : Range) (history : List RangeEntry) (begun know : Knowledge) where
   pub data Copies : Type 0 where
     NotYet : IsLooking range begun.handed begun know → Copies
@@ -104,13 +102,12 @@ module _ (range : Range) (history : List RangeEntry) (begun know : Knowledge) wh
 -- ---- at the leaf: `mid` is what the caller had when it came there with the rows
 
 module _ (leaves : ℕ) (range : Range) (leaf : Leaf) (history : List RangeEntry) (pass : ℕ) (mid after : Knowledge) where
-  -- The replica was opened on the leaf in the range's next slot, with all acknowledged rows, and then in the range's
-  -- history
+  -- The replica was opened on the leaf in the range's next slot, with the rows that are left of the range, and then in
+  -- the range's history
   pub record HasOpened (slot : Slot) : Type 0 where
     pub slot_is : slot ≡ next_slot history
     pub opened : Knowledge
-    pub at_leaf : HasFoundUp leaf (entry.Opened pass range slot (acknowledged_rows history) ∷ []) mid.purse.rooms mid
-        opened
+    pub at_leaf : HasFoundUp leaf (entry.Opened pass range slot (left_rows history) ∷ []) mid.purse.rooms mid opened
     pub entered : HasEntered leaves range history (range_entry.Opened pass slot leaf) opened after
 
   -- The leaf was found down

@@ -1,31 +1,32 @@
 -- What holds of a write at each stage of its machine, between the range's lock and the acknowledgement.
-use Rattle.std.specs.Prelude.{◌≡◌, ◌<◌, ◌+◌, ℕ, false, List, [], ◌∷◌, ◌++◌, length, map, nat_eq}
+use Rattle.std.specs.Prelude.{◌≡◌, ◌<◌, ◌+◌, ℕ, true, false, List, [], ◌∷◌, ◌++◌, length, map, nat_eq}
 use Rattle.std.specs.List.{AllByRecursion}
 use Rattle.know.specs.Knowledge.{Knowledge}
-use Rattle.mon_topo.specs.Locations.{LiesIn}
-use Rattle.mon_topo.specs.RangeHistories.{acknowledged_rows, opened_slots, serving}
+use Rattle.mon_topo.specs.RangeHistories.{IsLegal, serving}
 use Rattle.mon_topo.specs.Settings.{Setting}
 use Rattle.mon_topo.specs.Zones.{leaves_in}
 use Rattle.mon_value.specs.declared.histories.RangeEntry.{RangeEntry}
 use Rattle.mon_value.specs.declared.positions.Range.{Range}
 use Rattle.mon_value.specs.declared.positions.SlotLeaf.{SlotLeaf}
 use Rattle.mon_value.specs.declared.rows.Row.{Row}
+use Rattle.mon_value.specs.Histories.{leaf_history}
+use Rattle.mon_value.specs.LeafHistories.{is_opened, replica_rows, IsSource}
+use Rattle.mon_value.specs.Turns.{Turn, Adds, Hides}
 use Rattle.history_book.specs.Seats.{hand_of, times_range, times_room}
 use Rattle.history_book.specs.Histories.{AreFronts}
 use Rattle.history_book.specs.declared.views.LengthNote.{LengthNote}
 use Rattle.std.specs.Prelude.{Contains, Some}
 use Rattle.mon_value.specs.declared.positions.Leaf.{Leaf}
-use Rattle.range_cell.specs.Rest.{AreUnopened}
-use Rattle.range_cell.specs.Writing.{HasRows, HaveSameOpened, IsWriting, ready_count}
+use Rattle.range_cell.specs.Rest.{HaveJust}
+use Rattle.range_cell.specs.Writing.{HasTurns, HaveSameOpened, IsWriting, ready_count}
 use Rattle.write_core.specs.Invariant.{AreAll, IsAtReady, is_asked, is_decided, is_waiting}
 use Rattle.write_core.specs.Marks.{replica_of}
 use Rattle.write_core.specs.Program.{Acking, Ended, Entering, Inside, Locking, Marked, Not, Reserving, Stage, Verdict}
 use Rattle.write_core.specs.Rounds.{Round, is_no_mark_left, round_marks}
+use Rattle.write_core.specs.Steps.{IsTurnAtHome, TakesTurn}
 use Rattle.write_core.specs.declared.asks.WriteAsk.{WriteAsk}
 use Rattle.write_core.specs.declared.asks.WriteAsk.TheVariants as ask
 use Rattle.write_core.specs.declared.marks.Mark.{Mark}
-use Rattle.mon_topo.specs.HeldHistories.{IsAtHome}
-use Rattle.mon_value.specs.LeafHistories.{IsSource}
 
 -- two replicas have different slots
 pub record IsApart (a b : SlotLeaf) : Type 0 where
@@ -41,10 +42,10 @@ pub record ArePlaced (setting : Setting) (replicas : List SlotLeaf) : Type 0 whe
   pub there : AllByRecursion (λ replica. replica.leaf.0 < length (leaves_in setting.zones)) replicas
   pub apart : AreApart replicas
 
-module _ (range : Range) (row : Row) (pass : ℕ) (rows : List Row) (before : Knowledge) (replicas : List SlotLeaf) where
+module _ (range : Range) (turn : Turn) (pass : ℕ) (before : Knowledge) (replicas : List SlotLeaf) where
   -- these replicas were asked so far
   pub record IsSoFar (know : Knowledge) (marks : List Mark) : Type 0 where
-    pub writing : IsWriting range row pass rows before know marks
+    pub writing : IsWriting range turn pass before know marks
     pub serve : map replica_of marks ≡ replicas
 
   pub record IsAsking (know : Knowledge) (round : Round) : Type 0 where
@@ -82,16 +83,16 @@ module _ (range : Range) (row : Row) (pass : ℕ) (rows : List Row) (before : Kn
     pub stage_is : stage ≡ Acking (Marked marks)
     pub through : IsThrough know marks
 
--- all replicas are decided, wherever the write began, and the row may be acknowledged
-pub record IsConcluding (setting : Setting) (range : Range) (row : Row) (history : List RangeEntry) (know : Knowledge)
+-- all replicas are decided, wherever the write began, and the turn may be acknowledged
+pub record IsConcluding (setting : Setting) (range : Range) (turn : Turn) (history : List RangeEntry) (know : Knowledge)
     (stage : Stage) : Type 0 where
   pub pass : ℕ
   pub begun : Knowledge
-  pub through : IsThroughAt range row pass (acknowledged_rows history) begun (serving history) know stage
-  pub fresh : AreUnopened begun.seen range (length (opened_slots history))
-  pub lies : LiesIn setting.held setting.zones range row.key.target
-  pub source : IsSource (acknowledged_rows history ++ row ∷ [])
-  pub few : length (acknowledged_rows history) < setting.points
+  pub through : IsThroughAt range turn pass begun (serving history) know stage
+  pub just : HaveJust begun.seen range history
+  pub legal : IsLegal setting.held setting.zones setting.points range history
+  pub home : IsTurnAtHome setting range turn
+  pub takes : TakesTurn setting history turn
 
 -- no leaf is asked for anything next
 abbrev pub IsQuiet : WriteAsk → Type 0
@@ -104,36 +105,43 @@ IsQuiet (ask.Put slot leaf) = Unit {0}
 IsQuiet ask.Ack = Unit {0}
 IsQuiet ask.Finished = Unit {0}
 
+-- a turn may come behind these rows: a row ends later than those of its series
+abbrev pub ComesBehind : List Row → Turn → Type 0
+ComesBehind rows (Adds row) = IsSource (rows ++ row ∷ [])
+ComesBehind rows (Hides before) = Unit {0}
+
+-- a replica is opened, and the turn may come behind all rows that ever came to it
+pub record IsOpenTo (range : Range) (turn : Turn) (know : Knowledge) (replica : SlotLeaf) : Type 0 where
+  pub opened : is_opened range replica.slot (leaf_history know.seen replica.leaf) ≡ true
+  pub behind : ComesBehind (replica_rows range replica.slot (leaf_history know.seen replica.leaf)) turn
+
 -- a write is on its way, wherever it began
-pub record IsSomewhere (setting : Setting) (range : Range) (row : Row) (know : Knowledge) (stage : Stage) : Type 0 where
+pub record IsSomewhere (setting : Setting) (range : Range) (turn : Turn) (know : Knowledge) (stage : Stage)
+    : Type 0 where
   pub pass : ℕ
-  pub rows : List Row
   pub before : Knowledge
   pub replicas : List SlotLeaf
   pub placed : ArePlaced setting replicas
-  pub at : IsAt range row pass rows before replicas know stage
-  pub home : IsAtHome setting.held setting.zones range row
-  pub source : IsSource (rows ++ row ∷ [])
+  pub at : IsAt range turn pass before replicas know stage
+  pub home : IsTurnAtHome setting range turn
+  pub each : AllByRecursion (IsOpenTo range turn before) replicas
 
--- A write begins: the caller holds the range, and knows of each replica that serves that it has just these rows, behind
--- which the row may come
-pub record IsBeginning (setting : Setting) (range : Range) (row : Row) (pass : ℕ) (rows : List Row)
-    (replicas : List SlotLeaf) (know : Knowledge) : Type 0 where
+-- A write begins: the caller holds the range, and the turn may come to each replica that serves
+pub record IsBeginning (setting : Setting) (range : Range) (turn : Turn) (pass : ℕ) (replicas : List SlotLeaf)
+    (know : Knowledge) : Type 0 where
   pub placed : ArePlaced setting replicas
-  pub each : AllByRecursion (λ replica. HasRows know range replica.slot replica.leaf rows) replicas
+  pub each : AllByRecursion (IsOpenTo range turn know) replicas
   pub number : (hand_of know.purse).own ≡ Some pass
   pub held : 0 < times_range range know.purse.holds
-  pub home : IsAtHome setting.held setting.zones range row
-  pub source : IsSource (rows ++ row ∷ [])
+  pub home : IsTurnAtHome setting range turn
 
--- (whatever it knows of them)
-pub record BeginsSomehow (setting : Setting) (range : Range) (row : Row) (replicas : List SlotLeaf) (know : Knowledge)
-    : Type 0 where
+-- (by whichever pass)
+pub record BeginsSomehow (setting : Setting) (range : Range) (turn : Turn) (replicas : List SlotLeaf)
+    (know : Knowledge) : Type 0 where
   pub pass : ℕ
-  pub rows : List Row
-  pub begins : IsBeginning setting range row pass rows replicas know
+  pub begins : IsBeginning setting range turn pass replicas know
 
--- how many rows are still to be put at most
+-- how often the turn is still to come at most
 abbrev pub needed : Stage → ℕ
 needed Locking = 0
 needed (Reserving round) = length (round_marks round)
@@ -144,14 +152,14 @@ needed (Ended verdict) = 0
 
 -- A write is given up: nothing was put, the leaves of these replicas still have room, and what the range's replicas
 -- have is known as before
-pub record IsWithdrawing (range : Range) (pass : ℕ) (rows : List Row) (before : Knowledge) (replicas : List SlotLeaf)
-    (know : Knowledge) (left : List Mark) : Type 0 where
+pub record IsWithdrawing (range : Range) (pass : ℕ) (before : Knowledge) (replicas : List SlotLeaf) (know : Knowledge)
+    (left : List Mark) : Type 0 where
   pub among : AllByRecursion (λ mark. Contains replicas (replica_of mark)) left
   pub fronts : AreFronts before.seen know.seen
   pub number : (hand_of know.purse).own ≡ Some pass
   pub held : 0 < times_range range know.purse.holds
   pub opened : HaveSameOpened range before.seen know.seen
-  pub each : AllByRecursion (λ replica. HasRows know range replica.slot replica.leaf rows) replicas
+  pub each : AllByRecursion (λ replica. HasTurns before know range replica.slot replica.leaf []) replicas
   pub own : know.purse.own ≡ before.purse.own
   pub rooms : (leaf : Leaf) → times_room leaf know.purse.rooms
       ≡ times_room leaf before.purse.rooms + ready_count leaf left
@@ -165,8 +173,7 @@ pub record IsWithdrawing (range : Range) (pass : ℕ) (rows : List Row) (before 
 pub record IsWithdrawn (setting : Setting) (know : Knowledge) (left : List Mark) : Type 0 where
   pub range : Range
   pub pass : ℕ
-  pub rows : List Row
   pub before : Knowledge
   pub replicas : List SlotLeaf
   pub placed : ArePlaced setting replicas
-  pub is : IsWithdrawing range pass rows before replicas know left
+  pub is : IsWithdrawing range pass before replicas know left

@@ -2,14 +2,14 @@
 use Rattle.std.specs.Prelude.{◌≡◌, ℕ, true, false, List, [], Result, Ok, Err}
 use Rattle.std.specs.List.{flat_map}
 use Rattle.know.specs.Knowledge.{Knowledge}
-use Rattle.mon_topo.specs.RangeHistories.{acknowledged_rows, serving}
+use Rattle.mon_topo.specs.RangeHistories.{serving, turn_ack}
 use Rattle.mon_value.specs.Histories.{range_history}
 use Rattle.mon_value.specs.declared.histories.Ack.{Ack}
 use Rattle.mon_value.specs.declared.histories.RangeEntry.{RangeEntry}
-use Rattle.mon_value.specs.declared.histories.RangeEntry.TheVariants as entry
 use Rattle.mon_value.specs.declared.positions.FoundDown.{FoundDown}
 use Rattle.mon_value.specs.declared.positions.Range.{Range}
 use Rattle.mon_value.specs.declared.rows.Row.{Row}
+use Rattle.mon_value.specs.Turns.{Turn, Adds}
 use Rattle.range_cell.specs.Calls.{HasBegun, HasEntered, HasGivenBack, HasMetRange}
 use Rattle.range_cell.specs.Stages.{IsThrough, IsWithdrawing}
 use Rattle.range_cell.specs.declared.answers.WriteFault.{WriteFault}
@@ -21,21 +21,21 @@ use Rattle.write_core.specs.declared.marks.Mark.{Mark}
 
 -- ---- behind the lock: `begun` is what the caller had once it held the range, whose history this is
 
-module _ (leaves : ℕ) (range : Range) (row : Row) (history : List RangeEntry) (pass : ℕ) (begun after : Knowledge) where
-  -- Each replica took the row or was found down, some took it, and this is acknowledged
+module _ (leaves : ℕ) (range : Range) (turn : Turn) (history : List RangeEntry) (pass : ℕ) (begun after : Knowledge) where
+  -- Each replica took the turn or was found down, some took it, and this is acknowledged
   pub record HasAcknowledged (ack : Ack) : Type 0 where
     pub mid : Knowledge
     pub marks : List Mark
-    pub through : IsThrough range row pass (acknowledged_rows history) begun (serving history) mid marks
+    pub through : IsThrough range turn pass begun (serving history) mid marks
     pub some : some_took marks ≡ true
     pub ack_is : ack_of range marks ≡ ack
-    pub entered : HasEntered leaves range history (entry.Acked pass row ack) mid after
+    pub entered : HasEntered leaves range history (turn_ack pass turn ack) mid after
 
   -- Each replica was found down, and nothing was written
   pub record HasFoundNone (founds : List FoundDown) : Type 0 where
     pub mid : Knowledge
     pub marks : List Mark
-    pub through : IsThrough range row pass (acknowledged_rows history) begun (serving history) mid marks
+    pub through : IsThrough range turn pass begun (serving history) mid marks
     pub none : some_took marks ≡ false
     pub founds_are : flat_map found_in_mark marks ≡ founds
     pub back : HasGivenBack leaves range history mid after
@@ -43,7 +43,7 @@ module _ (leaves : ℕ) (range : Range) (row : Row) (history : List RangeEntry) 
   -- It was given up for want of memory: nothing was written, and no room is left
   pub record HasGivenUp : Type 0 where
     pub mid : Knowledge
-    pub withdrawn : IsWithdrawing range pass (acknowledged_rows history) begun (serving history) mid []
+    pub withdrawn : IsWithdrawing range pass begun (serving history) mid []
     pub back : HasGivenBack leaves range history mid after
 
   abbrev pub HasFailed : WriteFault → Type 0
@@ -77,7 +77,7 @@ pub record HasTried (leaves : ℕ) (range : Range) (row : Row) (limit pass : ℕ
 module _ (leaves : ℕ) (range : Range) (row : Row) (limit pass : ℕ) (before after : Knowledge) where
   abbrev pub HasTriedTo : Result Ack WriteFault → Type 0
   HasTriedTo result = HasTried leaves range row limit pass before
-      (λ history begun. HasEnded leaves range row history pass begun after result)
+      (λ history begun. HasEnded leaves range (Adds row) history pass begun after result)
 
   -- memory ran out at the lock, where nothing else came of the call, or behind it
   pub data RanOut : Type 0 where

@@ -8,19 +8,21 @@ ghost use Rattle.know.specs.Knowledge.{Knowledge};
 ghost use Rattle.know.specs.Lending.{without_purse};
 ghost use Rattle.know.specs.Sound.{IsSound};
 ghost use Rattle.mon_topo.specs.HeldHistories.{IsAtHome};
-ghost use Rattle.mon_topo.specs.RangeHistories.{acknowledged_rows, opened_slots, serving};
+ghost use Rattle.mon_topo.specs.RangeHistories.{IsLegal, serving};
 ghost use Rattle.mon_topo.specs.Zones.{ranges_in};
 ghost use Rattle.mon_value.specs.Histories.{range_history};
+ghost use Rattle.mon_value.specs.Turns.{Adds};
 ghost use Rattle.mon_value.specs.declared.histories.RangeEntry.TheVariants as entry;
 ghost use Rattle.owners.specs.Owners.{IsOfRange};
 ghost use Rattle.owners.specs.Puts.{pass_of};
 ghost use Rattle.range_cell.specs.Answers.{takes};
 ghost use Rattle.range_cell.specs.Calls.{HasAnswered, HasCome, HasEntered, HasMetRange, HasResolved, MayEnter};
-ghost use Rattle.range_cell.specs.Rest.{AreUnopened, HaveJust, IsRangeAtRest, IsRangeHeld, others};
+ghost use Rattle.range_cell.specs.Rest.{HaveJust, IsRangeAtRest, IsRangeHeld, others};
 ghost use Rattle.range_cell.specs.Stages.{IsBeginning, IsConcluding, IsThroughAt};
 ghost use Rattle.range_cell.specs.Writes.{HasEnded, HasWritten};
 ghost use Rattle.write_core.specs.RangeAnswers.{lock_answer};
 ghost use Rattle.write_core.specs.Replays.{HasAckRoom};
+ghost use Rattle.write_core.specs.Steps.{TakesTurn};
 
 use crate::answers::WriteFault;
 use crate::entering::{Entering, enter_leaves};
@@ -95,7 +97,7 @@ impl<N: Names> RangeDesk<N> {
     pub(crate) fn give_back(&mut self, tables: &Tables<N>, know: &mut Know<N>)
         requires held { IsRangeHeld self.old.owner.range.0 self.old.replay self.old.owner }
         requires holds { 0 < times_range self.old.owner.range know.old.purse.holds }
-        requires rows { HaveJust know.old.seen self.old.owner.range self.old.replay.history }
+        requires turns { HaveJust know.old.seen self.old.owner.range self.old.replay.history }
         ensures rest { IsRangeAtRest self.old.owner.range.0 self.new.replay self.new.owner }
         ensures met { HasMetRange N.book.leaves self.old.owner.range
             (others self.old.owner.range know.old.purse.holds) know.old know.new }
@@ -212,12 +214,12 @@ impl<N: Names> RangeDesk<N> {
         requires range { range ≡ self.old.owner.range }
         requires room { HasAckRoom self.old.replay }
         requires serve { replicas ≡ serving self.old.replay.history }
-        requires begins { IsBeginning N.setting range row.now (pass_of know.old)
-            (acknowledged_rows self.old.replay.history) replicas know.old }
-        requires fresh { AreUnopened know.old.seen range (length (opened_slots self.old.replay.history)) }
-        requires few { length (acknowledged_rows self.old.replay.history) < N.setting.points }
+        requires begins { IsBeginning N.setting range (Adds row.now) (pass_of know.old) replicas know.old }
+        requires turns { HaveJust know.old.seen range self.old.replay.history }
+        requires legal { IsLegal N.setting.held N.setting.zones N.setting.points range self.old.replay.history }
+        requires takes { TakesTurn N.setting self.old.replay.history (Adds row.now) }
         ensures rest { IsRangeAtRest self.old.owner.range.0 self.new.replay self.new.owner }
-        ensures ended { HasEnded N.book.leaves range row.now self.old.replay.history (pass_of know.old) know.old
+        ensures ended { HasEnded N.book.leaves range (Adds row.now) self.old.replay.history (pass_of know.old) know.old
             know.new result }
     {
         match enter_leaves(rt, alloc, know, leaves, range, row, replicas) {
@@ -242,13 +244,13 @@ impl<N: Names> RangeDesk<N> {
         requires machine { entering.machine.range ≡ range }
         requires room { HasAckRoom self.old.replay }
         requires key { entering.key ≡ entering.copies.row.key }
-        requires through { IsConcluding N.setting range entering.copies.row self.old.replay.history know.old
+        requires through { IsConcluding N.setting range (Adds entering.copies.row) self.old.replay.history know.old
             entering.machine.stage }
         ensures rest { IsRangeAtRest self.old.owner.range.0 self.new.replay self.new.owner }
-        ensures ended { (pass : ℕ) (begun : Knowledge) → IsThroughAt range entering.copies.row pass
-            (acknowledged_rows self.old.replay.history) begun (serving self.old.replay.history) know.old
-            entering.machine.stage → HasEnded N.book.leaves range entering.copies.row self.old.replay.history pass begun
-            know.new result }
+        ensures ended { (pass : ℕ) (begun : Knowledge) → IsThroughAt range (Adds entering.copies.row) pass begun
+            (serving self.old.replay.history) know.old entering.machine.stage
+            → HasEnded N.book.leaves range (Adds entering.copies.row) self.old.replay.history pass begun know.new
+            result }
     {
         let mut machine = entering.machine;
         let row = entering.copies.into_row();

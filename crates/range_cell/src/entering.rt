@@ -1,6 +1,6 @@
 // A write between the range's lock and its acknowledgement: what it takes along, and its way over the leaves.
-ghost use Rattle.std.specs.Prelude.{◌≡◌, ℕ, List, [], length, IfOk, OnErr};
-ghost use Rattle.mon_value.specs.declared.rows.Row as a_row;
+ghost use Rattle.std.specs.Prelude.{◌≡◌, ℕ, [], length, IfOk, OnErr};
+ghost use Rattle.mon_value.specs.Turns.{Adds};
 ghost use Rattle.range_cell.specs.Stages.{BeginsSomehow, IsBeginning, IsThroughAt, IsWithdrawing};
 ghost use Rattle.write_core.specs.Program.{Locking, after};
 ghost use Rattle.write_core.specs.declared.asks.WriteTold.TheVariants as told;
@@ -33,13 +33,12 @@ pub(crate) fn enter_leaves<R: Wait, N: Names, S: LeafSide<N>>(
     row: &Row,
     replicas: SlotLeaves,
 ) -> Result<Entering, OutOfMemory>
-    requires begins { BeginsSomehow N.setting range row.now replicas know.old }
-    ensures through { (pass : ℕ) (rows : List a_row.Row)
-        → IsBeginning N.setting range row.now pass rows replicas know.old → IfOk result (λ entering.
-        IsThroughAt range row.now pass rows know.old replicas know.new entering.machine.stage) }
-    ensures withdrawn { (pass : ℕ) (rows : List a_row.Row)
-        → IsBeginning N.setting range row.now pass rows replicas know.old → OnErr result
-        (IsWithdrawing range pass rows know.old replicas know.new []) }
+    requires begins { BeginsSomehow N.setting range (Adds row.now) replicas know.old }
+    ensures through { (pass : ℕ) → IsBeginning N.setting range (Adds row.now) pass replicas know.old
+        → IfOk result (λ entering.
+        IsThroughAt range (Adds row.now) pass know.old replicas know.new entering.machine.stage) }
+    ensures withdrawn { (pass : ℕ) → IsBeginning N.setting range (Adds row.now) pass replicas know.old
+        → OnErr result (IsWithdrawing range pass know.old replicas know.new []) }
     ensures row { IfOk result (λ entering. entering.copies.row ≡ row.now) }
     ensures key { IfOk result (λ entering. entering.key ≡ row.now.key) }
     ensures range { IfOk result (λ entering. entering.machine.range ≡ range) }

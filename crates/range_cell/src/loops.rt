@@ -5,7 +5,7 @@ ghost use Rattle.know.specs.Knowledge.{Knowledge};
 ghost use Rattle.mon_topo.specs.Zones.{leaves_in};
 ghost use Rattle.mon_value.specs.declared.positions.Range as a_range;
 ghost use Rattle.mon_value.specs.declared.positions.SlotLeaf as a_replica;
-ghost use Rattle.mon_value.specs.declared.rows.Row as a_row;
+ghost use Rattle.mon_value.specs.Turns.{Adds};
 ghost use Rattle.owners.specs.Puts.{HasSeenOpened, MayPut};
 ghost use Rattle.range_cell.specs.Stages.{AreApart, IsAt, IsQuiet, IsSomewhere, IsThroughAt, IsWithdrawing};
 ghost use Rattle.range_cell.specs.Stages.{IsWithdrawn};
@@ -37,14 +37,14 @@ pub(crate) fn write_through<R: Wait, N: Names, S: LeafSide<N>>(
     range: Range,
     copies: &mut Copies,
 ) -> Result<(), OutOfMemory>
-    requires somewhere { IsSomewhere N.setting range copies.old.row know.old machine.old.stage }
+    requires somewhere { IsSomewhere N.setting range (Adds copies.old.row) know.old machine.old.stage }
     requires stocked { needed machine.old.stage ≤ copies.old.left }
-    ensures through { (pass : ℕ) (rows : List a_row.Row) (before : Knowledge) (replicas : List a_replica.SlotLeaf)
-        → AreApart replicas → IsAt range copies.old.row pass rows before replicas know.old machine.old.stage
-        → OnOk result (IsThroughAt range copies.old.row pass rows before replicas know.new machine.new.stage) }
-    ensures withdrawn { (pass : ℕ) (rows : List a_row.Row) (before : Knowledge) (replicas : List a_replica.SlotLeaf)
-        → AreApart replicas → IsAt range copies.old.row pass rows before replicas know.old machine.old.stage
-        → OnErr result (IsWithdrawing range pass rows before replicas know.new []) }
+    ensures through { (pass : ℕ) (before : Knowledge) (replicas : List a_replica.SlotLeaf)
+        → AreApart replicas → IsAt range (Adds copies.old.row) pass before replicas know.old machine.old.stage
+        → OnOk result (IsThroughAt range (Adds copies.old.row) pass before replicas know.new machine.new.stage) }
+    ensures withdrawn { (pass : ℕ) (before : Knowledge) (replicas : List a_replica.SlotLeaf)
+        → AreApart replicas → IsAt range (Adds copies.old.row) pass before replicas know.old machine.old.stage
+        → OnErr result (IsWithdrawing range pass before replicas know.new []) }
     ensures row { copies.new.row ≡ copies.old.row }
     ensures range { machine.new.range ≡ machine.old.range }
 {
@@ -67,14 +67,14 @@ fn go_through<R: Wait, N: Names, S: LeafSide<N>>(
     range: Range,
     copies: &mut Copies,
 ) -> Result<(), OutOfMemory>
-    requires somewhere { IsSomewhere N.setting range copies.old.row know.old machine.old.stage }
+    requires somewhere { IsSomewhere N.setting range (Adds copies.old.row) know.old machine.old.stage }
     requires stocked { needed machine.old.stage ≤ copies.old.left }
-    ensures through { (pass : ℕ) (rows : List a_row.Row) (before : Knowledge) (replicas : List a_replica.SlotLeaf)
-        → AreApart replicas → IsAt range copies.old.row pass rows before replicas know.old machine.old.stage
-        → OnOk result (IsThroughAt range copies.old.row pass rows before replicas know.new machine.new.stage) }
-    ensures refused { (pass : ℕ) (rows : List a_row.Row) (before : Knowledge) (replicas : List a_replica.SlotLeaf)
-        → AreApart replicas → IsAt range copies.old.row pass rows before replicas know.old machine.old.stage
-        → OnErr result (IsWithdrawing range pass rows before replicas know.new (going_marks machine.new.stage)) }
+    ensures through { (pass : ℕ) (before : Knowledge) (replicas : List a_replica.SlotLeaf)
+        → AreApart replicas → IsAt range (Adds copies.old.row) pass before replicas know.old machine.old.stage
+        → OnOk result (IsThroughAt range (Adds copies.old.row) pass before replicas know.new machine.new.stage) }
+    ensures refused { (pass : ℕ) (before : Knowledge) (replicas : List a_replica.SlotLeaf)
+        → AreApart replicas → IsAt range (Adds copies.old.row) pass before replicas know.old machine.old.stage
+        → OnErr result (IsWithdrawing range pass before replicas know.new (going_marks machine.new.stage)) }
     ensures row { copies.new.row ≡ copies.old.row }
     ensures range { machine.new.range ≡ machine.old.range }
 {
@@ -97,14 +97,14 @@ fn turn<N: Names, S: LeafSide<N>>(
     range: Range,
     copies: &mut Copies,
 ) -> Result<bool, OutOfMemory>
-    requires somewhere { IsSomewhere N.setting range copies.old.row know.old machine.old.stage }
+    requires somewhere { IsSomewhere N.setting range (Adds copies.old.row) know.old machine.old.stage }
     requires stocked { needed machine.old.stage ≤ copies.old.left }
-    ensures on { (pass : ℕ) (rows : List a_row.Row) (before : Knowledge) (replicas : List a_replica.SlotLeaf)
-        → AreApart replicas → IsAt range copies.old.row pass rows before replicas know.old machine.old.stage
-        → OnOk result (IsAt range copies.old.row pass rows before replicas know.new machine.new.stage) }
-    ensures refused { (pass : ℕ) (rows : List a_row.Row) (before : Knowledge) (replicas : List a_replica.SlotLeaf)
-        → AreApart replicas → IsAt range copies.old.row pass rows before replicas know.old machine.old.stage
-        → OnErr result (IsWithdrawing range pass rows before replicas know.new (going_marks machine.new.stage)) }
+    ensures on { (pass : ℕ) (before : Knowledge) (replicas : List a_replica.SlotLeaf)
+        → AreApart replicas → IsAt range (Adds copies.old.row) pass before replicas know.old machine.old.stage
+        → OnOk result (IsAt range (Adds copies.old.row) pass before replicas know.new machine.new.stage) }
+    ensures refused { (pass : ℕ) (before : Knowledge) (replicas : List a_replica.SlotLeaf)
+        → AreApart replicas → IsAt range (Adds copies.old.row) pass before replicas know.old machine.old.stage
+        → OnErr result (IsWithdrawing range pass before replicas know.new (going_marks machine.new.stage)) }
     ensures stocked { OnOk result (needed machine.new.stage ≤ copies.new.left) }
     ensures row { copies.new.row ≡ copies.old.row }
     ensures range { machine.new.range ≡ machine.old.range }
@@ -154,12 +154,12 @@ fn ask_for_room<N: Names, S: LeafSide<N>>(
 ) -> Result<(), OutOfMemory>
     requires asks { ask_of machine.old.stage ≡ ask.Reserve slot leaf }
     requires seen { HasSeenOpened N.setting know.old leaf range slot }
-    ensures on { (pass : ℕ) (rows : List a_row.Row) (before : Knowledge) (replicas : List a_replica.SlotLeaf)
-        → IsAt range row.now pass rows before replicas know.old machine.old.stage
-        → OnOk result (IsAt range row.now pass rows before replicas know.new machine.new.stage) }
-    ensures refused { (pass : ℕ) (rows : List a_row.Row) (before : Knowledge) (replicas : List a_replica.SlotLeaf)
-        → IsAt range row.now pass rows before replicas know.old machine.old.stage
-        → OnErr result (IsWithdrawing range pass rows before replicas know.new (going_marks machine.new.stage)) }
+    ensures on { (pass : ℕ) (before : Knowledge) (replicas : List a_replica.SlotLeaf)
+        → IsAt range (Adds row.now) pass before replicas know.old machine.old.stage
+        → OnOk result (IsAt range (Adds row.now) pass before replicas know.new machine.new.stage) }
+    ensures refused { (pass : ℕ) (before : Knowledge) (replicas : List a_replica.SlotLeaf)
+        → IsAt range (Adds row.now) pass before replicas know.old machine.old.stage
+        → OnErr result (IsWithdrawing range pass before replicas know.new (going_marks machine.new.stage)) }
     ensures needs { OnOk result (needed machine.new.stage ≤ needed machine.old.stage) }
     ensures range { machine.new.range ≡ machine.old.range }
 {
@@ -181,9 +181,9 @@ fn put_at<N: Names, S: LeafSide<N>>(
 )
     requires asks { ask_of machine.old.stage ≡ ask.Enter slot leaf }
     requires may { MayPut N.setting know.old leaf range slot row }
-    ensures on { (pass : ℕ) (rows : List a_row.Row) (before : Knowledge) (replicas : List a_replica.SlotLeaf)
-        → AreApart replicas → IsAt range row pass rows before replicas know.old machine.old.stage
-        → IsAt range row pass rows before replicas know.new machine.new.stage }
+    ensures on { (pass : ℕ) (before : Knowledge) (replicas : List a_replica.SlotLeaf)
+        → AreApart replicas → IsAt range (Adds row) pass before replicas know.old machine.old.stage
+        → IsAt range (Adds row) pass before replicas know.new machine.new.stage }
     ensures needs { needed machine.new.stage < needed machine.old.stage }
     ensures range { machine.new.range ≡ machine.old.range }
 {
@@ -220,9 +220,9 @@ pub(crate) fn tell(machine: &mut WriteMachine, told: WriteTold)
 // Gives back the rooms of the replicas that have one.
 fn cancel_all<N: Names, S: LeafSide<N>>(marks: &[Mark], know: &mut Know<N>, leaves: &S)
     requires somewhere { IsWithdrawn N.setting know.old marks.now }
-    ensures back { (range : a_range.Range) (pass : ℕ) (rows : List a_row.Row) (before : Knowledge)
-        (replicas : List a_replica.SlotLeaf) → IsWithdrawing range pass rows before replicas know.old marks.now
-        → IsWithdrawing range pass rows before replicas know.new [] }
+    ensures back { (range : a_range.Range) (pass : ℕ) (before : Knowledge)
+        (replicas : List a_replica.SlotLeaf) → IsWithdrawing range pass before replicas know.old marks.now
+        → IsWithdrawing range pass before replicas know.new [] }
 {
     for mark in marks {
         cancel_one(*mark, know, leaves);
@@ -233,10 +233,10 @@ fn cancel_all<N: Names, S: LeafSide<N>>(marks: &[Mark], know: &mut Know<N>, leav
 fn cancel_one<N: Names, S: LeafSide<N>>(mark: Mark, know: &mut Know<N>, leaves: &S)
     requires there { is_ready mark.fate ≡ true → mark.leaf.0 < length (leaves_in N.setting.zones) }
     requires room { is_ready mark.fate ≡ true → 0 < times_room mark.leaf know.old.purse.rooms }
-    ensures back { (range : a_range.Range) (pass : ℕ) (rows : List a_row.Row) (before : Knowledge)
+    ensures back { (range : a_range.Range) (pass : ℕ) (before : Knowledge)
         (replicas : List a_replica.SlotLeaf) (left : List a_mark.Mark)
-        → IsWithdrawing range pass rows before replicas know.old (mark ∷ left)
-        → IsWithdrawing range pass rows before replicas know.new left }
+        → IsWithdrawing range pass before replicas know.old (mark ∷ left)
+        → IsWithdrawing range pass before replicas know.new left }
 {
     if mark.is_ready() {
         leaves.cancel(mark.leaf, know);

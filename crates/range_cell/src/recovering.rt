@@ -1,4 +1,4 @@
-// How a replica of a range is opened on one leaf more, with the rows of another one.
+// How a replica of a range is opened on one leaf more, with the rows that another one keeps.
 ghost use Rattle.std.specs.Prelude.{◌≡◌, ◌<◌, ◌≤◌, ◌++◌, ◌∷◌, [], length, None, Some, IfErr, IfOk, OnErr, OnOk};
 ghost use Rattle.std.specs.List.{AllByRecursion};
 ghost use Rattle.history_book.specs.declared.views.BookEntry.TheVariants as one;
@@ -7,16 +7,17 @@ ghost use Rattle.history_book.specs.Histories.{with_book_entry};
 ghost use Rattle.history_book.specs.Seats.{after_append, guest_purse, hand_of, times_range};
 ghost use Rattle.know.specs.Sound.{IsSound};
 ghost use Rattle.mon_topo.specs.HeldHistories.{first_range_history, BeginsWith};
-ghost use Rattle.mon_topo.specs.RangeHistories.{IsInZoneOf, acknowledged_rows, serving};
+ghost use Rattle.mon_topo.specs.RangeHistories.{IsInZoneOf, left_rows, serving};
 ghost use Rattle.mon_topo.specs.Zones.{leaves_in, ranges_in};
-ghost use Rattle.mon_value.specs.Histories.{range_history};
+ghost use Rattle.mon_value.specs.Histories.{leaf_history, range_history};
+ghost use Rattle.mon_value.specs.LeafHistories.{kept_rows};
 ghost use Rattle.mon_value.specs.declared.histories.RangeEntry.TheVariants as entry;
 ghost use Rattle.owners.specs.Puts.{pass_of};
 ghost use Rattle.range_cell.specs.Calls.{HasBegun, HasEntered, HasMetRange, MayEnter};
 ghost use Rattle.range_cell.specs.Copying.{IsHolding};
 ghost use Rattle.range_cell.specs.Recoveries.{HasEndedSo, HasEndedThere, HasNotCopied, HasRecovered, IsDeniedAs};
 ghost use Rattle.range_cell.specs.Recoveries.{HasSource, IsLooking, after_copying};
-ghost use Rattle.range_cell.specs.Rest.{HaveJust, IsRangeAtRest, IsRangeHeld};
+ghost use Rattle.range_cell.specs.Rest.{IsRangeAtRest, IsRangeHeld};
 ghost use Rattle.write_core.specs.CopySteps.{next_slot};
 ghost use Rattle.write_core.specs.Recovering.{denial_of};
 ghost use Rattle.write_core.specs.Replays.{HasReplicaRoom};
@@ -119,7 +120,7 @@ impl<N: Names> RangeDesk<N> {
         }
     }
 
-    // The rows of the first of these replicas whose leaf is up.
+    // The rows that the first of these replicas keeps whose leaf is up.
     fn copied<S: LeafSide<N>>(
         &self,
         alloc: Global,
@@ -131,8 +132,9 @@ impl<N: Names> RangeDesk<N> {
         requires serve { sources.now ≡ serving self.now.replay.history }
         requires there { AllByRecursion (λ source. source.leaf.0 < length (leaves_in N.setting.zones)) sources.now }
         requires held { 0 < times_range range know.old.purse.holds }
-        requires just { HaveJust know.old.seen range self.now.replay.history }
-        ensures rows { IfOk result (λ rows. rows ≡ acknowledged_rows self.now.replay.history) }
+        requires kept { AllByRecursion (λ source. kept_rows range source.slot (leaf_history know.old.seen source.leaf)
+            ≡ left_rows self.now.replay.history) sources.now }
+        ensures rows { IfOk result (λ rows. rows ≡ left_rows self.now.replay.history) }
         ensures some { OnOk result (0 < length sources.now) }
         ensures source { OnOk result (HasSource know.old know.new (serving self.now.replay.history)) }
         ensures copied { OnOk result
@@ -174,7 +176,7 @@ impl<N: Names> RangeDesk<N> {
         requires held { IsRangeHeld self.old.owner.range.0 self.old.replay self.old.owner }
         requires range { range ≡ self.old.owner.range }
         requires room { HasReplicaRoom self.old.replay }
-        requires rows { rows ≡ acknowledged_rows self.old.replay.history }
+        requires rows { rows ≡ left_rows self.old.replay.history }
         requires some { 0 < length (serving self.old.replay.history) }
         requires holding { IsHolding N.setting range leaf self.old.replay.history know.old }
         ensures rest { IsRangeAtRest self.old.owner.range.0 self.new.replay self.new.owner }

@@ -37,7 +37,7 @@ pub trait LeafSide<N: Names> {
         requires room { 0 < times_room leaf know.old.purse.rooms }
         ensures cancelled { HasLooked leaf (without_one leaf know.old.purse.rooms) know.old know.new };
 
-    /// The rows of a replica in the whole history of its leaf, where that is up. They are handed out.
+    /// The rows that a replica keeps in the whole history of its leaf, where that is up. They are handed out.
     fn copy(
         &self,
         leaf: Leaf,

@@ -1,2 +1,3 @@
+mod HidingLemmas
 mod PlaceLemmas
 mod StopLemmas

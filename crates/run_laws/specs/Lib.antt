@@ -1,2 +1,3 @@
+pub mod Hidings
 pub mod Places
 pub mod Stops

@@ -1,4 +1,5 @@
-// What a run says of where its lines stand, and how it ended before its last line.
+// What a run says of where its lines stand, of which rows its tables stand on, and how it ended before its last line.
+ghost use Rattle.run_laws.specs.Hidings.{NoRowIsHidden};
 ghost use Rattle.run_laws.specs.Places.{PlacesAreExact};
 ghost use Rattle.run_laws.specs.Stops.{FilesTooLong, ReadsFailed};
 
@@ -6,6 +7,11 @@ ghost use Rattle.run_laws.specs.Stops.{FilesTooLong, ReadsFailed};
 /// of each history are one: what it says holds at just that length, and not only at some length of a range.
 pub fn places_are_exact()
     ensures exact { PlacesAreExact }
+{}
+
+/// No line of a script trims a range, so a table stands on each row that its line had seen accepted.
+pub fn no_row_is_hidden()
+    ensures stands { NoRowIsHidden }
 {}
 
 /// Where the status is 4, the last file that was asked for could not be read, and the text says so at its end.

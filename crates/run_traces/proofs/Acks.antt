@@ -126,6 +126,10 @@ one_kept n (one.Range (range_entry.Acked pass row ack)) es true is =
 one_kept n (one.Range (range_entry.Acked pass row ack)) es false is =
     ap (λ b. cond b (row ∷ []) [] ++ flat_map book_row (filter (λ x. nat_eq (book_entry_pass x) n) es))
     (sym (same_back n pass ∙ is))
+one_kept n (one.Range (range_entry.Trimmed pass before ack)) es true is = refl
+one_kept n (one.Range (range_entry.Trimmed pass before ack)) es false is = refl
+one_kept n (one.Range (range_entry.Retired pass slot)) es true is = refl
+one_kept n (one.Range (range_entry.Retired pass slot)) es false is = refl
 
 kept_acked : (n : ℕ) (es : List BookEntry)
     → flat_map book_row (filter (λ x. nat_eq (book_entry_pass x) n) es) ≡ flat_map (book_acked n) es

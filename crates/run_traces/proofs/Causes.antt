@@ -124,9 +124,12 @@ fed_more pass some rows more (one.Leaf (entry.Opened by range slot held)) is = i
 fed_more pass some rows more (one.Leaf (entry.Put by range slot row)) is =
     let two = and_parts (nat_eq by pass) (list_any (is_row row) some) is in
     and_from (nat_eq by pass) (list_any (is_row row) rows) two.0 (more row two.1)
+fed_more pass some rows more (one.Leaf (entry.Trim by range slot before)) is = is
 fed_more pass some rows more (one.Leaf (entry.Down by)) is = is
 fed_more pass some rows more (one.Leaf (entry.Up by)) is = is
 fed_more pass some rows more (one.Range (range_entry.Opened by slot leaf)) is = is
+fed_more pass some rows more (one.Range (range_entry.Trimmed by before ack)) is = is
+fed_more pass some rows more (one.Range (range_entry.Retired by slot)) is = is
 fed_more pass some rows more (one.Range (range_entry.Acked by row ack)) is =
     let two = and_parts (nat_eq by pass) (list_any (is_row row) some) is in
     and_from (nat_eq by pass) (list_any (is_row row) rows) two.0 (more row two.1)

@@ -121,6 +121,8 @@ opening_tells recovery slot h (one.Range (range_entry.Opened by place on)) is = 
 opening_tells recovery slot (of.Leaf leaf) (one.Range (range_entry.Acked by row ack)) is = absurd (false≢true is)
 opening_tells recovery slot (of.Range range) (one.Range (range_entry.Acked by row ack)) is =
     absurd (false≢true (and_parts (same_range recovery.range range) false is).1)
+opening_tells recovery slot h (one.Range (range_entry.Trimmed by before ack)) is = refl
+opening_tells recovery slot h (one.Range (range_entry.Retired by place)) is = refl
 
 recovered_tells : (recovery : Option Recovery) (slot : Slot) (h : History) (e : BookEntry)
     → recovers recovery slot h e ≡ true → book_row e ≡ []
@@ -138,7 +140,7 @@ pub done_tells : (config : Config) (what : LineForm) (done : ControlDone) (h : H
 done_tells config what (did.Switched cut) h made makes = switch_tells what h (made h) (makes.own h)
 done_tells config what (did.Recovered slot) h made makes = recovery_tells what slot h (made h) (makes h)
 
--- ---- and puts nothing
+-- ---- and puts and trims nothing
 
 unpaired_switch : (made : History → List BookEntry) (switch : Option Switch) (h : History) (e : BookEntry)
     → switches switch h e ≡ true → HasItsAck made e
@@ -149,6 +151,7 @@ unpaired_switch made (Some switch) h e is =
     by : (e : BookEntry) → goes switch.down e ≡ true → HasItsAck made e
     by (one.Leaf (entry.Opened pass range slot rows)) is = tt
     by (one.Leaf (entry.Put pass range slot row)) is = absurd (false≢true is)
+    by (one.Leaf (entry.Trim pass range slot before)) is = absurd (false≢true is)
     by (one.Leaf (entry.Down pass)) is = tt
     by (one.Leaf (entry.Up pass)) is = tt
     by (one.Range e) is = tt
@@ -161,6 +164,11 @@ unpaired_opening made (Some recovery) slot (of.Leaf leaf) (one.Leaf (entry.Put p
     absurd (false≢true (and_parts (same_leaf recovery.leaf leaf)
     (opens_here recovery.range slot (entry.Put pass range other row)) is).1)
 unpaired_opening made (Some recovery) slot (of.Range range) (one.Leaf (entry.Put pass on other row)) is =
+    absurd (false≢true is)
+unpaired_opening made (Some recovery) slot (of.Leaf leaf) (one.Leaf (entry.Trim pass range other before)) is =
+    absurd (false≢true (and_parts (same_leaf recovery.leaf leaf)
+    (opens_here recovery.range slot (entry.Trim pass range other before)) is).1)
+unpaired_opening made (Some recovery) slot (of.Range range) (one.Leaf (entry.Trim pass on other before)) is =
     absurd (false≢true is)
 unpaired_opening made (Some recovery) slot h (one.Leaf (entry.Down pass)) is = tt
 unpaired_opening made (Some recovery) slot h (one.Leaf (entry.Up pass)) is = tt

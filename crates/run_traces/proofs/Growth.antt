@@ -26,7 +26,7 @@ use Rattle.typed_trees.specs.Meaning.{load}
 use Rattle.typed_trees.specs.Nodes.{TypedTree}
 use Rattle.typed_trees.specs.declared.plans.Plan.{Plan}
 use Rattle.query_traces.specs.Founds.{IsFoundBetween}
-use Rattle.query_traces.specs.Traces.{AreWider, IsFreshSince, IsReadRightly, IsTraceBetween, Lengths, source_of}
+use Rattle.query_traces.specs.Traces.{AreWider, IsFreshBetween, IsReadRightly, IsTraceBetween, Lengths, source_of}
 use Rattle.query_traces.specs.declared.answers.Trace.{Trace}
 use Rattle.query_texts.specs.TextTypes.{plan_type, text_type}
 use Rattle.run_theory.specs.Parts.{AreBelow, GoesOn, GrowAlong, IsWithin, Part}
@@ -82,7 +82,7 @@ module _ (widen : (typed : TypedTree) (moment : ℤ) (from to earlier later : Le
     → source_of more trace ≡ source_of seen trace)
     (freshen : (typed : TypedTree) (moment : ℤ) (from to earlier later : Lengths) (seen more : Histories)
     (trace : Trace) → AreWider from to earlier later seen more → IsTraceBetween typed moment from to seen trace
-    → IsFreshSince from seen trace → IsFreshSince earlier more trace)
+    → IsFreshBetween from to seen trace → IsFreshBetween earlier later more trace)
     (reread : (typed : TypedTree) (moment : ℤ) (from to earlier later : Lengths) (seen more : Histories)
     (trace : Trace) (plan : Plan) (buckets_of : SeriesKey → List ℕ) (leaf : Leaf)
     → AreWider from to earlier later seen more → IsTraceBetween typed moment from to seen trace

@@ -73,6 +73,19 @@ module _ {X : Type 0} (P : X → Type 0) where
   rest_kept p x xs true all = all.1
   rest_kept p x xs false all = all
 
+  kept_as : (Q : X → Type 0) (p : X → Bool) → ((x : X) → p x ≡ true → P x → Q x) → (x : X) (xs : List X) (b : Bool)
+      → p x ≡ b → (AllByRecursion P (filter p xs) → AllByRecursion Q (filter p xs))
+      → AllByRecursion P (cond b (x ∷ filter p xs) (filter p xs))
+      → AllByRecursion Q (cond b (x ∷ filter p xs) (filter p xs))
+  kept_as Q p f x xs true is rest all = (f x is all.0, rest all.1)
+  kept_as Q p f x xs false is rest all = rest all
+
+  -- what is so of all that passes a test, and what follows of it where something passes
+  pub all_kept_as : (Q : X → Type 0) (p : X → Bool) → ((x : X) → p x ≡ true → P x → Q x) → (xs : List X)
+      → AllByRecursion P (filter p xs) → AllByRecursion Q (filter p xs)
+  all_kept_as Q p f [] all = tt
+  all_kept_as Q p f (x ∷ xs) all = kept_as Q p f x xs (p x) refl (all_kept_as Q p f xs) all
+
   -- where each item passes some of many tests, and of each of these all that pass are so, all are so
   pub all_by_tests : {T : Type 0} (passes : T → X → Bool) (may : T → Type 0) (xs : List X)
       → AllByRecursion (λ x. (t : T) × may t × (passes t x ≡ true)) xs

@@ -11,13 +11,14 @@ use Rattle.history_book.specs.declared.views.History.{History}
 use Rattle.history_book.specs.declared.views.History.TheVariants as of
 use Rattle.mon_config.specs.declared.config.Config.{Config}
 use Rattle.mon_topo.specs.HeldHistories.{first_histories, first_leaf_history, first_range_history, opened_here}
-use Rattle.mon_topo.specs.HeldHistories.{openings_from, opened_of, opening, AreHeld}
+use Rattle.mon_topo.specs.HeldHistories.{openings_from, opened_of, opening, slot_numbered, AreHeld}
 use Rattle.mon_topo.specs.Zones.{first_replicas, leaves_in, ranges_in}
 use Rattle.mon_topo.specs.declared.zones.ZoneSpec.{ZoneSpec}
 use Rattle.mon_value.specs.Histories.{leaf_history, range_history, leaf_numbered, range_numbered, same_leaf}
 use Rattle.mon_value.specs.declared.histories.Entry.{Entry}
 use Rattle.mon_value.specs.declared.histories.Histories.{Histories}
 use Rattle.mon_value.specs.declared.histories.RangeEntry.{RangeEntry}
+use Rattle.mon_value.specs.declared.histories.RangeEntry.TheVariants as range_entry
 use Rattle.mon_value.specs.declared.positions.Leaf.{Leaf}
 use Rattle.mon_value.specs.declared.positions.Range.{Range}
 use Rattle.mon_value.specs.declared.rows.Row.{Row}
@@ -226,33 +227,9 @@ module _ (config : Config) (ended : Histories)
 
 -- ---- what stands there at first
 
--- it is none of a feed
-abbrev IsOpening : BookEntry → Type 0
-IsOpening e = (pass : ℕ) (rows : List Row) → is_fed pass rows e ≡ false
-
-abbrev LeafOpens : List Entry → Type 0
-LeafOpens = AllByRecursion (λ e. IsOpening (one.Leaf e))
-
-abbrev RangeOpens : List RangeEntry → Type 0
-RangeOpens = AllByRecursion (λ e. IsOpening (one.Range e))
-
-ranges_open : (k : ℕ) (leaves : List Leaf) → RangeOpens (openings_from k leaves)
-ranges_open k [] = tt
-ranges_open k (leaf ∷ leaves) = ((λ pass rows. refl), ranges_open (k + 1) leaves)
-
-opened_if : (b : Bool) (range : Range) (k : ℕ) → LeafOpens (if b then opening range k ∷ [] else [])
-opened_if true range k = ((λ pass rows. refl), tt)
-opened_if false range k = tt
-
-leaves_open : (leaf : Leaf) (range : Range) (k : ℕ) (leaves : List Leaf) → LeafOpens (opened_here leaf range k leaves)
-leaves_open leaf range k [] = tt
-leaves_open leaf range k (other ∷ leaves) =
-    both_all (λ e. IsOpening (one.Leaf e)) (if same_leaf leaf other then opening range k ∷ [] else [])
-    (opened_here leaf range (k + 1) leaves) (opened_if (same_leaf leaf other) range k)
-    (leaves_open leaf range (k + 1) leaves)
-
 module _ {X Y : Type 0} (P : Y → Type 0) where
-  all_flat : (f : X → List Y) → ((x : X) → AllByRecursion P (f x)) → (xs : List X) → AllByRecursion P (flat_map f xs)
+  pub all_flat : (f : X → List Y) → ((x : X) → AllByRecursion P (f x)) → (xs : List X)
+      → AllByRecursion P (flat_map f xs)
   all_flat f each [] = tt
   all_flat f each (x ∷ xs) = both_all P (f x) (flat_map f xs) (each x) (all_flat f each xs)
 
@@ -263,23 +240,54 @@ module _ {X Y : Type 0} (P : Y → Type 0) where
   all_chosen f each (x ∷ xs) zero = each x
   all_chosen f each (x ∷ xs) (suc i) = all_chosen f each xs i
 
-all_seen : {X : Type 0} (f : X → BookEntry) (xs : List X) → AllByRecursion (λ x. IsOpening (f x)) xs
-    → AllByRecursion IsOpening (map f xs)
-all_seen f [] all = tt
-all_seen f (x ∷ xs) all = (all.0, all_seen f xs all.1)
+-- what holds of each entry that opens a replica without rows
+module _ (P : BookEntry → Type 0) (on_leaf : (range : Range) (k : ℕ) → P (one.Leaf (opening range k)))
+    (in_range : (k : ℕ) (leaf : Leaf) → P (one.Range (range_entry.Opened 0 (slot_numbered k) leaf))) where
+  abbrev LeafOpens : List Entry → Type 0
+  LeafOpens = AllByRecursion (λ e. P (one.Leaf e))
 
-pub firsts_open : (zones : List ZoneSpec) (h : History) → AllByRecursion IsOpening (entries (first_histories zones) h)
-firsts_open zones (of.Leaf leaf) = all_seen (λ e. one.Leaf e) (leaf_history (first_histories zones) leaf)
-    (all_chosen (λ e. IsOpening (one.Leaf e)) (first_leaf_history zones)
-    (λ n. all_flat (λ e. IsOpening (one.Leaf e)) (opened_of zones (leaf_numbered n))
-    (λ range. leaves_open (leaf_numbered n) (range_numbered range) 0 (first_replicas zones range))
-    (range_with_len 0 (length (ranges_in zones))))
-    (range_with_len 0 (length (leaves_in zones))) leaf.0)
-firsts_open zones (of.Range range) = all_seen (λ e. one.Range e) (range_history (first_histories zones) range)
-    (all_chosen (λ e. IsOpening (one.Range e)) (first_range_history zones)
-    (λ n. ranges_open 0 (first_replicas zones n)) (range_with_len 0 (length (ranges_in zones))) range.0)
+  abbrev RangeOpens : List RangeEntry → Type 0
+  RangeOpens = AllByRecursion (λ e. P (one.Range e))
 
-in_front : {X : Type 0} (P : X → Type 0) (front rest : List X) (k : ℕ) (x : X) → AllByRecursion P front
+  ranges_open : (k : ℕ) (leaves : List Leaf) → RangeOpens (openings_from k leaves)
+  ranges_open k [] = tt
+  ranges_open k (leaf ∷ leaves) = (in_range k leaf, ranges_open (k + 1) leaves)
+
+  opened_if : (b : Bool) (range : Range) (k : ℕ) → LeafOpens (if b then opening range k ∷ [] else [])
+  opened_if true range k = (on_leaf range k, tt)
+  opened_if false range k = tt
+
+  leaves_open : (leaf : Leaf) (range : Range) (k : ℕ) (leaves : List Leaf) → LeafOpens (opened_here leaf range k leaves)
+  leaves_open leaf range k [] = tt
+  leaves_open leaf range k (other ∷ leaves) =
+      both_all (λ e. P (one.Leaf e)) (if same_leaf leaf other then opening range k ∷ [] else [])
+      (opened_here leaf range (k + 1) leaves) (opened_if (same_leaf leaf other) range k)
+      (leaves_open leaf range (k + 1) leaves)
+
+  all_seen : {X : Type 0} (f : X → BookEntry) (xs : List X) → AllByRecursion (λ x. P (f x)) xs
+      → AllByRecursion P (map f xs)
+  all_seen f [] all = tt
+  all_seen f (x ∷ xs) all = (all.0, all_seen f xs all.1)
+
+  pub all_first : (zones : List ZoneSpec) (h : History) → AllByRecursion P (entries (first_histories zones) h)
+  all_first zones (of.Leaf leaf) = all_seen (λ e. one.Leaf e) (leaf_history (first_histories zones) leaf)
+      (all_chosen (λ e. P (one.Leaf e)) (first_leaf_history zones)
+      (λ n. all_flat (λ e. P (one.Leaf e)) (opened_of zones (leaf_numbered n))
+      (λ range. leaves_open (leaf_numbered n) (range_numbered range) 0 (first_replicas zones range))
+      (range_with_len 0 (length (ranges_in zones))))
+      (range_with_len 0 (length (leaves_in zones))) leaf.0)
+  all_first zones (of.Range range) = all_seen (λ e. one.Range e) (range_history (first_histories zones) range)
+      (all_chosen (λ e. P (one.Range e)) (first_range_history zones)
+      (λ n. ranges_open 0 (first_replicas zones n)) (range_with_len 0 (length (ranges_in zones))) range.0)
+
+-- it is none of a feed
+abbrev IsOpening : BookEntry → Type 0
+IsOpening e = (pass : ℕ) (rows : List Row) → is_fed pass rows e ≡ false
+
+firsts_open : (zones : List ZoneSpec) (h : History) → AllByRecursion IsOpening (entries (first_histories zones) h)
+firsts_open = all_first IsOpening (λ range k pass rows. refl) (λ k leaf pass rows. refl)
+
+pub in_front : {X : Type 0} (P : X → Type 0) (front rest : List X) (k : ℕ) (x : X) → AllByRecursion P front
     → slice_get (front ++ rest) k ≡ Some x → k < length front → P x
 in_front P [] rest k x all there less = absurd (omega arith)
 in_front P (y ∷ front) rest zero x all there less = let same : y ≡ x = cc in subst P same all.0

@@ -1,4 +1,4 @@
--- Each put of a line is of a row that is acknowledged, as one that the put's slot took.
+-- Each put and each trim of a line is of a row or a bound that is acknowledged, as one that its slot took.
 use Rattle.std.proofs.Common.{◌≡◌, ◌∙◌, ℕ, nat_eq, true, List, take, drop, slice_get, Some, ap, subst, sym}
 use Rattle.std.specs.Prelude.{Contains}
 use Rattle.std.proofs.lemmas.Bool.{false≢true}
@@ -10,9 +10,10 @@ use Rattle.history_book.specs.declared.views.BookEntry.TheVariants as one
 use Rattle.history_book.specs.declared.views.History.{History}
 use Rattle.history_book.specs.declared.views.History.TheVariants as of
 use Rattle.mon_config.specs.declared.config.Config.{Config}
+use Rattle.mon_topo.specs.RangeHistories.{turn_ack}
+use Rattle.mon_value.specs.Turns.{Adds, Hides}
 use Rattle.mon_value.specs.declared.histories.Entry.TheVariants as entry
 use Rattle.mon_value.specs.declared.histories.Histories.{Histories}
-use Rattle.mon_value.specs.declared.histories.RangeEntry.TheVariants as range_entry
 use Rattle.mon_value.specs.declared.rows.Row.{Row}
 use Rattle.run_theory.specs.Parts.{between}
 use Rattle.run_theory.proofs.Stands.{between_stands, kept_stands, same_to}
@@ -37,7 +38,12 @@ pub among_all : (made all : History → List BookEntry)
 among_all made all of_all (one.Leaf (entry.Opened pass range slot rows)) h = h
 among_all made all of_all (one.Leaf (entry.Put pass range slot row)) h = record {
   ack = h.ack;
-  told = of_all (of.Range range) (one.Range (range_entry.Acked pass row h.ack)) h.told;
+  told = of_all (of.Range range) (one.Range (turn_ack pass (Adds row) h.ack)) h.told;
+  took = h.took;
+}
+among_all made all of_all (one.Leaf (entry.Trim pass range slot before)) h = record {
+  ack = h.ack;
+  told = of_all (of.Range range) (one.Range (turn_ack pass (Hides before) h.ack)) h.told;
   took = h.took;
 }
 among_all made all of_all (one.Leaf (entry.Down pass)) h = h

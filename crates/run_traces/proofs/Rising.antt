@@ -25,7 +25,7 @@ use Rattle.typed_trees.specs.Meaning.{meaning}
 use Rattle.typed_trees.specs.Nodes.{TypedTree, columns_of}
 use Rattle.typed_trees.specs.declared.plans.Plan.{Plan}
 use Rattle.query_traces.specs.Founds.{IsFoundBetween}
-use Rattle.query_traces.specs.Traces.{AreWider, IsBetween, IsFreshSince, IsReadRightly, IsTraceBetween, Lengths}
+use Rattle.query_traces.specs.Traces.{AreWider, IsBetween, IsFreshBetween, IsReadRightly, IsTraceBetween, Lengths}
 use Rattle.query_traces.specs.Traces.{source_of}
 use Rattle.query_traces.specs.declared.answers.Trace.{Trace}
 use Rattle.query_texts.specs.TextTypes.{text_type}
@@ -85,7 +85,7 @@ module _ (widen : (typed : TypedTree) (moment : ℤ) (from to earlier later : Le
     → source_of more trace ≡ source_of seen trace)
     (freshen : (typed : TypedTree) (moment : ℤ) (from to earlier later : Lengths) (seen more : Histories)
     (trace : Trace) → AreWider from to earlier later seen more → IsTraceBetween typed moment from to seen trace
-    → IsFreshSince from seen trace → IsFreshSince earlier more trace)
+    → IsFreshBetween from to seen trace → IsFreshBetween earlier later more trace)
     (reread : (typed : TypedTree) (moment : ℤ) (from to earlier later : Lengths) (seen more : Histories)
     (trace : Trace) (plan : Plan) (buckets_of : SeriesKey → List ℕ) (leaf : Leaf)
     → AreWider from to earlier later seen more → IsTraceBetween typed moment from to seen trace

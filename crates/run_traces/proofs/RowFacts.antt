@@ -1,5 +1,5 @@
 -- The rows that a feed accepted, among those that were acknowledged where it ran.
-use Rattle.std.proofs.Common.{◌≡◌, ℕ, zero, suc, ◌≤◌, nat_eq, true, List, [], ◌∷◌, ◌++◌}
+use Rattle.std.proofs.Common.{◌≡◌, ℕ, zero, suc, ◌≤◌, nat_eq, true, false, List, [], ◌∷◌, ◌++◌, Some, None}
 use Rattle.std.proofs.Common.{map, filter, take, refl, sym, ap, ◌∙◌, subst, arith}
 use Rattle.std.specs.List.{AllByRecursion, flat_map, list_any}
 use Rattle.std.specs.Ordering.{int_eq}
@@ -10,10 +10,11 @@ use Rattle.history_book.specs.declared.views.BookEntry.{BookEntry}
 use Rattle.history_book.specs.declared.views.BookEntry.TheVariants as one
 use Rattle.history_book.specs.declared.views.History.{History}
 use Rattle.history_book.specs.declared.views.History.TheVariants as of
+use Rattle.mon_config.specs.Configs.{range_of_key}
 use Rattle.mon_config.specs.declared.config.Config.{Config}
 use Rattle.mon_topo.specs.RangeHistories.{acked_row, acknowledged_rows}
 use Rattle.mon_value.proofs.SameLemmas.{same_series-Decides}
-use Rattle.mon_value.specs.Histories.{range_history}
+use Rattle.mon_value.specs.Histories.{range_history, same_range}
 use Rattle.mon_value.specs.Same.{same_series}
 use Rattle.mon_value.specs.declared.histories.Entry.TheVariants as entry
 use Rattle.mon_value.specs.declared.histories.Histories.{Histories}
@@ -80,6 +81,15 @@ pub lies_as : (config : Config) (range : Range) (row other : Row) → row.key �
 lies_as config range row other e =
     ap (λ (key : SeriesKey). lies_in config range (record { key = key; point = row.point })) e
 
+-- a row lies in the range that its target has
+pub lies_by : (config : Config) (range : Range) (row : Row) (other : Range) → range_of_key config row.key ≡ Some other
+    → lies_in config range row ≡ same_range range other
+lies_by config range row other is = rw is refl
+
+pub lies_nowhere : (config : Config) (range : Range) (row : Row) → range_of_key config row.key ≡ None
+    → lies_in config range row ≡ false
+lies_nowhere config range row is = rw is refl
+
 -- ---- entries
 
 -- the row of an entry that is told to be a feed's
@@ -91,12 +101,15 @@ module _ (pass : ℕ) (accepted : List Row) (C : Type 0) where
   fed_row (one.Leaf (entry.Put by range slot row)) is use_it =
       use_it row (and_parts (nat_eq by pass) (list_any (is_row row) accepted) is).1
       (λ other rows fed. (and_parts (nat_eq by other) (list_any (is_row row) rows) fed).1)
+  fed_row (one.Leaf (entry.Trim by range slot before)) is use_it = absurd (false≢true is)
   fed_row (one.Leaf (entry.Down by)) is use_it = absurd (false≢true is)
   fed_row (one.Leaf (entry.Up by)) is use_it = absurd (false≢true is)
   fed_row (one.Range (range_entry.Opened by slot leaf)) is use_it = absurd (false≢true is)
   fed_row (one.Range (range_entry.Acked by row ack)) is use_it =
       use_it row (and_parts (nat_eq by pass) (list_any (is_row row) accepted) is).1
       (λ other rows fed. (and_parts (nat_eq by other) (list_any (is_row row) rows) fed).1)
+  fed_row (one.Range (range_entry.Trimmed by before ack)) is use_it = absurd (false≢true is)
+  fed_row (one.Range (range_entry.Retired by slot)) is use_it = absurd (false≢true is)
 
 -- and its number
 pub fed_pass : (pass : ℕ) (accepted : List Row) (e : BookEntry) → is_fed pass accepted e ≡ true
@@ -104,8 +117,11 @@ pub fed_pass : (pass : ℕ) (accepted : List Row) (e : BookEntry) → is_fed pas
 fed_pass pass accepted (one.Leaf (entry.Opened by range slot held)) is = absurd (false≢true is)
 fed_pass pass accepted (one.Leaf (entry.Put by range slot row)) is =
     eqb-true by pass (and_parts (nat_eq by pass) (list_any (is_row row) accepted) is).0
+fed_pass pass accepted (one.Leaf (entry.Trim by range slot before)) is = absurd (false≢true is)
 fed_pass pass accepted (one.Leaf (entry.Down by)) is = absurd (false≢true is)
 fed_pass pass accepted (one.Leaf (entry.Up by)) is = absurd (false≢true is)
 fed_pass pass accepted (one.Range (range_entry.Opened by slot leaf)) is = absurd (false≢true is)
 fed_pass pass accepted (one.Range (range_entry.Acked by row ack)) is =
     eqb-true by pass (and_parts (nat_eq by pass) (list_any (is_row row) accepted) is).0
+fed_pass pass accepted (one.Range (range_entry.Trimmed by before ack)) is = absurd (false≢true is)
+fed_pass pass accepted (one.Range (range_entry.Retired by slot)) is = absurd (false≢true is)

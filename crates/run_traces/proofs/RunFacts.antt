@@ -1,16 +1,20 @@
 -- What holds of each line of a run, by what it made and found where it ran.
-use Rattle.std.proofs.Common.{◌≡◌, ℕ, suc, ◌<◌, ◌≤◌, nat_le, Bool, true, false, cond, List, []}
-use Rattle.std.proofs.Common.{◌∷◌, ◌++◌, length, map, take, refl, ap, arith}
-use Rattle.std.specs.Prelude.{ℤ, Contains}
+use Rattle.std.proofs.Common.{◌≡◌, ℕ, suc, ◌<◌, ◌≤◌, nat_le, Bool, true, false, cond, List, [], Option, Some, None}
+use Rattle.std.proofs.Common.{◌∷◌, ◌++◌, length, map, take, refl, sym, ap, ◌∙◌, subst, arith}
+use Rattle.std.specs.Prelude.{ℤ}
 use Rattle.std.specs.List.{AllByRecursion}
+use Rattle.std.proofs.lemmas.Bool.{false≢true}
 use Rattle.std.proofs.lemmas.List.{take_all}
 use Rattle.history_book.specs.Histories.{book_entry_pass, entries}
 use Rattle.history_book.specs.declared.views.BookEntry.TheVariants as one
 use Rattle.history_book.specs.declared.views.History.{History}
 use Rattle.history_book.specs.declared.views.History.TheVariants as of
+use Rattle.mon_config.specs.Configs.{range_of_key}
 use Rattle.mon_config.specs.declared.config.Config.{Config}
 use Rattle.mon_topo.specs.RangeHistories.{acknowledged_rows}
+use Rattle.mon_value.proofs.LeafHistoryLemmas.{ranges_same}
 use Rattle.mon_value.specs.Histories.{leaf_history, range_history}
+use Rattle.mon_value.specs.Turns.{StandsOrIsHidden}
 use Rattle.mon_value.specs.declared.histories.Histories.{Histories}
 use Rattle.mon_value.specs.declared.positions.FoundDown.{FoundDown}
 use Rattle.mon_value.specs.declared.positions.Leaf.{Leaf}
@@ -18,7 +22,8 @@ use Rattle.mon_value.specs.declared.positions.Range.{Range}
 use Rattle.mon_value.specs.declared.rows.Row.{Row}
 use Rattle.typed_trees.specs.Nodes.{TypedTree}
 use Rattle.query_traces.specs.Founds.{IsFoundBetween}
-use Rattle.query_traces.specs.Traces.{AreWider, IsBetween, IsTraceBetween, Lengths, source_of}
+use Rattle.query_traces.specs.Traces.{AreWider, IsBetween, IsFreshBetween, IsTraceBetween, Lengths, source_of}
+use Rattle.query_traces.specs.Traces.{turns_over}
 use Rattle.query_traces.specs.declared.answers.Trace.{Trace}
 use Rattle.run_theory.specs.InPlace.{FoundThere, RanInPlace}
 use Rattle.run_theory.specs.InPlace as theory
@@ -27,13 +32,13 @@ use Rattle.run_traces.specs.LineAsks.{text_of}
 use Rattle.run_traces.specs.LineClaims.{AreNew, FeedMade, Finds, HasFound, HasMade, HasRange, LookFound, Makes, marked}
 use Rattle.run_traces.specs.LineFeeds.{lies_in}
 use Rattle.run_traces.specs.LineTables.{CutsRise, HoldsRows, LineIsFresh, cuts_named, IsLookedAt, IsRead, LineIsRead, IsTabled}
-use Rattle.run_traces.specs.LineTables.{LineIsPlaced, LineIsTabled}
+use Rattle.run_traces.specs.LineTables.{LineIsPlaced, LineIsTabled, StandsOnRows, turns_for}
 use Rattle.run_traces.specs.LineSwitches.{LineStands, first_length, high, highs, is_entry_of, low, lows}
 use Rattle.run_traces.specs.RanLines.{RanLine, accepted_rows, trace_rows}
 use Rattle.run_traces.specs.declared.traces.LineTrace.{LineTrace}
 use Rattle.run_traces.specs.declared.traces.LineTrace.TheVariants as came
-use Rattle.run_traces.proofs.ListFacts.{all_as, all_by_tests}
-use Rattle.run_traces.proofs.RowFacts.{rows_before}
+use Rattle.run_traces.proofs.ListFacts.{all_as, all_by_tests, all_kept_as}
+use Rattle.run_traces.proofs.RowFacts.{lies_by, lies_nowhere, rows_before}
 
 -- what follows of a line in its place holds of each line
 pub each_as : {R : Type 0} (P Q : List R → List R → R → Type 0)
@@ -135,26 +140,29 @@ module _ (config : Config) (ended : Histories) where
 
     -- ---- rows
 
-    module _ (P : Row → Type 0)
-        (fresh : (range : Range) → range.0 < length ended.ranges → AllByRecursion P
+    module _ (P : Range → Row → Type 0) (Q : Row → Type 0)
+        (lying : (range : Range) (row : Row) → lies_in config range row ≡ true → P range row → Q row)
+        (fresh : (range : Range) → range.0 < length ended.ranges → AllByRecursion (P range)
         (acknowledged_rows (take (place.from (of.Range range)) (range_history ended range)))) where
       -- of those that a feed or a pour accepted
       fed_by : (other : RanLine) (pass : ℕ) (rows : List Row)
           (before : RanBefore entries book_entry_pass (Makes config) There ended place.from other)
           → FeedMade config pass rows before.ran.made → AreNew config ended before.from before.to rows
-          → AllByRecursion P rows
+          → AllByRecursion Q rows
       fed_by other pass rows before makes found =
-          all_by_tests P (lies_in config) (λ range. range.0 < length ended.ranges) rows
+          all_by_tests Q (lies_in config) (λ range. range.0 < length ended.ranges) rows
           (all_as (HasRange config ended before.from before.to)
           (λ row. (range : Range) × (range.0 < length ended.ranges) × (lies_in config range row ≡ true))
           (λ row ranged. (ranged.range, ranged.there, ranged.lies)) rows found.ranged)
-          (λ range there. rows_before config ended before.from before.to before.number pass rows before.ran.made makes
-          before.ran.exact P range (place.from (of.Range range)) (before.below (of.Range range)) (fresh range there))
+          (λ range there. all_kept_as (P range) Q (lies_in config range) (lying range) rows
+          (rows_before config ended before.from before.to before.number pass rows before.ran.made makes
+          before.ran.exact (P range) range (place.from (of.Range range)) (before.below (of.Range range))
+          (fresh range there)))
 
       rows_by : (other : RanLine) (trace : LineTrace)
           (before : RanBefore entries book_entry_pass (Makes config) There ended place.from other)
           → HasMade config before.number other.what trace before.ran.made
-          → HasFound config ended before.from before.to before.number other trace → AllByRecursion P (trace_rows trace)
+          → HasFound config ended before.from before.to before.number other trace → AllByRecursion Q (trace_rows trace)
       rows_by other (came.Fed pass rows refused) before makes found = fed_by other pass rows before makes.1 found.rows
       rows_by other (came.Poured pass ends) before makes found = fed_by other pass ends.accepted before makes.1 found.rows
       rows_by other (came.Asked moment trace) before makes found = tt
@@ -164,21 +172,37 @@ module _ (config : Config) (ended : Histories) where
       rows_by other (came.Ticked dues) before makes found = tt
       rows_by other came.Done before makes found = tt
 
-      rows_of : AllByRecursion (λ other. AllByRecursion P (accepted_rows other)) seen
+      rows_of : AllByRecursion (λ other. AllByRecursion Q (accepted_rows other)) seen
       rows_of = all_as (RanBefore entries book_entry_pass (Makes config) There ended place.from)
-          (λ other. AllByRecursion P (accepted_rows other))
+          (λ other. AllByRecursion Q (accepted_rows other))
           (λ other before. rows_by other other.trace before before.ran.makes before.ran.found.0.found) seen place.before
 
-    holds_rows : (trace : LineTrace) → HasFound config ended place.from place.to place.number line trace
-        → HoldsRows ended seen trace
-    holds_rows (came.Fed pass rows refused) found = tt
-    holds_rows (came.Poured pass ends) found = tt
-    holds_rows (came.Asked moment trace) found = rows_of (Contains (source_of ended trace)) found.fresh.rows
-    holds_rows (came.Followed moment trace) found = rows_of (Contains (source_of ended trace)) found.look.fresh.rows
-    holds_rows (came.Controlled done) found = tt
-    holds_rows (came.Refused fault) found = tt
-    holds_rows (came.Ticked dues) found = tt
-    holds_rows came.Done found = tt
+    -- a row that stands or is hidden in the range that it lies in stands or is hidden in its own
+    lying_in : (trace : Trace) (range : Range) (row : Row) → lies_in config range row ≡ true
+        → StandsOrIsHidden (source_of ended trace)
+        (turns_over ended ((highs config.topology ended later).ranges range) trace range) row
+        → StandsOrIsHidden (source_of ended trace) (turns_for config ended later trace (range_of_key config row.key)) row
+    lying_in trace range row lies stands = by (range_of_key config row.key) refl
+      where
+        by : (found : Option Range) → range_of_key config row.key ≡ found
+            → StandsOrIsHidden (source_of ended trace) (turns_for config ended later trace found) row
+        by None is = absurd (false≢true (sym (lies_nowhere config range row is) ∙ lies))
+        by (Some other) is = subst
+            (λ (r : Range). StandsOrIsHidden (source_of ended trace) (turns_for config ended later trace (Some r)) row)
+            (ranges_same range other (sym (lies_by config range row other is) ∙ lies)) stands
+
+    -- from where the line ran up to the end of its place
+    up_to_high : AreWider (marked place.from) (marked place.to) (marked place.from) (highs config.topology ended later)
+        ended ended
+    up_to_high = record {
+      sooner = record { leaves = λ leaf. omega arith; ranges = λ range. omega arith };
+      later = wider.later;
+      begun = wider.begun;
+      within = wider.within;
+      grown = wider.grown;
+      leaves = refl;
+      ranges = refl;
+    }
 
     -- ---- places
 
@@ -196,8 +220,35 @@ module _ (config : Config) (ended : Histories) where
         let p = place.ran.found.1 h k e at mine in let a = low_below h in let b = place.to_high h in
         (omega arith, omega arith)
 
-    pub is_fresh : LineIsFresh ended seen later line
-    is_fresh = (holds_rows line.trace place.ran.found.0.found, cuts_rise)
+    -- ---- freshness, by what is known of traces at later moments
+
+    module _ (freshen : (typed : TypedTree) (moment : ℤ) (from to earlier later : Lengths) (seen more : Histories)
+        (trace : Trace) → AreWider from to earlier later seen more → IsTraceBetween typed moment from to seen trace
+        → IsFreshBetween from to seen trace → IsFreshBetween earlier later more trace) where
+      stands_on_rows : (text : List ℕ) (moment : ℤ) (trace : Trace)
+          → LookFound config ended place.from place.to text moment trace → StandsOnRows config ended seen later trace
+      stands_on_rows text moment trace found = rows_of
+          (λ range. StandsOrIsHidden (source_of ended trace)
+          (turns_over ended ((highs config.topology ended later).ranges range) trace range))
+          (λ row. StandsOrIsHidden (source_of ended trace)
+          (turns_for config ended later trace (range_of_key config row.key)) row)
+          (lying_in trace)
+          (freshen found.typed moment (marked place.from) (marked place.to) (marked place.from)
+          (highs config.topology ended later) ended ended trace up_to_high found.of found.fresh).rows
+
+      holds_rows : (trace : LineTrace) → HasFound config ended place.from place.to place.number line trace
+          → HoldsRows config ended seen later trace
+      holds_rows (came.Fed pass rows refused) found = tt
+      holds_rows (came.Poured pass ends) found = tt
+      holds_rows (came.Asked moment trace) found = stands_on_rows (text_of line.what) moment trace found
+      holds_rows (came.Followed moment trace) found = stands_on_rows (text_of line.what) moment trace found.look
+      holds_rows (came.Controlled done) found = tt
+      holds_rows (came.Refused fault) found = tt
+      holds_rows (came.Ticked dues) found = tt
+      holds_rows came.Done found = tt
+
+      pub is_fresh : LineIsFresh config ended seen later line
+      is_fresh = (holds_rows line.trace place.ran.found.0.found, cuts_rise)
 
     -- ---- reads
 

@@ -166,6 +166,7 @@ module _ (range : Range) (slot : Slot) where
   opened_here (entry.Opened by other place held ∷ front) pass rows =
       or_right (same_replica range slot other place) _ (opened_here front pass rows)
   opened_here (entry.Put by other place row ∷ front) pass rows = opened_here front pass rows
+  opened_here (entry.Trim by other place before ∷ front) pass rows = opened_here front pass rows
   opened_here (entry.Down by ∷ front) pass rows = opened_here front pass rows
   opened_here (entry.Up by ∷ front) pass rows = opened_here front pass rows
 
@@ -371,6 +372,8 @@ module _ (config : Config) (ended : Histories) (from to : History → ℕ) (numb
         record { low = theirs.low; high = theirs.high; under = theirs.under }
     opened_there (of.Leaf leaf) k (one.Leaf (entry.Put by other place row)) there is =
         absurd (false≢true (and_parts (same_leaf found.recovery.leaf leaf) false is).1)
+    opened_there (of.Leaf leaf) k (one.Leaf (entry.Trim by other place before)) there is =
+        absurd (false≢true (and_parts (same_leaf found.recovery.leaf leaf) false is).1)
     opened_there (of.Leaf leaf) k (one.Leaf (entry.Down by)) there is =
         absurd (false≢true (and_parts (same_leaf found.recovery.leaf leaf) false is).1)
     opened_there (of.Leaf leaf) k (one.Leaf (entry.Up by)) there is =
@@ -389,6 +392,10 @@ module _ (config : Config) (ended : Histories) (from to : History → ℕ) (numb
         record { low = theirs.low; high = theirs.high; under = theirs.under }
     opened_there (of.Range range) k (one.Range (range_entry.Acked by row ack)) there is =
         absurd (false≢true (and_parts (same_range found.recovery.range range) false is).1)
+    opened_there (of.Range range) k (one.Range (range_entry.Trimmed by before ack)) there is =
+        absurd (false≢true (and_parts (same_range found.recovery.range range) false is).1)
+    opened_there (of.Range range) k (one.Range (range_entry.Retired by place)) there is =
+        absurd (false≢true (and_parts (same_range found.recovery.range range) false is).1)
 
     pub recovered_there : (h : History) (k : ℕ) (e : BookEntry) → slice_get (entries ended h) k ≡ Some e
         → recovers (recovery_of what) slot h e ≡ true → IsTheirs from to number h k e
@@ -401,6 +408,7 @@ module _ (pass : ℕ) (rows : List Row) where
   not_going : (down b : Bool) (e : BookEntry) → (b && goes down e) ≡ true → is_fed pass rows e ≡ true → ⊥
   not_going down b (one.Leaf (entry.Opened by range slot held)) is fed = false≢true fed
   not_going down b (one.Leaf (entry.Put by range slot row)) is fed = false≢true (and_parts b false is).1
+  not_going down b (one.Leaf (entry.Trim by range slot before)) is fed = false≢true fed
   not_going down b (one.Leaf (entry.Down by)) is fed = false≢true fed
   not_going down b (one.Leaf (entry.Up by)) is fed = false≢true fed
   not_going down b (one.Range e) is fed = false≢true (and_parts b false is).1
@@ -416,6 +424,7 @@ module _ (pass : ℕ) (rows : List Row) where
   not_opening recovery slot (of.Leaf leaf) (one.Leaf (entry.Opened by range place held)) is fed = false≢true fed
   not_opening recovery slot (of.Leaf leaf) (one.Leaf (entry.Put by range place row)) is fed =
       false≢true (and_parts (same_leaf recovery.leaf leaf) false is).1
+  not_opening recovery slot (of.Leaf leaf) (one.Leaf (entry.Trim by range place before)) is fed = false≢true fed
   not_opening recovery slot (of.Leaf leaf) (one.Leaf (entry.Down by)) is fed = false≢true fed
   not_opening recovery slot (of.Leaf leaf) (one.Leaf (entry.Up by)) is fed = false≢true fed
   not_opening recovery slot (of.Leaf leaf) (one.Range e) is fed = false≢true is
@@ -423,6 +432,8 @@ module _ (pass : ℕ) (rows : List Row) where
   not_opening recovery slot (of.Range range) (one.Range (range_entry.Opened by place on)) is fed = false≢true fed
   not_opening recovery slot (of.Range range) (one.Range (range_entry.Acked by row ack)) is fed =
       false≢true (and_parts (same_range recovery.range range) false is).1
+  not_opening recovery slot (of.Range range) (one.Range (range_entry.Trimmed by before ack)) is fed = false≢true fed
+  not_opening recovery slot (of.Range range) (one.Range (range_entry.Retired by place)) is fed = false≢true fed
 
   pub not_recovering : (recovery : _) (slot : Slot) (h : History) (e : BookEntry) → recovers recovery slot h e ≡ true
       → is_fed pass rows e ≡ true → ⊥

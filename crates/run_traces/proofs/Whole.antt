@@ -9,7 +9,7 @@ use Rattle.mon_value.specs.declared.histories.Histories.{Histories}
 use Rattle.mon_value.specs.declared.positions.FoundDown.{FoundDown}
 use Rattle.typed_trees.specs.Nodes.{TypedTree}
 use Rattle.query_traces.specs.Founds.{IsFoundBetween}
-use Rattle.query_traces.specs.Traces.{AreWider, IsTraceBetween, Lengths, source_of}
+use Rattle.query_traces.specs.Traces.{AreWider, IsFreshBetween, IsTraceBetween, Lengths, source_of}
 use Rattle.query_traces.specs.declared.answers.Trace.{Trace}
 use Rattle.run_theory.specs.Parts.{RanBehind, Each, Part, all_lines}
 use Rattle.run_theory.proofs.Marks.{all_behind}
@@ -41,6 +41,9 @@ module _ (widen : (typed : TypedTree) (moment : ℤ) (from to earlier later : Le
     (rows : (typed : TypedTree) (moment : ℤ) (from to earlier later : Lengths) (seen more : Histories) (trace : Trace)
     → AreWider from to earlier later seen more → IsTraceBetween typed moment from to seen trace
     → source_of more trace ≡ source_of seen trace)
+    (freshen : (typed : TypedTree) (moment : ℤ) (from to earlier later : Lengths) (seen more : Histories)
+    (trace : Trace) → AreWider from to earlier later seen more → IsTraceBetween typed moment from to seen trace
+    → IsFreshBetween from to seen trace → IsFreshBetween earlier later more trace)
     (config : Config) (ended : Histories) (parts : List (Part RanLine))
     (begun : AreFronts (first_histories config.topology) ended)
     (whole : Histories) (fronts : AreFronts ended whole)
@@ -62,8 +65,8 @@ module _ (widen : (typed : TypedTree) (moment : ℤ) (from to earlier later : Le
         parts ran);
     tables = each_as (InPlace config ended) (LineIsTabled config ended)
         (λ seen later line place. is_tabled config ended seen later line place widen find) [] parts places;
-    fresh = each_as (InPlace config ended) (LineIsFresh ended)
-        (λ seen later line place. is_fresh config ended seen later line place) [] parts places;
+    fresh = each_as (InPlace config ended) (LineIsFresh config ended)
+        (λ seen later line place. is_fresh config ended seen later line place freshen) [] parts places;
     placed = each_as (InPlace config ended) (LineIsPlaced config ended)
         (λ seen later line place. is_placed config ended seen later line place) [] parts places;
     read = each_as (InPlace config ended) (LineIsRead config ended)

@@ -17,13 +17,14 @@ use Rattle.mon_script.specs.declared.script.ScriptLine.{ScriptLine}
 use Rattle.standing.specs.DueLists.{standing_state}
 
 -- Each line came to what a line of its form comes to; each table stands on replicas and cuts in its place, on all that
--- had been accepted before, and on every leaf that the query wants; each accepted row is acknowledged once, under its
--- line's number, and each put is of such a row; nothing else was made; and whatever was refused has its cause in its place,
--- as has each leaf that missed a row, and each leaf that was switched and replica that was opened stands in its place
+-- had been accepted before and is not hidden by a trim, and on every leaf that the query wants; each accepted row is
+-- acknowledged once, under its line's number, and each put is of such a row; nothing else was made; and whatever was refused
+-- has its cause in its place, as has each leaf that missed a row, and each leaf that was switched and replica that was opened
+-- stands in its place
 pub record RunHolds (config : Config) (ended : Histories) (parts : List (Part RanLine)) : Type 0 where
   pub suits : AllByRecursion LineSuits (all_lines parts)
   pub tables : Each (LineIsTabled config ended) [] parts
-  pub fresh : Each (LineIsFresh ended) [] parts
+  pub fresh : Each (LineIsFresh config ended) [] parts
   pub placed : Each (LineIsPlaced config ended) [] parts
   pub read : Each (LineIsRead config ended) [] parts
   pub told : AllByRecursion (LineIsTold config) (all_lines parts)

@@ -22,7 +22,7 @@ use Rattle.mon_script.specs.declared.forms.LineForm.{LineForm}
 use Rattle.typed_trees.specs.Nodes.{TypedTree}
 use Rattle.typed_trees.specs.Meaning.{load}
 use Rattle.query_traces.specs.Founds.{IsFoundBetween}
-use Rattle.query_traces.specs.Traces.{IsBetween, IsFreshSince, IsTraceBetween, Lengths, source_of}
+use Rattle.query_traces.specs.Traces.{IsBetween, IsFreshBetween, IsTraceBetween, Lengths, source_of}
 use Rattle.query_traces.specs.declared.answers.Trace.{Trace}
 use Rattle.query_texts.specs.TextTypes.{text_type}
 use Rattle.mon_points.specs.Records.{reads_of}
@@ -159,7 +159,7 @@ module _ (config : Config) (seen : Histories) (from to : History → ℕ) where
     pub typed : TypedTree
     pub type_is : text_type config.schemas text ≡ Ok typed
     pub of : IsTraceBetween typed moment (marked from) (marked to) seen trace
-    pub fresh : IsFreshSince (marked from) seen trace
+    pub fresh : IsFreshBetween (marked from) (marked to) seen trace
     pub down : AllByRecursion (IsFoundBetween (marked from) (marked to) seen) trace.down
     pub within : load typed (source_of seen trace) moment ≤ config.limit
     pub read : IsReadByPlan config seen text trace

@@ -14,7 +14,9 @@ use Rattle.mon_points.specs.Records.{reads_of}
 use Rattle.mon_points.specs.declared.records.RowRead.{RowRead}
 use Rattle.mon_points.specs.declared.records.RowRead.TheVariants as read
 use Rattle.mon_topo.specs.HeldHistories.{first_histories}
+use Rattle.mon_topo.specs.RangeHistories.{turn_ack}
 use Rattle.mon_value.specs.Histories.{range_history, same_range}
+use Rattle.mon_value.specs.Turns.{Turn, Adds, Hides}
 use Rattle.mon_value.specs.declared.histories.Ack.{Ack}
 use Rattle.mon_value.specs.declared.histories.Entry.TheVariants as entry
 use Rattle.mon_value.specs.declared.histories.Histories.{Histories}
@@ -54,6 +56,8 @@ AreTold n (read.Row row ∷ reads) rows refusals =
 abbrev pub acked_under : ℕ → RangeEntry → List Row
 acked_under n (range_entry.Opened pass slot leaf) = []
 acked_under n (range_entry.Acked pass row ack) = if nat_eq n pass then row ∷ [] else []
+acked_under n (range_entry.Trimmed pass before ack) = []
+acked_under n (range_entry.Retired pass slot) = []
 
 module _ (config : Config) where
   -- each record of a file is told of, once and in order
@@ -106,24 +110,25 @@ module _ (config : Config) where
         → first_length config.topology ended history ≤ place
         → list_any (λ line. is_entry_of line history place e) lines ≡ true
 
--- ---- puts
+-- ---- puts and trims
 
--- among entries of a range's history one acknowledges a row, and a slot is among those that took it
-pub record IsPaired (made : History → List BookEntry) (pass : ℕ) (range : Range) (slot : Slot) (row : Row) : Type 0
+-- among entries of a range's history one acknowledges a row or a bound, and a slot is among those that took it
+pub record IsPaired (made : History → List BookEntry) (pass : ℕ) (range : Range) (slot : Slot) (turn : Turn) : Type 0
   where
     pub ack : Ack
-    pub told : Contains (made (of.Range range)) (one.Range (range_entry.Acked pass row ack))
+    pub told : Contains (made (of.Range range)) (one.Range (turn_ack pass turn ack))
     pub took : Contains ack.took slot
 
--- the row of a put is acknowledged under its number, as one that its slot took
+-- the row of a put, or the bound of a trim, is acknowledged under its number, as one that its slot took
 abbrev pub HasItsAck : (History → List BookEntry) → BookEntry → Type 0
 HasItsAck made (one.Leaf (entry.Opened pass range slot rows)) = Unit {0}
-HasItsAck made (one.Leaf (entry.Put pass range slot row)) = IsPaired made pass range slot row
+HasItsAck made (one.Leaf (entry.Put pass range slot row)) = IsPaired made pass range slot (Adds row)
+HasItsAck made (one.Leaf (entry.Trim pass range slot before)) = IsPaired made pass range slot (Hides before)
 HasItsAck made (one.Leaf (entry.Down pass)) = Unit {0}
 HasItsAck made (one.Leaf (entry.Up pass)) = Unit {0}
 HasItsAck made (one.Range e) = Unit {0}
 
--- each put of a line, at the end of the run
+-- each entry of a line, at the end of the run
 abbrev pub LineIsPaired : Histories → List RanLine → List RanLine → RanLine → Type 0
 LineIsPaired ended seen later line = (history : History) (place : ℕ) (e : BookEntry)
     → slice_get (entries ended history) place ≡ Some e → is_entry_of line history place e ≡ true

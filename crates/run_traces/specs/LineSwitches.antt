@@ -56,6 +56,7 @@ switch_entry down pass = if down then entry.Down pass else entry.Up pass
 abbrev pub goes : Bool → BookEntry → Bool
 goes down (one.Leaf (entry.Opened by range slot rows)) = false
 goes down (one.Leaf (entry.Put by range slot row)) = false
+goes down (one.Leaf (entry.Trim by range slot before)) = false
 goes down (one.Leaf (entry.Down by)) = down
 goes down (one.Leaf (entry.Up by)) = not down
 goes down (one.Range e) = false
@@ -69,6 +70,7 @@ switches (Some switch) history e = same_history (of.Leaf switch.leaf) history &&
 abbrev pub opens_here : Range → Slot → Entry → Bool
 opens_here range slot (entry.Opened by other place rows) = same_replica range slot other place
 opens_here range slot (entry.Put by other place row) = false
+opens_here range slot (entry.Trim by other place before) = false
 opens_here range slot (entry.Down by) = false
 opens_here range slot (entry.Up by) = false
 
@@ -76,6 +78,8 @@ opens_here range slot (entry.Up by) = false
 abbrev pub opens_on : Slot → Leaf → RangeEntry → Bool
 opens_on slot leaf (range_entry.Opened by place on) = same_slot slot place && same_leaf leaf on
 opens_on slot leaf (range_entry.Acked by row ack) = false
+opens_on slot leaf (range_entry.Trimmed by before ack) = false
+opens_on slot leaf (range_entry.Retired by place) = false
 
 -- in the leaf's history, or in the range's
 abbrev pub opens : Recovery → Slot → History → BookEntry → Bool
@@ -136,10 +140,13 @@ is_row row other = same_series row.key other.key && int_eq row.point.end other.p
 abbrev pub is_fed : ℕ → List Row → BookEntry → Bool
 is_fed pass rows (one.Leaf (entry.Opened by range slot held)) = false
 is_fed pass rows (one.Leaf (entry.Put by range slot row)) = nat_eq by pass && list_any (is_row row) rows
+is_fed pass rows (one.Leaf (entry.Trim by range slot before)) = false
 is_fed pass rows (one.Leaf (entry.Down by)) = false
 is_fed pass rows (one.Leaf (entry.Up by)) = false
 is_fed pass rows (one.Range (range_entry.Opened by slot leaf)) = false
 is_fed pass rows (one.Range (range_entry.Acked by row ack)) = nat_eq by pass && list_any (is_row row) rows
+is_fed pass rows (one.Range (range_entry.Trimmed by before ack)) = false
+is_fed pass rows (one.Range (range_entry.Retired by slot)) = false
 
 abbrev pub is_done : LineForm → ControlDone → History → ℕ → BookEntry → Bool
 is_done what (did.Switched cut) history place e = switches (switch_of what) history e && nat_eq (place + 1) cut

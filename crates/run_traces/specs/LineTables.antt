@@ -1,17 +1,22 @@
--- What each table stands on: replicas that served, all that had been accepted before, and every leaf that it wants.
-use Rattle.std.specs.Prelude.{◌≡◌, ℕ, ℤ, true, List, [], Ok, ◌<◌, ◌≤◌, ◌∷◌, ◌++◌, Contains, length}
+-- What each table stands on: replicas that served, all that had been accepted before and is not hidden, and every leaf that
+-- it wants.
+use Rattle.std.specs.Prelude.{◌≡◌, ℕ, ℤ, true, List, [], Ok, ◌<◌, ◌≤◌, ◌∷◌, ◌++◌, length, Option, Some, None}
 use Rattle.std.specs.List.{AllByRecursion, flat_map}
+use Rattle.mon_config.specs.Configs.{range_of_key}
 use Rattle.mon_config.specs.declared.config.Config.{Config}
 use Rattle.mon_meaning.specs.Incremental.{is_incremental}
 use Rattle.mon_value.specs.declared.histories.Histories.{Histories}
 use Rattle.typed_trees.specs.Nodes.{TypedTree}
 use Rattle.query_traces.specs.Founds.{IsFoundBetween}
-use Rattle.query_traces.specs.Traces.{IsBetween, IsTraceBetween, cut_of, source_of, IsReadRightly}
+use Rattle.query_traces.specs.Traces.{IsBetween, IsTraceBetween, cut_of, source_of, turns_over, IsReadRightly}
 use Rattle.typed_trees.specs.Meaning.{load}
 use Rattle.query_traces.specs.declared.answers.Trace.{Trace}
 use Rattle.query_texts.specs.TextTypes.{text_type, IsPlanOver, plan_type}
 use Rattle.mon_script.specs.declared.forms.LineForm.{LineForm}
+use Rattle.mon_value.specs.Turns.{StandsOrIsHidden, Turn}
 use Rattle.mon_value.specs.declared.positions.Leaf.{Leaf}
+use Rattle.mon_value.specs.declared.positions.Range.{Range}
+use Rattle.mon_value.specs.declared.rows.Row.{Row}
 use Rattle.range_cell.specs.declared.answers.WriteFault.{WriteFault}
 use Rattle.range_cell.specs.declared.answers.WriteFault.TheVariants as unwritten
 use Rattle.leaf_store.specs.LeafStates.{key_buckets}
@@ -61,7 +66,8 @@ module _ (config : Config) (ended : Histories) where
   abbrev pub LineIsTabled : List RanLine → List RanLine → RanLine → Type 0
   LineIsTabled seen later line = IsTabled seen later line.what line.trace
 
--- Each table stands on all rows that had been accepted before, as far as its line's caller had seen.
+-- Each table stands on all rows that had been accepted before, as far as its line's caller had seen, unless a trim hides
+-- them.
 
 -- ---- the cuts that a line names of a leaf
 
@@ -112,20 +118,28 @@ CutsRise seen line leaf = AllByRecursion
     (λ before. AllByRecursion (λ cut. AllByRecursion (λ own. cut ≤ own) (cuts_named leaf line.what line.trace))
     (cuts_named leaf before.what before.trace)) seen
 
-module _ (ended : Histories) where
-  -- a table stands on each row that these lines accepted
-  abbrev pub StandsOnRows : List RanLine → Trace → Type 0
-  StandsOnRows seen trace =
-      AllByRecursion (λ line. AllByRecursion (Contains (source_of ended trace)) (accepted_rows line)) seen
+module _ (config : Config) (ended : Histories) where
+  -- what may have hidden rows of a range from a table: the turns of the replica that was read, up to its leaf's cut, and
+  -- those of the range's own history as far as the line's place goes
+  abbrev pub turns_for : List RanLine → Trace → Option Range → List Turn
+  turns_for later trace None = []
+  turns_for later trace (Some range) =
+      turns_over ended ((highs config.topology ended later).ranges range) trace range
 
-  abbrev pub HoldsRows : List RanLine → LineTrace → Type 0
-  HoldsRows seen (came.Asked moment trace) = StandsOnRows seen trace
-  HoldsRows seen (came.Followed moment trace) = StandsOnRows seen trace
-  HoldsRows seen other = Unit {0}
+  -- a table stands on each row that these lines accepted, but for rows that a trim of their range hides
+  abbrev pub StandsOnRows : List RanLine → List RanLine → Trace → Type 0
+  StandsOnRows seen later trace = AllByRecursion (λ line. AllByRecursion
+      (λ (row : Row). StandsOrIsHidden (source_of ended trace) (turns_for later trace (range_of_key config row.key)) row)
+      (accepted_rows line)) seen
 
-  -- of each line, with those that its caller had seen
+  abbrev pub HoldsRows : List RanLine → List RanLine → LineTrace → Type 0
+  HoldsRows seen later (came.Asked moment trace) = StandsOnRows seen later trace
+  HoldsRows seen later (came.Followed moment trace) = StandsOnRows seen later trace
+  HoldsRows seen later other = Unit {0}
+
+  -- of each line, with those that its caller had seen and those whose callers had seen it
   abbrev pub LineIsFresh : List RanLine → List RanLine → RanLine → Type 0
-  LineIsFresh seen later line = HoldsRows seen line.trace
+  LineIsFresh seen later line = HoldsRows seen later line.trace
       × ((leaf : Leaf) → leaf.0 < length ended.leaves → CutsRise seen line leaf)
 
 -- Each cut that a line names lies in its place.

@@ -4,7 +4,7 @@ use Rattle.mon_value.specs.Same.{same_text}
 use Rattle.schedule_lines.specs.declared.events.Event.{Event}
 use Rattle.schedule_lines.specs.declared.events.Event.TheVariants as event
 
--- the event of a query, or of a switch, of a name
+-- the event of a query, of a switch, or of a retirement, of a name
 abbrev pub other_event_named : List ℕ → Option Event
 other_event_named name =
     if same_text name (codes "load_root") then Some event.LoadRoot
@@ -12,6 +12,7 @@ other_event_named name =
     else if same_text name (codes "resolve") then Some event.Resolve
     else if same_text name (codes "visit") then Some event.Visit
     else if same_text name (codes "switch") then Some event.Switch
+    else if same_text name (codes "retire") then Some event.Retire
     else None
 
 -- the event of a name

@@ -17,6 +17,10 @@ pub enum Call {
     /// Recover a range onto a leaf of its zone: a replica of the range is opened there, with the rows of one that
     /// serves.
     Recover(Range, Leaf),
+    /// Trim a range: hide its rows whose end is below a moment.
+    Trim(Range, i64),
+    /// Retire the replica of a range that serves on a leaf.
+    Retire(Range, Leaf),
 }
 
 /// Why a step, or a line of a schedule, is refused.
@@ -71,6 +75,8 @@ impl TryCopy for Call {
             Call::Down(leaf) => Ok(Call::Down(*leaf)),
             Call::Up(leaf) => Ok(Call::Up(*leaf)),
             Call::Recover(range, leaf) => Ok(Call::Recover(*range, *leaf)),
+            Call::Trim(range, before) => Ok(Call::Trim(*range, *before)),
+            Call::Retire(range, leaf) => Ok(Call::Retire(*range, *leaf)),
         }
     }
 }

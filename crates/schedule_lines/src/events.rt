@@ -5,20 +5,20 @@ ghost use Rattle.schedule_lines.specs.EventNames as spec;
 /// What an actor does in one step.
 #[derive(Clone, Copy, PartialEq, Eq)]
 pub enum Event {
-    /// A write or a recovery takes its range's lock.
+    /// A write, a trim or a recovery takes its range's lock.
     Lock,
-    /// A write makes room for its row on a leaf, or finds the leaf down. A recovery asks the leaf of a replica for its
+    /// A write or a trim makes room on a leaf, or finds the leaf down. A recovery asks the leaf of a replica for its
     /// rows, and then its own leaf for room, or finds it down.
     Reserve,
-    /// A write or a recovery takes a leaf's lock, or finds the leaf down.
+    /// A write, a trim or a recovery takes a leaf's lock, or finds the leaf down.
     Enter,
     /// A write or a recovery sets a zone's bit in a word of the root.
     RaiseRoot,
     /// A write or a recovery sets a leaf's bit in a word of its zone.
     RaiseZone,
-    /// A write appends its row to a leaf's history, or a recovery its replica, and lets go of the leaf.
+    /// A write appends its row to a leaf's history, a trim its bound, or a recovery its replica, and lets go of the leaf.
     Put,
-    /// A write appends its acknowledgement to its range's history, if some replica took the row, or a recovery its
+    /// A write or a trim appends its acknowledgement to its range's history, if some replica took it, or a recovery its
     /// replica, if that was opened, and lets go of the range.
     Ack,
     /// A query loads a word of the root.
@@ -31,6 +31,8 @@ pub enum Event {
     Visit,
     /// A leaf goes down or comes up, or is found so.
     Switch,
+    /// A range's replica on a leaf serves no more, or is found not to serve, or to be the only one that does.
+    Retire,
 }
 
 /// The event of a name.
@@ -56,7 +58,7 @@ pub(crate) fn event_named(name: &[u8]) -> Option<Event>
     }
 }
 
-// The event of a query, or of a switch, of a name.
+// The event of a query, of a switch, or of a retirement, of a name.
 fn other_event_named(name: &[u8]) -> Option<Event>
     ensures named { result ≡ spec.other_event_named name.now }
 {
@@ -70,6 +72,8 @@ fn other_event_named(name: &[u8]) -> Option<Event>
         Some(Event::Visit)
     } else if name == b"switch".as_slice() {
         Some(Event::Switch)
+    } else if name == b"retire".as_slice() {
+        Some(Event::Retire)
     } else {
         None
     }

@@ -1,9 +1,10 @@
 // What a line of a schedule says.
-ghost use Rattle.std.specs.Prelude.{◌≡◌, true, List, option_map, IfOk, IfSome};
+ghost use Rattle.std.specs.Prelude.{◌≡◌, ◌<◌, true, length, List, option_map, IfOk, IfSome};
 ghost use Rattle.mon_schema.specs.Fits.{fits};
 ghost use Rattle.mon_schema.specs.Names.{SchemaLists};
 ghost use Rattle.std.specs.List.{AllByRecursion};
 ghost use Rattle.mon_points.specs.Fitting.{ReadFits};
+ghost use Rattle.mon_topo.specs.Zones.{ranges_in};
 ghost use Rattle.mon_topo.specs.declared.zones.ZoneSpec.{ZoneSpec};
 ghost use Rattle.schedule_lines.specs.LawfulLines.{IsActorNumber, IsLawfulForm, IsMoment};
 ghost use Rattle.schedule_lines.specs.ScheduleLines as spec;
@@ -15,7 +16,7 @@ use mon_points::{RowRead, RowReads, read_rows};
 use mon_schema::Schemas;
 use mon_script::{ControlForm, ControlWord, control_of, control_word, cut_at, moment_of};
 use mon_topo::Topology;
-use mon_value::{OutOfMemory, Row, Text, read_number};
+use mon_value::{OutOfMemory, Range, Row, Text, read_number};
 use std::alloc::Global;
 
 /// What a line says.
@@ -105,15 +106,49 @@ fn query_form(alloc: Global, rest: &[u8]) -> Result<Option<LineForm>, OutOfMemor
     }
 }
 
-// What says what is done to a leaf, or whose turn it is.
+// What says what is done to a leaf or a range, or whose turn it is.
 fn switch_form(topology: &Topology, word: &[u8], rest: &[u8]) -> Option<LineForm>
     ensures form { result ≡ spec.switch_form topology.now word.now rest.now }
     ensures lawful { (held : SchemaLists) → IfSome result (IsLawfulForm held topology.now) }
 {
     match control_word(word) {
         Some(what) => control_form(topology, what, rest),
-        None => turn_form(word, rest),
+        None => range_form(topology, word, rest),
     }
+}
+
+// What says what is done to a range, or whose turn it is.
+fn range_form(topology: &Topology, word: &[u8], rest: &[u8]) -> Option<LineForm>
+    ensures form { result ≡ spec.range_form topology.now word.now rest.now }
+    ensures lawful { (held : SchemaLists) → IfSome result (IsLawfulForm held topology.now) }
+{
+    if word == b"trim".as_slice() {
+        trim_form(topology, rest)
+    } else if word == b"retire".as_slice() {
+        retire_form(topology, rest)
+    } else {
+        turn_form(word, rest)
+    }
+}
+
+// A trim of a range below a moment.
+fn trim_form(topology: &Topology, rest: &[u8]) -> Option<LineForm>
+    ensures form { result ≡ spec.trim_form topology.now rest.now }
+    ensures lawful { (held : SchemaLists) → IfSome result (IsLawfulForm held topology.now) }
+{
+    let (actor, rest) = actor_and_rest(rest)?;
+    let (range, before) = range_and_rest(topology, rest)?;
+    Some(LineForm::Declare(actor, Call::Trim(range, moment_of(before)?)))
+}
+
+// A retirement of a range's replica on a leaf.
+fn retire_form(topology: &Topology, rest: &[u8]) -> Option<LineForm>
+    ensures form { result ≡ spec.retire_form topology.now rest.now }
+    ensures lawful { (held : SchemaLists) → IfSome result (IsLawfulForm held topology.now) }
+{
+    let (actor, rest) = actor_and_rest(rest)?;
+    let (range, leaf) = range_and_rest(topology, rest)?;
+    Some(LineForm::Declare(actor, Call::Retire(range, topology.leaf_named(leaf)?)))
 }
 
 // An actor, and what it does to a leaf.
@@ -195,6 +230,15 @@ fn moment_and_rest(text: &[u8]) -> Option<(i64, &[u8])>
 {
     let (word, rest) = cut_at(text, b' ')?;
     Some((moment_of(word)?, rest))
+}
+
+// The range that the first word names, and what stands behind the space.
+fn range_and_rest<'t>(topology: &Topology, text: &'t [u8]) -> Option<(Range, &'t [u8])>
+    ensures words { option_map (λ words. (words.0, words.1.now)) result ≡ spec.range_and_rest topology.now text.now }
+    ensures there { IfSome result (λ words. words.0.0 < length (ranges_in topology.now)) }
+{
+    let (word, rest) = cut_at(text, b' ')?;
+    Some((topology.range_named(word)?, rest))
 }
 
 // The actor that a word names.

@@ -1,3 +1,6 @@
+pub mod AddLemmas
+pub mod AheadStands
+pub mod ComingLemmas
 pub mod EnoughLemmas
 pub mod FillLemmas
 pub mod FrontLemmas

@@ -1,3 +1,4 @@
+pub mod Comings
 pub mod HeldRows
 pub mod Keeping
 pub mod KeptTables

@@ -11,11 +11,11 @@ ghost use Rattle.standing_incr.specs.KeptTables.{CanGroupAt, IsAligned, IsWholeO
 ghost use Rattle.standing_incr.specs.KeptTables.{grouped_part};
 ghost use Rattle.standing_incr.specs.Ways.{CanGoThrough, nodes_above};
 
+use crate::source_rows::SourceRows;
 use crate::tables::{Standing, Tables};
 use crate::ways::{Stop, rows_through, way_down};
 use mon_fold::{Parts, group};
 use mon_meaning::{Meter, OverLimit, grid_of, part_by_series, table_of};
-use mon_series::KeptRows;
 use mon_value::{Aggregates, OutOfMemory, Positions, Refusal, Table, TryCopy};
 use std::alloc::{AllocError, Global};
 use typed_trees::{Node, Typed};
@@ -28,7 +28,7 @@ pub(crate) fn standing_of(
     alloc: Global,
     typed: &Typed,
     moment: i64,
-    held: &KeptRows,
+    held: &SourceRows,
 ) -> Result<Standing, OutOfMemory>
     requires typed { IsTyped (typed_tree typed.now) held.now }
     requires path { is_one_path (node_tree typed.now.tree) ≡ true }
@@ -48,7 +48,7 @@ fn aligned_table(
     alloc: Global,
     typed: &Typed,
     moment: i64,
-    held: &KeptRows,
+    held: &SourceRows,
     meter: &mut Meter,
 ) -> Result<Table, Refusal<OverLimit>>
     requires typed { IsTyped (typed_tree typed.now) held.now }
@@ -60,7 +60,13 @@ fn aligned_table(
     ensures over { IfErr result (TellsOver meter.old.limit (meter.old.load + load (typed_tree typed.now) held.now moment)) }
 {
     let way = way_down(alloc, &typed.tree, Stop::Alignment)?;
-    let rows = part_by_series(alloc, way.end, &[held], grid_of(typed, moment), meter)?;
+    let rows = part_by_series(
+        alloc,
+        way.end,
+        &[held.kept()],
+        grid_of(typed, moment),
+        meter,
+    )?;
     Ok(table_of(alloc, &way.end.info().columns, rows)?)
 }
 

@@ -13,15 +13,16 @@ ghost use Rattle.mon_meaning.specs.Standing.{IsTableOf};
 ghost use Rattle.standing_incr.specs.HeldRows.{held_of};
 ghost use Rattle.standing_incr.specs.KeptTables.{AreGroupsAt, CannotBeKept, StandsFor, aligned_part, grouped_part};
 
+use crate::comings::{Coming, coming_of};
 use crate::faults::NotIncremental;
 use crate::filling::standing_of;
 use crate::needs;
 use crate::results::result_of;
+use crate::source_rows::SourceRows;
 use crate::tables::Standing;
 use crate::ways::is_incremental;
 use mon_fold::Parts;
 use mon_meaning::OverLimit;
-use mon_series::KeptRows;
 use mon_value::{OutOfMemory, Refusal, Row, RowList, Table, TryCopy};
 use std::alloc::Global;
 use std::marker::Model;
@@ -41,7 +42,7 @@ pub struct Kept {
 /// The rows that are held, and what they come to.
 #[derive(Drop)]
 struct Holding {
-    rows: KeptRows,
+    rows: SourceRows,
     standing: Standing,
 }
 
@@ -74,7 +75,7 @@ impl Kept {
         ensures incremental { OnOk result (is_incremental (typed_tree typed).tree ≡ true) }
         ensures refused { IfErr result (CannotBeKept (typed_tree typed).tree) }
     {
-        Kept::made(alloc, typed, moment, KeptRows::new(alloc))
+        Kept::made(alloc, typed, moment, SourceRows::new(alloc))
     }
 
     /// A result of a query over rows: as `new`, and then `add` for each row, but made at once.
@@ -95,7 +96,7 @@ impl Kept {
         ensures incremental { OnOk result (is_incremental (typed_tree typed).tree ≡ true) }
         ensures refused { IfErr result (CannotBeKept (typed_tree typed).tree) }
     {
-        let rows = KeptRows::of_rows(alloc, rows.as_slice())?;
+        let rows = SourceRows::of_rows(alloc, rows.as_slice())?;
         Kept::made(alloc, typed, moment, rows)
     }
 
@@ -109,10 +110,11 @@ impl Kept {
             (self.new.held ≡ held_of (typed_tree self.old.typed) self.old.moment (self.old.held ++ row.now ∷ [])) }
         ensures kept { OnErr result (self.new.held ≡ self.old.held) }
     {
-        let rows = with_row(self.alloc, &self.holding.rows, row)?;
-        let next = holding_of(self.alloc, &self.typed, self.moment, &rows)?;
-        drop(mem::replace(&mut self.holding, next));
-        Ok(())
+        match coming_of(self.alloc, &self.typed, self.moment, row)? {
+            Coming::Unheld => Ok(()),
+            Coming::Ahead => push_copy(self.alloc, &mut self.holding.rows, row),
+            Coming::AtOnce => self.fill_with(row),
+        }
     }
 
     /// Goes on to a moment, which is not before the one so far. Rows that matter no more are no longer held. After a
@@ -167,12 +169,28 @@ impl Kept {
         }
     }
 
+    // Adds a row that may matter at once: the tables are made anew.
+    fn fill_with(&mut self, row: &Row) -> Result<(), OutOfMemory>
+        requires typed { IsTyped (typed_tree self.old.typed) (self.old.held ++ row.now ∷ []) }
+        requires later { IfSome (last_end (points_of row.now.key self.old.held)) (λ last. last <ℤ row.now.point.end) }
+        ensures query { self.new.typed ≡ self.old.typed }
+        ensures moment { self.new.moment ≡ self.old.moment }
+        ensures held { OnOk result
+            (self.new.held ≡ held_of (typed_tree self.old.typed) self.old.moment (self.old.held ++ row.now ∷ [])) }
+        ensures kept { OnErr result (self.new.held ≡ self.old.held) }
+    {
+        let rows = with_row(self.alloc, &self.holding.rows, row)?;
+        let next = holding_of(self.alloc, &self.typed, self.moment, &rows)?;
+        drop(mem::replace(&mut self.holding, next));
+        Ok(())
+    }
+
     // A result of a query over those of some rows that matter.
     fn made(
         alloc: Global,
         typed: Typed,
         moment: i64,
-        rows: KeptRows,
+        rows: SourceRows,
     ) -> Result<Kept, Refusal<NotIncremental>>
         requires typed { IsTyped (typed_tree typed) rows }
         requires source { IsSource rows }
@@ -208,7 +226,7 @@ impl Kept {
 }
 
 // Rows and one more.
-fn with_row(alloc: Global, rows: &KeptRows, row: &Row) -> Result<KeptRows, OutOfMemory>
+fn with_row(alloc: Global, rows: &SourceRows, row: &Row) -> Result<SourceRows, OutOfMemory>
     requires later { IfSome (last_end (points_of row.now.key rows.now)) (λ last. last <ℤ row.now.point.end) }
     ensures more { IfOk result (λ more. more ≡ rows.now ++ row.now ∷ []) }
 {
@@ -222,12 +240,13 @@ fn with_row(alloc: Global, rows: &KeptRows, row: &Row) -> Result<KeptRows, OutOf
     }
 }
 
-fn push_copy(alloc: Global, rows: &mut KeptRows, row: &Row) -> Result<(), OutOfMemory>
+// Adds a copy of a row. After a refusal nothing has changed.
+fn push_copy(alloc: Global, rows: &mut SourceRows, row: &Row) -> Result<(), OutOfMemory>
     requires later { IfSome (last_end (points_of row.now.key rows.old)) (λ last. last <ℤ row.now.point.end) }
     ensures more { OnOk result (rows.new ≡ rows.old ++ row.now ∷ []) }
+    ensures kept { OnErr result (rows.new ≡ rows.old) }
 {
-    rows.push(row.copy(alloc)?)?;
-    Ok(())
+    rows.push(row.copy(alloc)?)
 }
 
 // What is held of some rows at a moment, with its tables.
@@ -235,7 +254,7 @@ fn holding_of(
     alloc: Global,
     typed: &Typed,
     moment: i64,
-    rows: &KeptRows,
+    rows: &SourceRows,
 ) -> Result<Holding, OutOfMemory>
     requires typed { IsTyped (typed_tree typed.now) rows.now }
     requires source { IsSource rows.now }

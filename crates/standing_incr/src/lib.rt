@@ -2,6 +2,7 @@
 //! what the query means over all rows that came.
 #![tactic(auto)]
 
+mod comings;
 mod faults;
 mod filling;
 mod kept;
@@ -9,6 +10,7 @@ mod laws;
 mod needs;
 mod replaying;
 mod results;
+mod source_rows;
 mod tables;
 mod ways;
 

@@ -15,10 +15,10 @@ ghost use Rattle.standing_incr.specs.HeldRows as spec;
 ghost use Rattle.standing_incr.specs.NeededRows.{is_earlier, needed_rows};
 ghost use Rattle.standing_incr.specs.Needs.{LooksBack, NeedsAt, NeedsFound, is_before_by, is_met_by};
 
+use crate::source_rows::SourceRows;
 use crate::ways::{Stop, way_down};
 use insertion_map::InsertionMap;
 use mon_meaning::{Fetch, grid_of, reach_start, series_cells};
-use mon_series::KeptRows;
 use mon_value::{Aligner, Grid, OutOfMemory, Row, SeriesKey, Shared, TryCopy};
 use std::alloc::Global;
 use typed_trees::{Node, Typed};
@@ -114,7 +114,7 @@ fn is_first(
 fn needed_backwards(
     alloc: Global,
     needs: &Needs<'_>,
-    rows: &KeptRows,
+    rows: &SourceRows,
 ) -> Result<Vec<Row>, OutOfMemory>
     ensures needed { IfOk result (λ needed. reverse needed.items
         ≡ needed_rows (is_met_by needs.now) (is_before_by needs.now) needs.now.start rows.now) }
@@ -153,12 +153,12 @@ fn look_at(
 }
 
 // Rows that are given the last one first.
-fn rows_of_backwards(alloc: Global, backwards: Vec<Row>) -> Result<KeptRows, OutOfMemory>
+fn rows_of_backwards(alloc: Global, backwards: Vec<Row>) -> Result<SourceRows, OutOfMemory>
     requires source { IsSource (reverse backwards.items) }
     ensures rows { IfOk result (λ rows. rows ≡ reverse backwards.items) }
 {
     let mut rest = backwards;
-    let mut rows = KeptRows::new(alloc);
+    let mut rows = SourceRows::new(alloc);
     while let Some(row) = rest.pop() {
         rows.push(row)?;
     }
@@ -169,8 +169,8 @@ fn rows_of_backwards(alloc: Global, backwards: Vec<Row>) -> Result<KeptRows, Out
 fn needed_rows_of(
     alloc: Global,
     needs: &Needs<'_>,
-    rows: &KeptRows,
-) -> Result<KeptRows, OutOfMemory>
+    rows: &SourceRows,
+) -> Result<SourceRows, OutOfMemory>
     requires source { IsSource rows.now }
     ensures needed { IfOk result (λ needed. needed
         ≡ needed_rows (is_met_by needs.now) (is_before_by needs.now) needs.now.start rows.now) }
@@ -184,8 +184,8 @@ pub(crate) fn held_of(
     alloc: Global,
     typed: &Typed,
     moment: i64,
-    rows: &KeptRows,
-) -> Result<KeptRows, OutOfMemory>
+    rows: &SourceRows,
+) -> Result<SourceRows, OutOfMemory>
     requires typed { IsTyped (typed_tree typed.now) rows.now }
     requires path { is_one_path (node_tree typed.now.tree) ≡ true }
     requires source { IsSource rows.now }
@@ -194,7 +194,7 @@ pub(crate) fn held_of(
 {
     match needs_of(alloc, typed, moment)? {
         Some(needs) => needed_rows_of(alloc, &needs, rows),
-        None => Ok(KeptRows::new(alloc)),
+        None => Ok(SourceRows::new(alloc)),
     }
 }
 

@@ -2,28 +2,34 @@
 use Rattle.std.proofs.Common.{◌≡◌, ◌<◌, ℕ, Bool, true, Option, Some, List, length, refl, sym, ap, subst}
 use Rattle.mon_config.specs.declared.config.Config.{Config}
 use Rattle.mon_value.specs.declared.positions.Leaf.{Leaf}
+use Rattle.mon_value.specs.declared.positions.Range.{Range}
 use Rattle.weave_core.proofs.QueryStepLemmas.{at_asking, query_steps}
 use Rattle.weave_core.proofs.RecoveryStepLemmas.{opens, recover_steps}
+use Rattle.weave_core.proofs.RetireStepLemmas.{asks_range_seated, asks_range_there, retiring_steps}
 use Rattle.weave_core.proofs.SwitchStepLemmas.{asks_seated, asks_there, switching_steps}
 use Rattle.weave_core.proofs.WriteStepLemmas.{at_work, write_steps}
 use Rattle.weave_core.specs.ActorAgreements.{IsActorSo, IsTaskSo}
 use Rattle.weave_core.specs.ActorSteps.{ActorSteps, HasStepped, IsIn, IsSomewhere, QueriedSo, RecoveredSo}
-use Rattle.weave_core.specs.ActorSteps.{SwitchedSo, WrittenSo}
+use Rattle.weave_core.specs.ActorSteps.{RetiredSo, SwitchedSo, WrittenSo}
+use Rattle.weave_core.specs.EndTexts.{deed_of}
 use Rattle.core_theory.specs.Core.{Core, Reader}
 use Rattle.weave_core.specs.QueryTurns.{IsAskedSomewhere, IsAsking, QueriesSo}
 use Rattle.core_store.specs.RecoverTurns.{IsOpening, IsOpeningSomewhere, RecoversSo}
-use Rattle.weave_core.specs.States.{Asking, Dismissed, Eventless, Recovering, Role, State, Switching, Undeclared}
-use Rattle.weave_core.specs.States.{Writing}
+use Rattle.weave_core.specs.States.{Asking, Dismissed, Eventless, Recovering, Retiring, Role, State, Switching}
+use Rattle.weave_core.specs.States.{Undeclared, Writing}
 use Rattle.weave_core.specs.States.{role_fault}
 use Rattle.core_store.specs.Agreements.{store_of}
 use Rattle.weave_core.specs.Steps.{StepsIn, with_role}
+use Rattle.core_store.specs.Retirements.{IsSeatedToRetire, RetiresAt}
 use Rattle.core_store.specs.Switches.{IsSeatedToSwitch, SwitchesAt}
+use Rattle.core_store.specs.Writers.{change_turn}
 use Rattle.core_store.specs.WriteTurns.{IsAtWork, WritesSo}
 use Rattle.weave_core.specs.declared.actors.Actor.{Actor}
 use Rattle.weave_core.specs.declared.actors.Task.{Task}
 use Rattle.weave_core.specs.declared.actors.Task.TheVariants as task
 use Rattle.weave_core.specs.declared.stepped.Stepped.{Stepped}
 use Rattle.weave_core.specs.declared.stepped.Stepped.TheVariants as stepped
+use Rattle.weave_core.specs.declared.texts.Deed.{Deed}
 use Rattle.weave_core.specs.declared.queries.QueryTurn.{QueryTurn}
 use Rattle.weave_core.specs.declared.queries.QueryTurn.TheVariants as query_turn
 use Rattle.weave_core.specs.declared.queries.Querying.{Querying}
@@ -31,6 +37,7 @@ use Rattle.core_store.specs.declared.recoveries.RecoverTurn.{RecoverTurn}
 use Rattle.core_store.specs.declared.recoveries.RecoverTurn.TheVariants as recover_turn
 use Rattle.core_store.specs.declared.recoveries.Recovering.{Recovering as Recover}
 use Rattle.mon_topo.specs.declared.sights.Sight.{Sight}
+use Rattle.core_store.specs.declared.retirements.Retiring.{Retiring as Retire}
 use Rattle.core_store.specs.declared.store.Store.{Store}
 use Rattle.core_store.specs.declared.switches.Switched.{Switched}
 use Rattle.core_store.specs.declared.switches.Switching.{Switching as Switch}
@@ -39,6 +46,7 @@ use Rattle.core_store.specs.declared.writes.WriteTurn.TheVariants as write_turn
 use Rattle.core_store.specs.declared.writes.Writing.{Writing as Write}
 use Rattle.write_core.proofs.KeepsLemmas.{changed_same}
 use Rattle.write_core.specs.World.{Actor as Doer, World}
+use Rattle.write_core.specs.declared.retirements.Retirement.{Retirement}
 
 -- ---- an actor that has ended
 
@@ -70,6 +78,7 @@ module _ (config : Config) (state : State (store_of config)) (i : ℕ) where
           (sym (changed_same state.roles i Dismissed)) (record { stands = h.stands; seen = h.seen });
     }
     refused_by (Switching leaf down) e h = absurd h
+    refused_by (Retiring range leaf) e h = absurd h
     refused_by Dismissed e h = absurd h
     refused_by Recovering e h = absurd h
     refused_by Writing e h = absurd h
@@ -143,6 +152,21 @@ recover_asks_for store own recovering e some =
       opening = opens at.config at.state at.i store recovering own.sight own.begun at.is_in;
     }
 
+-- what a retirement asks for
+pub record MayRetireThere (store : Store) (range : Range) (sight : Sight) : Type 0 where
+  pub there : range.0 < length store.ranges.items
+  pub seated : IsSeatedToRetire range store.ranges.items sight
+
+pub retire_asks_for : (store : Store) (own : Actor) (retiring : Retire) → own.task ≡ task.Retires retiring
+    → IsSomewhere store own → MayRetireThere store retiring.range own.sight
+retire_asks_for store own retiring e some =
+    let at : IsSomewhere store (record { task = task.Retires retiring; sight = own.sight; begun = own.begun })
+    = subst (λ (one : Actor). IsSomewhere store one) (own_is own (task.Retires retiring) e) some in
+    record {
+      there = asks_range_there at.config at.state at.i store retiring own.sight own.begun at.is_in;
+      seated = asks_range_seated at.config at.state at.i store retiring own.sight own.begun at.is_in;
+    }
+
 -- what a switch asks for
 pub record MaySwitchThere (store : Store) (leaf : Leaf) (sight : Sight) : Type 0 where
   pub there : leaf.0 < length store.leaves.items
@@ -181,6 +205,17 @@ module _ (config : Config) (state : State (store_of config)) (i : ℕ) (store : 
       (switching_steps config state i store switching own.sight own.begun (as_task (task.Switches switching) e) new
       now what next how did h)
 
+  pub retire_step : (retiring : Retire) → own.task ≡ task.Retires retiring → (new : Store) (now : Sight)
+      (what : Option Retirement) (next : Actor) (how : Option Stepped)
+      → RetiresAt retiring store new own.sight now what
+      → RetiredSo new.config.topology retiring what now own.begun next how
+      → ActorSteps config state i new own next how
+  retire_step retiring e new now what next how did h =
+      subst (λ (one : Actor). ActorSteps config state i new one next how)
+      (sym (own_is own (task.Retires retiring) e))
+      (retiring_steps config state i store retiring own.sight own.begun (as_task (task.Retires retiring) e) new
+      now what next how did h)
+
   pub recover_step : (recovering : Recover) → own.task ≡ task.Recovers recovering → (new : Store) (now : Sight)
       (turn : RecoverTurn) (next : Actor) (how : Option Stepped)
       → ((at : IsOpening config state.core.world i store recovering own.sight)
@@ -196,21 +231,21 @@ module _ (config : Config) (state : State (store_of config)) (i : ℕ) (store : 
       (ap (λ (c : Config). c.topology)
       (recovered_config config state.core.world i recovering new own.sight now turn so)) so h)
 
-  pub write_step : (writing : Write) → own.task ≡ task.Writes writing → (new : Store) (now : Sight)
+  pub write_step : (writing : Write) → own.task ≡ task.Writes writing → (done : Deed)
+      → done ≡ deed_of (change_turn writing.change) → (new : Store) (now : Sight)
       (turn : WriteTurn)
       (next : Actor) (how : Option Stepped)
       → ((at : IsAtWork config state.core.world i store writing own.sight)
       → WritesSo config state.core.world i writing new own.sight now turn)
-      → WrittenSo new.config.topology turn now own.begun next how → ActorSteps config state i new own next how
-  write_step writing e new now turn next how writes h =
+      → WrittenSo new.config.topology done turn now own.begun next how → ActorSteps config state i new own next how
+  write_step writing e done is new now turn next how writes h =
       let so : WritesSo config state.core.world i writing new own.sight now turn
       = writes (at_work config state i store writing own.sight own.begun (as_task (task.Writes writing) e)) in
       subst (λ (one : Actor). ActorSteps config state i new one next how) (sym (own_is own (task.Writes writing) e))
       (write_steps config state i store writing own.sight own.begun (as_task (task.Writes writing) e)
-      new.config.topology new
-      now turn next how
-      (ap (λ (c : Config). c.topology) (written_config config state.core.world i writing new own.sight now turn so)) so
-      h)
+      new.config.topology done new now turn next how
+      (ap (λ (c : Config). c.topology) (written_config config state.core.world i writing new own.sight now turn so))
+      is so h)
 
   pub query_step : (querying : Querying) → own.task ≡ task.Queries querying → (new : Store) (now : Sight)
       (turn : QueryTurn)

@@ -11,13 +11,13 @@ use Rattle.mon_hints.specs.Formulas.{is_among}
 use Rattle.mon_hints.specs.Hints.{rows_buckets}
 use Rattle.mon_topo.proofs.RangeHistoryLemmas.{all_at}
 use Rattle.mon_value.specs.Histories.{leaf_history, range_history, leaf_numbered, range_numbered, same_leaf}
-use Rattle.mon_topo.specs.RangeHistories.{acknowledged_rows, opened_slots, serving, serving_after}
+use Rattle.mon_topo.specs.RangeHistories.{opened_slots, serving, serving_after, turns_since}
 use Rattle.mon_topo.specs.Zones.{first_replicas, leaves_in, leaves_named, no_range}
 use Rattle.mon_topo.specs.Zones.{ranges_in}
 use Rattle.mon_topo.specs.declared.zones.RangeSpec.{RangeSpec}
 use Rattle.mon_topo.specs.declared.zones.ZoneSpec.{ZoneSpec}
 use Rattle.mon_value.proofs.LeafHistoryLemmas.{opened_more}
-use Rattle.mon_value.specs.LeafHistories.{entry_rows, is_opened, leaf_rows, replica_rows, same_replica}
+use Rattle.mon_value.specs.LeafHistories.{entry_turns, is_opened, leaf_rows, replica_turns}
 use Rattle.mon_value.specs.declared.histories.Entry.{Entry}
 use Rattle.mon_value.specs.declared.histories.RangeEntry.{RangeEntry}
 use Rattle.mon_value.specs.declared.positions.Leaf.{Leaf}
@@ -61,18 +61,12 @@ no_acks_by : (pass slot : ℕ) (leaves : List Leaf) → acks_by pass (openings_f
 no_acks_by pass slot [] = refl
 no_acks_by pass slot (leaf ∷ leaves) = no_acks_by pass (slot + 1) leaves
 
-either : (b : Bool) (rows : List Row) → cond b rows rows ≡ rows
-either true rows = refl
-either false rows = refl
-
-no_own_rows : (range : Range) (slot : Slot) (history : List Entry) → All HasNoRow history → replica_rows range slot
+no_own_turns : (range : Range) (slot : Slot) (history : List Entry) → All HasNoRow history → replica_turns range slot
     history ≡ []
-no_own_rows range slot [] h = refl
-no_own_rows range slot (e ∷ history) h =
-    ap (λ (x : Entry). entry_rows range slot x ++ replica_rows range slot history) h.0.is
-    ∙ ap (λ (rows : List Row). rows ++ replica_rows range slot history)
-    (either (same_replica range slot h.0.range (slot_numbered h.0.slot)) [])
-    ∙ no_own_rows range slot history h.1
+no_own_turns range slot [] h = refl
+no_own_turns range slot (e ∷ history) h =
+    ap (λ (x : Entry). entry_turns range slot x ++ replica_turns range slot history) h.0.is
+    ∙ no_own_turns range slot history h.1
 
 -- ---- what is opened
 
@@ -197,12 +191,11 @@ module _ (config : Config) (served : IsServed config) where
       let many = begun.leaf_count config.topology in
       get_or_past (first_histories config.topology).leaves leaf.0 [] (omega (arith, past, many))
 
-  no_acked : (range : Range) → acknowledged_rows (seen_range range) ≡ []
-  no_acked range = elim (cases_lt range.0 (length (ranges_in config.topology))) [
-    | inl h ↦ ap (λ (l : List RangeEntry). acknowledged_rows l) (begun.range_is config.topology range h)
-        ∙ begun.no_acks 0
-        (firsts_of range)
-    | inr past ↦ ap (λ (l : List RangeEntry). acknowledged_rows l) (is_past range (omega (arith, past)))
+  no_turns : (range : Range) (slot : Slot) → turns_since slot (seen_range range) ≡ []
+  no_turns range slot = elim (cases_lt range.0 (length (ranges_in config.topology))) [
+    | inl h ↦ ap (λ (l : List RangeEntry). turns_since slot l) (begun.range_is config.topology range h)
+        ∙ begun.no_turns_since slot 0 (firsts_of range)
+    | inr past ↦ ap (λ (l : List RangeEntry). turns_since slot l) (is_past range (omega (arith, past)))
   ]
 
   no_acks_of : (pass : ℕ) (range : Range) → acks_by pass (seen_range range) ≡ []
@@ -262,8 +255,8 @@ module _ (config : Config) (served : IsServed config) where
   settled range = record {
     rows = λ replica serves. record {
       opened = opened_serving range replica serves;
-      all = no_own_rows range replica.slot (seen_leaf replica.leaf) (begun.leaf_bare config.topology replica.leaf)
-          ∙ sym (no_acked range);
+      all = no_own_turns range replica.slot (seen_leaf replica.leaf) (begun.leaf_bare config.topology replica.leaf)
+          ∙ sym (no_turns range replica.slot);
     };
     fresh = λ slot leaf above. fresh_from range slot leaf above;
   }

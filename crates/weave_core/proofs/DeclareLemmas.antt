@@ -9,6 +9,7 @@ use Rattle.mon_topo.proofs.HeldLemmas.{seen_within_itself}
 use Rattle.mon_config.specs.Configs.{range_of_key}
 use Rattle.mon_topo.specs.HeldHistories.{AreWithin, first_histories}
 use Rattle.mon_topo.specs.Zones.{leaves_in, ranges_in}
+use Rattle.mon_value.specs.Turns.{Turn}
 use Rattle.mon_value.specs.declared.positions.Leaf.{Leaf}
 use Rattle.mon_value.specs.declared.positions.Range.{Range}
 use Rattle.mon_value.specs.declared.rows.Row.{Row}
@@ -34,11 +35,11 @@ use Rattle.core_store.specs.Holders.{AreHolders, HoldsLeaf, HoldsRange}
 use Rattle.mon_script.specs.Controls.{IsRecoverable}
 use Rattle.schedule_lines.specs.LawfulLines.{IsLawfulCall}
 use Rattle.core_theory.specs.Licensed.{IsReader}
-use Rattle.weave_core.specs.NewActors.{BeginsToWrite, IsTaskOf, IsDeclaredActor}
+use Rattle.weave_core.specs.NewActors.{BeginsToWrite, IsTaskOf, IsDeclaredActor, new_trim}
 use Rattle.weave_core.specs.QueryPlans.{BeginsToAsk}
 use Rattle.mon_topo.specs.Sights.{sight_of}
-use Rattle.weave_core.specs.States.{Asking, Dismissed, Eventless, Recovering, Role, State, Switching, Undeclared}
-use Rattle.weave_core.specs.States.{Writing}
+use Rattle.weave_core.specs.States.{Asking, Dismissed, Eventless, Recovering, Retiring, Role, State, Switching}
+use Rattle.weave_core.specs.States.{Undeclared, Writing}
 use Rattle.weave_core.specs.States.{declared_in}
 use Rattle.core_store.specs.NextAsks.{recovers_begun}
 use Rattle.core_store.specs.Agreements.{store_of}
@@ -54,14 +55,19 @@ use Rattle.schedule_lines.specs.declared.calls.WeaveFault.TheVariants as fault
 use Rattle.schedule_lines.specs.declared.limits.TheConstants.{LAST_ACTOR}
 use Rattle.weave_core.specs.declared.queries.Querying.{Querying}
 use Rattle.core_store.specs.declared.recoveries.Recovering.{Recovering as Recover}
+use Rattle.core_store.specs.declared.retirements.Retiring.{Retiring as Retire}
 use Rattle.mon_topo.specs.declared.sights.Sight.{Sight}
 use Rattle.core_store.specs.declared.store.Store.{Store}
 use Rattle.core_store.specs.declared.switches.Switching.{Switching as Switch}
 use Rattle.weave_core.specs.declared.weave.Weave.{Weave}
+use Rattle.core_store.specs.Writers.{IsKeyed, change_turn}
+use Rattle.core_store.specs.declared.writes.Change.{Change}
+use Rattle.core_store.specs.declared.writes.Change.TheVariants as change
 use Rattle.core_store.specs.declared.writes.Writing.{Writing as Write}
 use Rattle.write_core.proofs.KeepsLemmas.{changed_by, changed_other, changed_same}
 use Rattle.write_core.specs.Events.{Aims, Begins, CanAim, CanBegin, new_recovery, new_writer}
 use Rattle.write_core.specs.Program.{Locking, new_write}
+use Rattle.write_core.specs.Steps.{IsTurnAtHome}
 use Rattle.write_core.specs.Recovering.{Beginning}
 use Rattle.mon_topo.specs.Views.{View}
 use Rattle.write_core.specs.World.{Actor as Doer, Recovers, Stands, Writes, with_value_at, view_of}
@@ -76,32 +82,32 @@ stander i view = Stands (record { pass = i; view = view })
 pub stands_so : (i : ℕ) (view : View) (doer : Doer) → doer ≡ stander i view → doer ≡ stander i (view_of doer)
 stands_so i view doer e = e ∙ ap (λ (v : View). stander i v) (sym (ap (λ (d : Doer). view_of d) e))
 
--- ---- a write that has not begun
+-- ---- a write or a trim that has not begun
 
 locks_first : write_ask.Lock ≡ write_ask.Finished → ⊥
 locks_first e = cc
 
-abbrev pub at_lock : ℕ → Row → Range → View → Doer
-at_lock i row range view = Writes (record { pass = i; row = row; range = range; stage = Locking; view = view })
+abbrev pub at_lock : ℕ → Turn → Range → View → Doer
+at_lock i turn range view = Writes (record { pass = i; turn = turn; range = range; stage = Locking; view = view })
 
-abbrev writing_of : ℕ → Row → Range → Write
-writing_of i row range = record {
+abbrev writing_of : ℕ → Change → Range → Write
+writing_of i brought range = record {
   number = i;
-  row = row;
-  key = row.key;
+  change = brought;
   range = range;
   machine = new_write range;
   inside = None;
 }
 
-new_writing : (config : Config) (i : ℕ) (doer : Doer) (reader : Reader (store_of config)) (row : Row) (range : Range)
-    (view : View) → doer ≡ at_lock i row range view
-    → IsWriting config i doer reader (writing_of i row range) false (sight_of view.seen)
-new_writing config i doer reader row range view e = record {
+new_writing : (config : Config) (i : ℕ) (doer : Doer) (reader : Reader (store_of config)) (brought : Change)
+    (range : Range) (view : View) → IsKeyed brought → doer ≡ at_lock i (change_turn brought) range view
+    → IsWriting config i doer reader (writing_of i brought range) false (sight_of view.seen)
+new_writing config i doer reader brought range view keyed e = record {
   writer = record {
     number = refl;
-    key = refl;
-    writer = e ∙ ap (λ (v : View). at_lock i row range v) (sym (ap (λ (d : Doer). view_of d) e));
+    key = keyed;
+    writer = e
+        ∙ ap (λ (v : View). at_lock i (change_turn brought) range v) (sym (ap (λ (d : Doer). view_of d) e));
     range = refl;
     looks = tt;
     below = tt;
@@ -113,11 +119,10 @@ new_writing config i doer reader row range view e = record {
 }
 
 writing_is : (config : Config) (i : ℕ) (row : Row) (writing : Write) → BeginsToWrite config i row writing
-    → writing ≡ writing_of i row writing.range
+    → writing ≡ writing_of i (change.Adds row row.key) writing.range
 writing_is config i row writing h = λ k. record {
   number = h.number k;
-  row = h.row_is k;
-  key = h.key_is k;
+  change = h.change_is k;
   range = writing.range;
   machine = h.machine k;
   inside = h.inside k;
@@ -178,6 +183,7 @@ module _ (config : Config) (state : State (store_of config)) (i : ℕ) where
   undeclared_by Undeclared (Some own) e h = absurd h
   undeclared_by (Eventless text) one e h = absurd cc
   undeclared_by (Switching leaf down) one e h = absurd cc
+  undeclared_by (Retiring range leaf) one e h = absurd cc
   undeclared_by Dismissed one e h = absurd cc
   undeclared_by Recovering one e h = absurd cc
   undeclared_by Writing one e h = absurd cc
@@ -285,6 +291,41 @@ module _ (config : Config) (state : State (store_of config)) (i : ℕ) where
             actor = as_new (task.Switches Switch') begun sight new seen Ready switch_so;
           })
 
+    -- a retirement
+
+    module _ (range : Range) (leaf : Leaf) (there : range.0 < length (ranges_in config.topology)) where
+      abbrev Retires' : State (store_of config)
+      Retires' = with_role (store_of config) state i (Retiring range leaf)
+
+      abbrev Retire' : Retire
+      Retire' = record { number = i; range = range; leaf = leaf }
+
+      retire_so : IsActorSo config i Doer' Reader' (Retires'.roles i)
+          (Some (record { task = task.Retires Retire'; sight = First; begun = false }))
+      retire_so = subst (λ (role : Role). IsActorSo config i Doer' Reader' role
+          (Some (record { task = task.Retires Retire'; sight = First; begun = false })))
+          (sym (changed_same state.roles i (Retiring range leaf)))
+          (record { retire_is = refl; there = there; stands = stands_now; begun_is = refl; seen = first_seen })
+
+      retire_declared : (one : Task) (begun : Bool) (sight : Sight) → begun ≡ false → sight ≡ First
+          → one ≡ task.Retires Retire' → IsDeclaredSo (call.Retire range leaf) one begun sight
+      retire_declared one begun sight new seen is =
+          subst (λ (t : Task). IsDeclaredSo (call.Retire range leaf) t begun sight) (sym is) (record {
+            after = Retires';
+            declares = refl;
+            leaves = record {
+              woven = agrees.woven;
+              holders = agrees.holders;
+              others = record {
+                actor = λ j apart. refl;
+                reader = λ j apart. refl;
+                role = λ j apart. changed_other state.roles i j (Retiring range leaf) apart;
+              };
+            };
+            shared = agrees.shared;
+            actor = as_new (task.Retires Retire') begun sight new seen Retires' retire_so;
+          })
+
     -- a recovery
 
     module _ (range : Range) (leaf : Leaf) (may : IsRecoverable config.topology range leaf) where
@@ -336,60 +377,83 @@ module _ (config : Config) (state : State (store_of config)) (i : ℕ) where
             actor = as_new (task.Recovers (recovering_of i range leaf)) begun sight new seen Recovered recover_so;
           })
 
-    -- a write
+    -- a write, or a trim
 
-    module _ (row : Row) (range : Range)
-        (home : range_of_key config row.key ≡ Some range)
-        (there : range.0 < length (ranges_in config.topology)) (fitting : fits config.schemas row ≡ true) where
+    module _ (brought : Change) (range : Range) (keyed : IsKeyed brought)
+        (home : IsTurnAtHome (store_of config) range (change_turn brought))
+        (there : range.0 < length (ranges_in config.topology)) where
+      abbrev turn : Turn
+      turn = change_turn brought
+
       abbrev Begun : State (store_of config)
-      Begun = with_event (store_of config) state (Happens (Begins i row range))
+      Begun = with_event (store_of config) state (Happens (Begins i turn range))
 
       abbrev Written : State (store_of config)
       Written = with_role (store_of config) Begun i Writing
 
-      begins : CanCome (store_of config) state.core (Happens (Begins i row range))
-      begins = subst (λ (doer : Doer). CanBegin (store_of config) state.core.world row range doer) (sym stands)
-          ((fitting, home), subst (λ (n : ℕ). range.0 < n) (sym agrees.woven.world.truth.held.all_ranges) there)
+      begins : CanCome (store_of config) state.core (Happens (Begins i turn range))
+      begins = subst (λ (doer : Doer). CanBegin (store_of config) state.core.world turn range doer) (sym stands)
+          (home, subst (λ (n : ℕ). range.0 < n) (sym agrees.woven.world.truth.held.all_ranges) there)
 
       write_holders : AreHolders Begun.core.world
-      write_holders = holders_changed state.core.world i (Writes (new_writer row range Doer')) agrees.holders
+      write_holders = holders_changed state.core.world i (Writes (new_writer turn range Doer')) agrees.holders
           (λ r held. absurd (subst (λ (doer : Doer). HoldsRange r doer) stands held))
           (λ l held. absurd (subst (λ (doer : Doer). HoldsLeaf l doer) stands held))
 
       write_left : Leaves (store_of config) state i Written
       write_left = record {
-        woven = stays_woven (store_of config) state.core (Happens (Begins i row range) ∷ []) (begins, tt) agrees.woven;
+        woven = stays_woven (store_of config) state.core (Happens (Begins i turn range) ∷ []) (begins, tt) agrees.woven;
         holders = write_holders;
         others = record {
-          actor = λ j apart. changed_other state.core.world.actors i j (Writes (new_writer row range Doer')) apart;
+          actor = λ j apart. changed_other state.core.world.actors i j (Writes (new_writer turn range Doer')) apart;
           reader = λ j apart. refl;
           role = λ j apart. changed_other state.roles i j Writing apart;
         };
       }
 
-      new_doer : Begun.core.world.actors i ≡ at_lock i row range (first_view config)
-      new_doer = changed_same state.core.world.actors i (Writes (new_writer row range Doer'))
-          ∙ ap (λ (doer : Doer). Writes (new_writer row range doer)) stands
+      new_doer : Begun.core.world.actors i ≡ at_lock i turn range (first_view config)
+      new_doer = changed_same state.core.world.actors i (Writes (new_writer turn range Doer'))
+          ∙ ap (λ (doer : Doer). Writes (new_writer turn range doer)) stands
 
       write_so : IsActorSo config i (Written.core.world.actors i) (Written.core.readers i) (Written.roles i)
-          (Some (record { task = task.Writes (writing_of i row range); sight = First; begun = false }))
+          (Some (record { task = task.Writes (writing_of i brought range); sight = First; begun = false }))
       write_so = subst (λ (role : Role). IsActorSo config i (Begun.core.world.actors i) Reader' role
-          (Some (record { task = task.Writes (writing_of i row range); sight = First; begun = false })))
+          (Some (record { task = task.Writes (writing_of i brought range); sight = First; begun = false })))
           (sym (changed_same state.roles i Writing))
-          (new_writing config i (Begun.core.world.actors i) Reader' row range (first_view config) new_doer)
+          (new_writing config i (Begun.core.world.actors i) Reader' brought range (first_view config) keyed new_doer)
 
-      write_declared : (begun : Bool) (sight : Sight) → begun ≡ false → sight ≡ First
-          → IsDeclaredSo (call.Write row) (task.Writes (writing_of i row range)) begun sight
-      write_declared begun sight new seen = record {
+      begun_declared : (what : Call) (begun : Bool) (sight : Sight) → begun ≡ false → sight ≡ First
+          → Declares config state i what Written
+          → IsDeclaredSo what (task.Writes (writing_of i brought range)) begun sight
+      begun_declared what begun sight new seen declares = record {
         after = Written;
-        declares = subst (λ (found : Option Range). WriteBegins config state i row found Written) (sym home)
-            (begins, refl);
+        declares = declares;
         leaves = write_left;
         shared = shared_beside config state.core.world (with_value_at state.core.world.actors i
-            (Writes (new_writer row range Doer')))
+            (Writes (new_writer turn range Doer')))
             weave.store agrees.shared;
-        actor = as_new (task.Writes (writing_of i row range)) begun sight new seen Written write_so;
+        actor = as_new (task.Writes (writing_of i brought range)) begun sight new seen Written write_so;
       }
+
+    write_declared : (row : Row) (range : Range) → range_of_key config row.key ≡ Some range
+        → range.0 < length (ranges_in config.topology) → fits config.schemas row ≡ true
+        → (begun : Bool) (sight : Sight) → begun ≡ false → sight ≡ First
+        → IsDeclaredSo (call.Write row) (task.Writes (writing_of i (change.Adds row row.key) range)) begun sight
+    write_declared row range home there fitting begun sight new seen =
+        let brought : Change = change.Adds row row.key in
+        begun_declared brought range refl (fitting, home) there (call.Write row) begun sight new seen
+        (subst (λ (found : Option Range). WriteBegins config state i row found
+        (Written brought range refl (fitting, home) there)) (sym home)
+        (begins brought range refl (fitting, home) there, refl))
+
+    trim_declared : (range : Range) (before : ℤ) → range.0 < length (ranges_in config.topology) → (one : Task)
+        (begun : Bool) (sight : Sight) → begun ≡ false → sight ≡ First → one ≡ task.Writes (new_trim i range before)
+        → IsDeclaredSo (call.Trim range before) one begun sight
+    trim_declared range before there one begun sight new seen is =
+        let brought : Change = change.Hides before in
+        subst (λ (t : Task). IsDeclaredSo (call.Trim range before) t begun sight) (sym is)
+        (begun_declared brought range tt tt there (call.Trim range before) begun sight new seen
+        (begins brought range tt tt there, refl))
 
     -- a query
 
@@ -475,6 +539,7 @@ module _ (config : Config) (state : State (store_of config)) (i : ℕ) where
         (sym (writing_is config i row writing h))
         (write_declared row writing.range h.range_is h.there lawful begun sight new seen)
     declared_by (call.Write row) (task.Switches switching) begun sight new seen lawful h = absurd h
+    declared_by (call.Write row) (task.Retires retiring) begun sight new seen lawful h = absurd h
     declared_by (call.Write row) (task.Recovers recovering) begun sight new seen lawful h = absurd h
     declared_by (call.Write row) (task.Queries querying) begun sight new seen lawful h = absurd h
     declared_by (call.Write row) task.Ended begun sight new seen lawful h = absurd h
@@ -485,6 +550,7 @@ module _ (config : Config) (state : State (store_of config)) (i : ℕ) where
         (subst (λ (typed : Result TypedTree TextFault). QueryBegins config state i moment typed
         (with_role (store_of config) state i (Eventless said))) (sym h.refused) refl))
     declared_by (call.Query moment text) (task.Switches switching) begun sight new seen lawful h = absurd h
+    declared_by (call.Query moment text) (task.Retires retiring) begun sight new seen lawful h = absurd h
     declared_by (call.Query moment text) (task.Recovers recovering) begun sight new seen lawful h = absurd h
     declared_by (call.Query moment text) (task.Writes writing) begun sight new seen lawful h = absurd h
     declared_by (call.Query moment text) (task.Queries querying) begun sight new seen lawful h =
@@ -496,6 +562,10 @@ module _ (config : Config) (state : State (store_of config)) (i : ℕ) where
         switch_declared (call.Up leaf) leaf false lawful refl one begun sight new seen h
     declared_by (call.Recover range leaf) one begun sight new seen lawful h =
         recover_declared range leaf lawful one begun sight new seen h
+    declared_by (call.Trim range before) one begun sight new seen lawful h =
+        trim_declared range before lawful.0 one begun sight new seen h
+    declared_by (call.Retire range leaf) one begun sight new seen lawful h =
+        retire_declared range leaf lawful.0 one begun sight new seen h
 
 -- ---- a weave in which it stands at its number
 

@@ -10,6 +10,7 @@ use Rattle.mon_topo.proofs.HeldLemmas.{seen_within_through}
 use Rattle.mon_topo.specs.HeldHistories.{AreWithin, first_histories}
 use Rattle.mon_value.specs.declared.histories.Histories.{Histories}
 use Rattle.mon_value.specs.declared.positions.Leaf.{Leaf}
+use Rattle.mon_value.specs.declared.positions.Range.{Range}
 use Rattle.mon_value.specs.Histories.{joined_histories}
 use Rattle.query_core.specs.Sessions as session
 use Rattle.query_core.specs.Sessions.{query_after}
@@ -23,8 +24,8 @@ use Rattle.core_store.proofs.SeatLemmas.{parts_alike}
 use Rattle.mon_topo.proofs.SightLemmas.{joined_seen}
 use Rattle.weave_core.proofs.StepLemmas.{Leaves}
 use Rattle.weave_core.proofs.WeaveLemmas.{numbered_there}
-use Rattle.weave_core.specs.ActorAgreements.{Agrees, IsActorSo, IsRecovering, IsTaskSo, IsQuerying, IsSwitching}
-use Rattle.weave_core.specs.ActorAgreements.{IsWithoutEvent}
+use Rattle.weave_core.specs.ActorAgreements.{Agrees, IsActorSo, IsRecovering, IsRetiring, IsTaskSo, IsQuerying}
+use Rattle.weave_core.specs.ActorAgreements.{IsSwitching, IsWithoutEvent}
 use Rattle.weave_core.specs.ActorAgreements.{IsWriting, actor_numbered, flat}
 use Rattle.core_store.specs.Agreements.{AreShared}
 use Rattle.core_theory.specs.Core.{CanCome, Happens, Hears, Reader, begun_with}
@@ -37,8 +38,8 @@ use Rattle.weave_core.specs.Schedules.{meet_fault}
 use Rattle.mon_topo.specs.Sights.{AreAlike, joined_sight, sight_of}
 use Rattle.weave_core.specs.States as spec
 use Rattle.core_store.specs.Recoverers.{recovery_of}
-use Rattle.weave_core.specs.States.{Asking, Dismissed, Eventless, Recovering, Role, State, Switching, Undeclared}
-use Rattle.weave_core.specs.States.{Writing}
+use Rattle.weave_core.specs.States.{Asking, Dismissed, Eventless, Recovering, Retiring, Role, State, Switching}
+use Rattle.weave_core.specs.States.{Undeclared, Writing}
 use Rattle.weave_core.specs.States.{begun_in}
 use Rattle.core_store.specs.NextAsks.{is_copy_past_lock, recovers_begun}
 use Rattle.mon_value.specs.Parts.{is_any}
@@ -55,6 +56,7 @@ use Rattle.schedule_lines.specs.declared.calls.WeaveFault.TheVariants as fault
 use Rattle.weave_core.specs.declared.queries.Querying.{Querying}
 use Rattle.core_store.specs.declared.recoveries.Recovering.{Recovering as Recover}
 use Rattle.mon_topo.specs.declared.sights.Sight.{Sight}
+use Rattle.core_store.specs.declared.retirements.Retiring.{Retiring as Retire}
 use Rattle.core_store.specs.declared.store.Store.{Store}
 use Rattle.core_store.specs.declared.switches.Switching.{Switching as Switch}
 use Rattle.weave_core.specs.declared.weave.Weave.{Weave}
@@ -127,36 +129,49 @@ module _ (config : Config) (state : State (store_of config)) (i : ℕ) where
   sight_so Undeclared one begun sight h = absurd h
   sight_so (Eventless text) (task.Refused own) begun sight h = h.seen
   sight_so (Eventless text) (task.Switches switching) begun sight h = absurd h
+  sight_so (Eventless text) (task.Retires retiring) begun sight h = absurd h
   sight_so (Eventless text) (task.Recovers recovering) begun sight h = absurd h
   sight_so (Eventless text) (task.Writes writing) begun sight h = absurd h
   sight_so (Eventless text) (task.Queries querying) begun sight h = absurd h
   sight_so (Eventless text) task.Ended begun sight h = absurd h
   sight_so (Switching leaf down) (task.Refused own) begun sight h = absurd h
   sight_so (Switching leaf down) (task.Switches switching) begun sight h = h.seen
+  sight_so (Switching leaf down) (task.Retires retiring) begun sight h = absurd h
   sight_so (Switching leaf down) (task.Recovers recovering) begun sight h = absurd h
   sight_so (Switching leaf down) (task.Writes writing) begun sight h = absurd h
   sight_so (Switching leaf down) (task.Queries querying) begun sight h = absurd h
   sight_so (Switching leaf down) task.Ended begun sight h = absurd h
+  sight_so (Retiring range leaf) (task.Refused own) begun sight h = absurd h
+  sight_so (Retiring range leaf) (task.Switches switching) begun sight h = absurd h
+  sight_so (Retiring range leaf) (task.Retires retiring) begun sight h = h.seen
+  sight_so (Retiring range leaf) (task.Recovers recovering) begun sight h = absurd h
+  sight_so (Retiring range leaf) (task.Writes writing) begun sight h = absurd h
+  sight_so (Retiring range leaf) (task.Queries querying) begun sight h = absurd h
+  sight_so (Retiring range leaf) task.Ended begun sight h = absurd h
   sight_so Dismissed (task.Refused own) begun sight h = absurd h
   sight_so Dismissed (task.Switches switching) begun sight h = absurd h
+  sight_so Dismissed (task.Retires retiring) begun sight h = absurd h
   sight_so Dismissed (task.Recovers recovering) begun sight h = absurd h
   sight_so Dismissed (task.Writes writing) begun sight h = absurd h
   sight_so Dismissed (task.Queries querying) begun sight h = absurd h
   sight_so Dismissed task.Ended begun sight h = h.seen
   sight_so Recovering (task.Refused own) begun sight h = absurd h
   sight_so Recovering (task.Switches switching) begun sight h = absurd h
+  sight_so Recovering (task.Retires retiring) begun sight h = absurd h
   sight_so Recovering (task.Recovers recovering) begun sight h = h.recoverer.seen
   sight_so Recovering (task.Writes writing) begun sight h = absurd h
   sight_so Recovering (task.Queries querying) begun sight h = absurd h
   sight_so Recovering task.Ended begun sight h = h.seen
   sight_so Writing (task.Refused own) begun sight h = absurd h
   sight_so Writing (task.Switches switching) begun sight h = absurd h
+  sight_so Writing (task.Retires retiring) begun sight h = absurd h
   sight_so Writing (task.Recovers recovering) begun sight h = absurd h
   sight_so Writing (task.Writes writing) begun sight h = h.writer.seen
   sight_so Writing (task.Queries querying) begun sight h = absurd h
   sight_so Writing task.Ended begun sight h = h.seen
   sight_so Asking (task.Refused own) begun sight h = absurd h
   sight_so Asking (task.Switches switching) begun sight h = absurd h
+  sight_so Asking (task.Retires retiring) begun sight h = absurd h
   sight_so Asking (task.Recovers recovering) begun sight h = absurd h
   sight_so Asking (task.Writes writing) begun sight h = absurd h
   sight_so Asking (task.Queries querying) begun sight h = h.reader_so.seen
@@ -167,6 +182,7 @@ module _ (config : Config) (state : State (store_of config)) (i : ℕ) where
   part_in Undeclared woven = part_of (store_of config) state.core.world i Doer' (woven.world.actors i)
   part_in (Eventless text) woven = part_of (store_of config) state.core.world i Doer' (woven.world.actors i)
   part_in (Switching leaf down) woven = part_of (store_of config) state.core.world i Doer' (woven.world.actors i)
+  part_in (Retiring range leaf) woven = part_of (store_of config) state.core.world i Doer' (woven.world.actors i)
   part_in Dismissed woven = part_of (store_of config) state.core.world i Doer' (woven.world.actors i)
   part_in Recovering woven = part_of (store_of config) state.core.world i Doer' (woven.world.actors i)
   part_in Writing woven = part_of (store_of config) state.core.world i Doer' (woven.world.actors i)
@@ -177,8 +193,10 @@ module _ (config : Config) (state : State (store_of config)) (i : ℕ) where
   somebody Undeclared one e h = absurd cc
   somebody (Eventless text) None e h = absurd h
   somebody (Switching leaf down) None e h = absurd h
+  somebody (Retiring range leaf) None e h = absurd h
   somebody (Eventless text) (Some own) e h = record { own = own; is = refl }
   somebody (Switching leaf down) (Some own) e h = record { own = own; is = refl }
+  somebody (Retiring range leaf) (Some own) e h = record { own = own; is = refl }
   somebody Dismissed None e h = absurd h
   somebody Dismissed (Some own) e h = record { own = own; is = refl }
   somebody Recovering None e h = absurd h
@@ -260,6 +278,27 @@ module _ (config : Config) (state : State (store_of config)) (i : ℕ) where
           shared = learned_shared;
           actor = record {
             switch_is = h.switch_is;
+            there = h.there;
+            stands = stands_so i (joined_view (view_of Doer') view) (Learned.core.world.actors i) now;
+            begun_is = h.begun_is;
+            seen = joined_of sight (view_of Doer').seen view.seen h.seen
+                ∙ ap (λ (d : Doer). sight_of (view_of d).seen) (sym now);
+          };
+        }
+
+    retire_hears : (range : Range) (leaf : Leaf) (retiring : Retire) (begun : Bool) (sight : Sight)
+        → IsRetiring config i Doer' Reader' range leaf retiring begun sight
+        → HearsSo (Retiring range leaf) (task.Retires retiring) begun sight
+    retire_hears range leaf retiring begun sight h =
+        let now : Learned.core.world.actors i ≡ stander i (joined_view (view_of Doer') view)
+        = wiser_now (stander i (view_of Doer')) h.stands in
+        let new : HasNotBegun Doer' = subst (λ (doer : Doer). HasNotBegun doer) (sym h.stands) tt in
+        record {
+          can = (new, part);
+          leaves = learned_left new;
+          shared = learned_shared;
+          actor = record {
+            retire_is = h.retire_is;
             there = h.there;
             stands = stands_so i (joined_view (view_of Doer') view) (Learned.core.world.actors i) now;
             begun_is = h.begun_is;
@@ -388,6 +427,7 @@ module _ (config : Config) (state : State (store_of config)) (i : ℕ) where
     hears_by Undeclared one begun sight free h = absurd h
     hears_by (Eventless text) (task.Refused own) begun sight free h = eventless_hears text own begun sight h
     hears_by (Eventless text) (task.Switches switching) begun sight free h = absurd h
+    hears_by (Eventless text) (task.Retires retiring) begun sight free h = absurd h
     hears_by (Eventless text) (task.Recovers recovering) begun sight free h = absurd h
     hears_by (Eventless text) (task.Writes writing) begun sight free h = absurd h
     hears_by (Eventless text) (task.Queries querying) begun sight free h = absurd h
@@ -395,25 +435,37 @@ module _ (config : Config) (state : State (store_of config)) (i : ℕ) where
     hears_by (Switching leaf down) (task.Refused own) begun sight free h = absurd h
     hears_by (Switching leaf down) (task.Switches switching) begun sight free h =
         switch_hears leaf down switching begun sight h
+    hears_by (Switching leaf down) (task.Retires retiring) begun sight free h = absurd h
     hears_by (Switching leaf down) (task.Recovers recovering) begun sight free h = absurd h
     hears_by (Switching leaf down) (task.Writes writing) begun sight free h = absurd h
     hears_by (Switching leaf down) (task.Queries querying) begun sight free h = absurd h
     hears_by (Switching leaf down) task.Ended begun sight free h = absurd h
+    hears_by (Retiring range leaf) (task.Refused own) begun sight free h = absurd h
+    hears_by (Retiring range leaf) (task.Switches switching) begun sight free h = absurd h
+    hears_by (Retiring range leaf) (task.Retires retiring) begun sight free h =
+        retire_hears range leaf retiring begun sight h
+    hears_by (Retiring range leaf) (task.Recovers recovering) begun sight free h = absurd h
+    hears_by (Retiring range leaf) (task.Writes writing) begun sight free h = absurd h
+    hears_by (Retiring range leaf) (task.Queries querying) begun sight free h = absurd h
+    hears_by (Retiring range leaf) task.Ended begun sight free h = absurd h
     hears_by Dismissed one begun sight free h = absurd cc
     hears_by Recovering (task.Refused own) begun sight free h = absurd h
     hears_by Recovering (task.Switches switching) begun sight free h = absurd h
+    hears_by Recovering (task.Retires retiring) begun sight free h = absurd h
     hears_by Recovering (task.Recovers recovering) begun sight free h = recover_hears recovering begun sight free h
     hears_by Recovering (task.Writes writing) begun sight free h = absurd h
     hears_by Recovering (task.Queries querying) begun sight free h = absurd h
     hears_by Recovering task.Ended begun sight free h = let no : true ≡ false = sym h.begun_is ∙ free in absurd cc
     hears_by Writing (task.Refused own) begun sight free h = absurd h
     hears_by Writing (task.Switches switching) begun sight free h = absurd h
+    hears_by Writing (task.Retires retiring) begun sight free h = absurd h
     hears_by Writing (task.Recovers recovering) begun sight free h = absurd h
     hears_by Writing (task.Writes writing) begun sight free h = write_hears writing begun sight free h
     hears_by Writing (task.Queries querying) begun sight free h = absurd h
     hears_by Writing task.Ended begun sight free h = let no : true ≡ false = sym h.begun_is ∙ free in absurd cc
     hears_by Asking (task.Refused own) begun sight free h = absurd h
     hears_by Asking (task.Switches switching) begun sight free h = absurd h
+    hears_by Asking (task.Retires retiring) begun sight free h = absurd h
     hears_by Asking (task.Recovers recovering) begun sight free h = absurd h
     hears_by Asking (task.Writes writing) begun sight free h = absurd h
     hears_by Asking (task.Queries querying) begun sight free h = query_hears querying begun sight free h

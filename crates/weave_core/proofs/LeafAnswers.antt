@@ -19,7 +19,6 @@ use Rattle.mon_meaning.specs.ReadableSlots.{CanBeRead}
 use Rattle.query_traces.specs.declared.asks.Ask.{Ask}
 use Rattle.query_traces.specs.declared.asks.Ask.TheVariants as ask
 use Rattle.query_traces.specs.declared.asks.Told.{Told}
-use Rattle.query_core.specs.declared.stages.Stage.TheVariants as at
 use Rattle.core_store.proofs.MeetingLemmas.{leaf_met}
 use Rattle.weave_core.proofs.QuerySeats.{same_world, shared_leaf, visited_same}
 use Rattle.core_theory.proofs.ReaderAnswers.{reader_reads}

@@ -15,6 +15,7 @@ pub mod QueryTurnLemmas
 pub mod RangeAnswers
 pub mod ReachedLemmas
 pub mod RecoveryStepLemmas
+pub mod RetireStepLemmas
 pub mod StepLemmas
 pub mod SwitchStepLemmas
 pub mod TaskLemmas

@@ -18,8 +18,8 @@ use Rattle.weave_core.specs.ActorSteps.{ActorSteps, IsIn, QueriedSo}
 use Rattle.core_theory.specs.Core.{Reader, Tells, asked_now, told_on, view_told, world_then}
 use Rattle.weave_core.specs.EndTexts.{query_text}
 use Rattle.weave_core.specs.QueryTurns.{IsAsking, QueriesSo}
-use Rattle.weave_core.specs.States.{Asking, Dismissed, Eventless, Recovering, Role, State, Switching, Undeclared}
-use Rattle.weave_core.specs.States.{Writing}
+use Rattle.weave_core.specs.States.{Asking, Dismissed, Eventless, Recovering, Retiring, Role, State, Switching}
+use Rattle.weave_core.specs.States.{Undeclared, Writing}
 use Rattle.mon_value.specs.Parts.{is_any}
 use Rattle.weave_core.specs.States.{holder_in}
 use Rattle.core_store.specs.Agreements.{store_of}
@@ -81,6 +81,7 @@ module _ (config : Config) (state : State (store_of config)) (i : ℕ) (store : 
   asking_by Undeclared h = absurd h
   asking_by (Eventless text) h = absurd h
   asking_by (Switching leaf down) h = absurd h
+  asking_by (Retiring range leaf) h = absurd h
   asking_by Dismissed h = absurd h
   asking_by Recovering h = absurd h
   asking_by Writing h = absurd h

@@ -4,6 +4,7 @@ use Rattle.std.proofs.Common.{Some, None, Result, Ok, Err, refl, sym, subst, ◌
 use Rattle.mon_config.specs.declared.config.Config.{Config}
 use Rattle.mon_config.specs.Configs.{range_of_key}
 use Rattle.mon_topo.specs.Settings.{Setting}
+use Rattle.mon_value.specs.Turns.{Adds, Hides}
 use Rattle.mon_value.specs.declared.positions.Leaf.{Leaf}
 use Rattle.mon_value.specs.declared.positions.Range.{Range}
 use Rattle.mon_value.specs.declared.rows.Row.{Row}
@@ -17,15 +18,15 @@ use Rattle.core_theory.proofs.CoreLemmas.{new_woven, stays_woven}
 use Rattle.core_theory.proofs.EndedLemmas.{Finds, came_finds, new_finds}
 use Rattle.core_theory.specs.Core.{CanCome, CoreEvent, Happens, Hears, Reader, Tells, begun_with, came, told_on}
 use Rattle.core_theory.specs.Core.{view_told}
-use Rattle.weave_core.specs.Declarations.{Declares, QueryBegins, RecoveryBegins, WriteBegins, hearing, new_reader}
-use Rattle.weave_core.specs.Declarations.{with_reader}
+use Rattle.weave_core.specs.Declarations.{Declares, QueryBegins, RecoveryBegins, TrimBegins, WriteBegins, hearing}
+use Rattle.weave_core.specs.Declarations.{new_reader, with_reader}
 use Rattle.weave_core.specs.EndTexts.{no_plan_line, no_zone_line}
 use Rattle.schedule_lines.specs.LawfulLines.{IsLawfulCall, IsLawfulForm}
 use Rattle.core_theory.specs.Licensed.{IsReader, IsWoven}
 use Rattle.weave_core.specs.Reached.{LinesLead}
 use Rattle.weave_core.specs.Schedules.{Does, EndsBy, ActorGoesOn, IsFirstState, Rests, StopsBeforeEvent, Went}
-use Rattle.weave_core.specs.States.{Asking, Dismissed, Eventless, Recovering, Role, State, Switching, Undeclared}
-use Rattle.weave_core.specs.States.{Writing}
+use Rattle.weave_core.specs.States.{Asking, Dismissed, Eventless, Recovering, Retiring, Role, State, Switching}
+use Rattle.weave_core.specs.States.{Undeclared, Writing}
 use Rattle.weave_core.specs.States.{actor_at}
 use Rattle.core_store.specs.Agreements.{store_of}
 use Rattle.weave_core.specs.Steps.{StepsIn, with_event, with_role}
@@ -37,7 +38,8 @@ use Rattle.schedule_lines.specs.declared.events.Event.{Event}
 use Rattle.schedule_lines.specs.declared.lines.LineForm.{LineForm}
 use Rattle.schedule_lines.specs.declared.lines.LineForm.TheVariants as form
 use Rattle.write_core.proofs.KeepsLemmas.{changed_by}
-use Rattle.write_core.specs.Events.{Aims, Begins, CanRun, Copies, Event as WorldEvent, Goes, Switches, after_events}
+use Rattle.write_core.specs.Events.{Aims, Begins, CanRun, Copies, Event as WorldEvent, Goes, Retires, Switches}
+use Rattle.write_core.specs.Events.{after_events}
 use Rattle.write_core.specs.Invariant.{IsActor, IsNewWorld}
 use Rattle.write_core.specs.Noted.{AreNoted}
 use Rattle.mon_topo.specs.Views.{View, joined_view}
@@ -129,6 +131,9 @@ module _ (config : Config)
   switching : (leaf : Leaf) (down : Bool) → Switching leaf down ≡ Asking → ⊥
   switching leaf down e = cc
 
+  retiring : (range : Range) (leaf : Leaf) → Retiring range leaf ≡ Asking → ⊥
+  retiring range leaf e = cc
+
   recovering : Recovering ≡ Asking → ⊥
   recovering e = cc
 
@@ -180,6 +185,11 @@ module _ (config : Config)
       subst Holds (sym goes.becomes)
       (role_holds (with_event Store' state (Happens (Switches k leaf down goes.answer))) k Dismissed dismissed
       (event_holds state (Happens (Switches k leaf down goes.answer)) goes.can h))
+  steps_in (Retiring range leaf) state k how after (inl waits) h = subst Holds (sym waits.same) h
+  steps_in (Retiring range leaf) state k how after (inr goes) h =
+      subst Holds (sym goes.becomes)
+      (role_holds (with_event Store' state (Happens (Retires k range leaf goes.answer))) k Dismissed dismissed
+      (event_holds state (Happens (Retires k range leaf goes.answer)) goes.can h))
   steps_in Dismissed state k how after steps h = absurd steps
   steps_in Recovering state k how after (inl waits) h = subst Holds (sym waits.same) h
   steps_in Recovering state k how after (inr goes) h =
@@ -222,8 +232,15 @@ module _ (config : Config)
       subst Holds (sym begins) (role_holds state k (Eventless no_zone_line) (eventless no_zone_line) h)
   write_holds state k row (Some range) after begins h =
       subst Holds (sym begins.1)
-      (role_holds (with_event Store' state (Happens (Begins k row range))) k Writing writing
-      (event_holds state (Happens (Begins k row range)) begins.0 h))
+      (role_holds (with_event Store' state (Happens (Begins k (Adds row) range))) k Writing writing
+      (event_holds state (Happens (Begins k (Adds row) range)) begins.0 h))
+
+  trim_holds : (state : State') (k : ℕ) (range : Range) (before : ℤ) (after : State')
+      → TrimBegins config state k range before after → Holds state → Holds after
+  trim_holds state k range before after begins h =
+      subst Holds (sym begins.1)
+      (role_holds (with_event Store' state (Happens (Begins k (Hides before) range))) k Writing writing
+      (event_holds state (Happens (Begins k (Hides before) range)) begins.0 h))
 
   recover_holds : (state : State') (k : ℕ) (range : Range) (leaf : Leaf) (after : State')
       → RecoveryBegins config state k range leaf after → Holds state → Holds after
@@ -254,6 +271,10 @@ module _ (config : Config)
       subst Holds (sym declares) (role_holds state k (Switching leaf false) (switching leaf false) h)
   declare_holds state k (call.Recover range leaf) after lawful declares h =
       recover_holds state k range leaf after declares h
+  declare_holds state k (call.Trim range before) after lawful declares h =
+      trim_holds state k range before after declares h
+  declare_holds state k (call.Retire range leaf) after lawful declares h =
+      subst Holds (sym declares) (role_holds state k (Retiring range leaf) (retiring range leaf) h)
 
   does_hold : (state : State') (what : LineForm) (said : List ℕ) (after : State')
       → IsLawfulForm config.schemas config.topology what

@@ -11,8 +11,8 @@ use Rattle.weave_core.specs.ActorSteps.{ActorSteps, IsIn, RecoveredSo}
 use Rattle.weave_core.specs.EndTexts.{recover_text}
 use Rattle.core_store.specs.Recoverers.{recovery_of}
 use Rattle.core_store.specs.RecoverTurns.{IsOpening, RecoversSo}
-use Rattle.weave_core.specs.States.{Asking, Dismissed, Eventless, Recovering, Role, State, Switching, Undeclared}
-use Rattle.weave_core.specs.States.{Writing}
+use Rattle.weave_core.specs.States.{Asking, Dismissed, Eventless, Recovering, Retiring, Role, State, Switching}
+use Rattle.weave_core.specs.States.{Undeclared, Writing}
 use Rattle.core_store.specs.NextAsks.{copy_asks, recovers_begun}
 use Rattle.weave_core.specs.States.{holder_in}
 use Rattle.core_store.specs.Agreements.{store_of}
@@ -55,6 +55,7 @@ module _ (config : Config) (state : State (store_of config)) (i : ℕ) (store : 
   recovering_by Undeclared h = absurd h
   recovering_by (Eventless text) h = absurd h
   recovering_by (Switching leaf down) h = absurd h
+  recovering_by (Retiring range leaf) h = absurd h
   recovering_by Dismissed h = absurd h
   recovering_by Recovering h = refl
   recovering_by Writing h = absurd h

@@ -2,6 +2,7 @@
 use Rattle.std.proofs.Common.{◌≡◌, ◌≢◌, ℕ, ℤ, Bool, List, [], ◌∷◌, refl, sym, subst, inl, inr}
 use Rattle.mon_topo.specs.Settings.{Setting}
 use Rattle.mon_value.specs.declared.positions.Leaf.{Leaf}
+use Rattle.mon_value.specs.declared.positions.Range.{Range}
 use Rattle.query_traces.specs.Rounds.{QuerySetting}
 use Rattle.query_traces.specs.declared.asks.Ask.{Ask}
 use Rattle.query_traces.specs.declared.asks.Ask.TheVariants as ask
@@ -9,18 +10,18 @@ use Rattle.query_traces.specs.declared.asks.Told.{Told}
 use Rattle.query_core.specs.declared.stages.Stage.{Stage as QueryStage}
 use Rattle.core_theory.proofs.CoreLemmas.{stays_woven}
 use Rattle.core_store.proofs.CopyHolderLemmas.{copy_held}
-use Rattle.core_store.proofs.HolderLemmas.{step_held, switch_held}
+use Rattle.core_store.proofs.HolderLemmas.{retire_held, step_held, switch_held}
 use Rattle.weave_core.proofs.QueryStepLemmas.{actors_stay}
 use Rattle.core_theory.specs.Core.{CanCome, Happens, Tells, asked_now, world_then}
 use Rattle.core_store.specs.Holders.{AreHolders}
 use Rattle.core_theory.specs.Licensed.{IsWoven}
-use Rattle.weave_core.specs.States.{Asking, Dismissed, Eventless, Recovering, Role, State, Switching, Undeclared}
-use Rattle.weave_core.specs.States.{Writing}
+use Rattle.weave_core.specs.States.{Asking, Dismissed, Eventless, Recovering, Retiring, Role, State, Switching}
+use Rattle.weave_core.specs.States.{Undeclared, Writing}
 use Rattle.weave_core.specs.Steps.{Steps, StepsIn, with_event, with_role}
 use Rattle.weave_core.specs.declared.stepped.Stepped.{Stepped}
 use Rattle.write_core.proofs.KeepsLemmas.{changed_other}
 use Rattle.write_core.specs.CopySteps.{CanRecover, after_copy_event, copy_at, copy_step}
-use Rattle.write_core.specs.Events.{Copies, Goes, SwitchTold, Switches, switched}
+use Rattle.write_core.specs.Events.{Copies, Goes, Retires, SwitchTold, Switches, retired, switched}
 use Rattle.write_core.specs.Program.{Acking, Ended, Entering, Inside, Locking, Reserving, Stage, after}
 use Rattle.write_core.specs.Steps.{CanGo, after_entering, gone_on_inside, after_reserving, step, step_at, after_answer}
 use Rattle.mon_topo.specs.Views.{View}
@@ -30,6 +31,7 @@ use Rattle.write_core.specs.Recovering as copy
 use Rattle.write_core.specs.World.{Actor, Recovers, Recovery, Stands, World, Writer, Writes}
 use Rattle.write_core.specs.declared.asks.WriteTold.{WriteTold}
 use Rattle.write_core.specs.declared.marks.Mark.{Mark}
+use Rattle.write_core.specs.declared.retirements.Retirement.{Retirement}
 
 -- ---- other actors of the world
 
@@ -100,6 +102,13 @@ switch_others : (world : World) (i j : ℕ) → j ≢ i → (actor : Actor) (lea
 switch_others world i j apart (Writes writer) leaf down answer = refl
 switch_others world i j apart (Recovers recovery) leaf down answer = refl
 switch_others world i j apart (Stands stander) leaf down answer = changed_other world.actors i j _ apart
+
+-- and so does a retirement
+retire_others : (world : World) (i j : ℕ) → j ≢ i → (actor : Actor) (range : Range) (leaf : Leaf)
+    (answer : Retirement) → (retired world i actor range leaf answer).actors j ≡ world.actors j
+retire_others world i j apart (Writes writer) range leaf answer = refl
+retire_others world i j apart (Recovers recovery) range leaf answer = refl
+retire_others world i j apart (Stands stander) range leaf answer = changed_other world.actors i j _ apart
 
 -- ---- holders beside a query
 
@@ -198,6 +207,19 @@ module _ (store : Setting) (state : State store) (i : ℕ) where
       };
     }
 
+    retired_left : (range : Range) (leaf : Leaf) (answer : Retirement)
+        → CanCome store state.core (Happens (Retires i range leaf answer))
+        → Leaves (with_role store (with_event store state (Happens (Retires i range leaf answer))) i Dismissed)
+    retired_left range leaf answer can = record {
+      woven = stays_woven store state.core (Happens (Retires i range leaf answer) ∷ []) (can, tt) woven;
+      holders = retire_held state.core.world i range leaf answer h;
+      others = record {
+        actor = λ j apart. retire_others state.core.world i j apart (state.core.world.actors i) range leaf answer;
+        reader = λ j apart. refl;
+        role = λ j apart. changed_other state.roles i j Dismissed apart;
+      };
+    }
+
     queried_left : (answer : Told) (stage : QueryStage) → CanCome store state.core (Tells i answer stage)
         → Leaves (with_event store state (Tells i answer stage))
     queried_left answer stage can =
@@ -220,6 +242,10 @@ module _ (store : Setting) (state : State store) (i : ℕ) where
     left_by (Switching leaf down) how left s = elim s [
       | inl waits ↦ subst Leaves (sym waits.same) same_left
       | inr goes ↦ subst Leaves (sym goes.becomes) (switched_left leaf down goes.answer goes.can)
+    ]
+    left_by (Retiring range leaf) how left s = elim s [
+      | inl waits ↦ subst Leaves (sym waits.same) same_left
+      | inr goes ↦ subst Leaves (sym goes.becomes) (retired_left range leaf goes.answer goes.can)
     ]
     left_by Dismissed how left s = absurd s
     left_by Recovering how left s = elim s [

@@ -28,8 +28,8 @@ use Rattle.weave_core.specs.ActorSteps.{ActorSteps, HasStepped, IsIn, SwitchedSo
 use Rattle.core_store.specs.Agreements.{AreShared, IsLeafSo}
 use Rattle.weave_core.specs.EndTexts.{switch_text}
 use Rattle.core_store.specs.WriteEvents.{IsHeldFrom}
-use Rattle.weave_core.specs.States.{Asking, Dismissed, Eventless, Recovering, Role, State, Switching, Undeclared}
-use Rattle.weave_core.specs.States.{Writing}
+use Rattle.weave_core.specs.States.{Asking, Dismissed, Eventless, Recovering, Retiring, Role, State, Switching}
+use Rattle.weave_core.specs.States.{Undeclared, Writing}
 use Rattle.weave_core.specs.States.{holder_in}
 use Rattle.core_store.specs.Agreements.{store_of}
 use Rattle.weave_core.specs.Steps.{StepsIn, with_event, with_role}
@@ -301,6 +301,7 @@ module _ (config : Config) (i : ℕ) (doer : Doer) (reader : Reader (store_of co
   switch_role Undeclared h = absurd h
   switch_role (Eventless text) h = absurd h
   switch_role (Switching leaf down) h = record { leaf = leaf; down = down; is = refl; so = h }
+  switch_role (Retiring range leaf) h = absurd h
   switch_role Dismissed h = absurd h
   switch_role Recovering h = absurd h
   switch_role Writing h = absurd h

@@ -16,8 +16,8 @@ use Rattle.core_theory.specs.Core.{Reader, asked_now, query_now}
 use Rattle.weave_core.specs.Tasks.{event_of, is_over}
 use Rattle.weave_core.specs.AskedEvents.{event_of_copy, event_of_query, event_of_write}
 use Rattle.weave_core.specs.States as spec
-use Rattle.weave_core.specs.States.{Asking, Dismissed, Eventless, Recovering, Role, State, Switching, Undeclared}
-use Rattle.weave_core.specs.States.{Writing}
+use Rattle.weave_core.specs.States.{Asking, Dismissed, Eventless, Recovering, Retiring, Role, State, Switching}
+use Rattle.weave_core.specs.States.{Undeclared, Writing}
 use Rattle.weave_core.specs.States.{begun_in}
 use Rattle.core_store.specs.NextAsks.{copy_asks}
 use Rattle.weave_core.specs.States.{declared_in, ended_in, role_fault, next_in, step_fault}
@@ -111,24 +111,35 @@ module _ (config : Config) (state : State (store_of config)) (i : ℕ) where
   next_so Undeclared one begun sight h = absurd h
   next_so (Eventless text) (task.Refused own) begun sight h = refl
   next_so (Eventless text) (task.Switches switching) begun sight h = absurd h
+  next_so (Eventless text) (task.Retires retiring) begun sight h = absurd h
   next_so (Eventless text) (task.Recovers recovering) begun sight h = absurd h
   next_so (Eventless text) (task.Writes writing) begun sight h = absurd h
   next_so (Eventless text) (task.Queries querying) begun sight h = absurd h
   next_so (Eventless text) task.Ended begun sight h = absurd h
   next_so (Switching leaf down) (task.Refused own) begun sight h = absurd h
   next_so (Switching leaf down) (task.Switches switching) begun sight h = refl
+  next_so (Switching leaf down) (task.Retires retiring) begun sight h = absurd h
   next_so (Switching leaf down) (task.Recovers recovering) begun sight h = absurd h
   next_so (Switching leaf down) (task.Writes writing) begun sight h = absurd h
   next_so (Switching leaf down) (task.Queries querying) begun sight h = absurd h
   next_so (Switching leaf down) task.Ended begun sight h = absurd h
+  next_so (Retiring range leaf) (task.Refused own) begun sight h = absurd h
+  next_so (Retiring range leaf) (task.Switches switching) begun sight h = absurd h
+  next_so (Retiring range leaf) (task.Retires retiring) begun sight h = refl
+  next_so (Retiring range leaf) (task.Recovers recovering) begun sight h = absurd h
+  next_so (Retiring range leaf) (task.Writes writing) begun sight h = absurd h
+  next_so (Retiring range leaf) (task.Queries querying) begun sight h = absurd h
+  next_so (Retiring range leaf) task.Ended begun sight h = absurd h
   next_so Dismissed (task.Refused own) begun sight h = absurd h
   next_so Dismissed (task.Switches switching) begun sight h = absurd h
+  next_so Dismissed (task.Retires retiring) begun sight h = absurd h
   next_so Dismissed (task.Recovers recovering) begun sight h = absurd h
   next_so Dismissed (task.Writes writing) begun sight h = absurd h
   next_so Dismissed (task.Queries querying) begun sight h = absurd h
   next_so Dismissed task.Ended begun sight h = refl
   next_so Recovering (task.Refused own) begun sight h = absurd h
   next_so Recovering (task.Switches switching) begun sight h = absurd h
+  next_so Recovering (task.Retires retiring) begun sight h = absurd h
   next_so Recovering (task.Recovers recovering) begun sight h =
       ap (λ (asks : CopyAsk). event_of_copy asks) (copy_asks_so recovering begun sight h)
   next_so Recovering (task.Writes writing) begun sight h = absurd h
@@ -136,6 +147,7 @@ module _ (config : Config) (state : State (store_of config)) (i : ℕ) where
   next_so Recovering task.Ended begun sight h = sym (ap (λ (asks : CopyAsk). event_of_copy asks) h.ended)
   next_so Writing (task.Refused own) begun sight h = absurd h
   next_so Writing (task.Switches switching) begun sight h = absurd h
+  next_so Writing (task.Retires retiring) begun sight h = absurd h
   next_so Writing (task.Recovers recovering) begun sight h = absurd h
   next_so Writing (task.Writes writing) begun sight h =
       ap (λ (asks : WriteAsk). event_of_write asks) (write_asks_so writing begun sight h)
@@ -143,6 +155,7 @@ module _ (config : Config) (state : State (store_of config)) (i : ℕ) where
   next_so Writing task.Ended begun sight h = sym (ap (λ (asks : WriteAsk). event_of_write asks) h.ended)
   next_so Asking (task.Refused own) begun sight h = absurd h
   next_so Asking (task.Switches switching) begun sight h = absurd h
+  next_so Asking (task.Retires retiring) begun sight h = absurd h
   next_so Asking (task.Recovers recovering) begun sight h = absurd h
   next_so Asking (task.Writes writing) begun sight h = absurd h
   next_so Asking (task.Queries querying) begun sight h =
@@ -153,6 +166,7 @@ module _ (config : Config) (state : State (store_of config)) (i : ℕ) where
   no_next Undeclared h = refl
   no_next (Eventless text) h = absurd h
   no_next (Switching leaf down) h = absurd h
+  no_next (Retiring range leaf) h = absurd h
   no_next Dismissed h = absurd h
   no_next Recovering h = absurd h
   no_next Writing h = absurd h
@@ -166,8 +180,10 @@ module _ (config : Config) (state : State (store_of config)) (i : ℕ) where
   declared_so Undeclared (Some own) h = absurd h
   declared_so (Eventless text) None h = absurd h
   declared_so (Switching leaf down) None h = absurd h
+  declared_so (Retiring range leaf) None h = absurd h
   declared_so (Eventless text) (Some own) h = refl
   declared_so (Switching leaf down) (Some own) h = refl
+  declared_so (Retiring range leaf) (Some own) h = refl
   declared_so Dismissed None h = absurd h
   declared_so Dismissed (Some own) h = refl
   declared_so Recovering None h = absurd h
@@ -182,6 +198,7 @@ module _ (config : Config) (state : State (store_of config)) (i : ℕ) where
   no_actor Undeclared h = refl
   no_actor (Eventless text) h = absurd h
   no_actor (Switching leaf down) h = absurd h
+  no_actor (Retiring range leaf) h = absurd h
   no_actor Dismissed h = absurd h
   no_actor Recovering h = absurd h
   no_actor Writing h = absurd h
@@ -195,24 +212,35 @@ module _ (config : Config) (state : State (store_of config)) (i : ℕ) where
   over_so Undeclared one begun sight h = absurd h
   over_so (Eventless text) (task.Refused own) begun sight h = refl
   over_so (Eventless text) (task.Switches switching) begun sight h = absurd h
+  over_so (Eventless text) (task.Retires retiring) begun sight h = absurd h
   over_so (Eventless text) (task.Recovers recovering) begun sight h = absurd h
   over_so (Eventless text) (task.Writes writing) begun sight h = absurd h
   over_so (Eventless text) (task.Queries querying) begun sight h = absurd h
   over_so (Eventless text) task.Ended begun sight h = absurd h
   over_so (Switching leaf down) (task.Refused own) begun sight h = absurd h
   over_so (Switching leaf down) (task.Switches switching) begun sight h = refl
+  over_so (Switching leaf down) (task.Retires retiring) begun sight h = absurd h
   over_so (Switching leaf down) (task.Recovers recovering) begun sight h = absurd h
   over_so (Switching leaf down) (task.Writes writing) begun sight h = absurd h
   over_so (Switching leaf down) (task.Queries querying) begun sight h = absurd h
   over_so (Switching leaf down) task.Ended begun sight h = absurd h
+  over_so (Retiring range leaf) (task.Refused own) begun sight h = absurd h
+  over_so (Retiring range leaf) (task.Switches switching) begun sight h = absurd h
+  over_so (Retiring range leaf) (task.Retires retiring) begun sight h = refl
+  over_so (Retiring range leaf) (task.Recovers recovering) begun sight h = absurd h
+  over_so (Retiring range leaf) (task.Writes writing) begun sight h = absurd h
+  over_so (Retiring range leaf) (task.Queries querying) begun sight h = absurd h
+  over_so (Retiring range leaf) task.Ended begun sight h = absurd h
   over_so Dismissed (task.Refused own) begun sight h = absurd h
   over_so Dismissed (task.Switches switching) begun sight h = absurd h
+  over_so Dismissed (task.Retires retiring) begun sight h = absurd h
   over_so Dismissed (task.Recovers recovering) begun sight h = absurd h
   over_so Dismissed (task.Writes writing) begun sight h = absurd h
   over_so Dismissed (task.Queries querying) begun sight h = absurd h
   over_so Dismissed task.Ended begun sight h = refl
   over_so Recovering (task.Refused own) begun sight h = absurd h
   over_so Recovering (task.Switches switching) begun sight h = absurd h
+  over_so Recovering (task.Retires retiring) begun sight h = absurd h
   over_so Recovering (task.Recovers recovering) begun sight h =
       sym (ap (λ (asks : CopyAsk). not (is_some (event_of_copy asks))) (sym (copy_asks_so recovering begun sight h))
       ∙ ap not (recovery_has_event (copy_ask_of recovering.machine) h.goes_on))
@@ -222,6 +250,7 @@ module _ (config : Config) (state : State (store_of config)) (i : ℕ) where
       h.ended)
   over_so Writing (task.Refused own) begun sight h = absurd h
   over_so Writing (task.Switches switching) begun sight h = absurd h
+  over_so Writing (task.Retires retiring) begun sight h = absurd h
   over_so Writing (task.Recovers recovering) begun sight h = absurd h
   over_so Writing (task.Writes writing) begun sight h =
       sym (ap (λ (asks : WriteAsk). not (is_some (event_of_write asks))) (sym (write_asks_so writing begun sight h))
@@ -231,6 +260,7 @@ module _ (config : Config) (state : State (store_of config)) (i : ℕ) where
       h.ended)
   over_so Asking (task.Refused own) begun sight h = absurd h
   over_so Asking (task.Switches switching) begun sight h = absurd h
+  over_so Asking (task.Retires retiring) begun sight h = absurd h
   over_so Asking (task.Recovers recovering) begun sight h = absurd h
   over_so Asking (task.Writes writing) begun sight h = absurd h
   over_so Asking (task.Queries querying) begun sight h =
@@ -243,6 +273,7 @@ module _ (config : Config) (state : State (store_of config)) (i : ℕ) where
   not_over Undeclared h = refl
   not_over (Eventless text) h = absurd h
   not_over (Switching leaf down) h = absurd h
+  not_over (Retiring range leaf) h = absurd h
   not_over Dismissed h = absurd h
   not_over Recovering h = absurd h
   not_over Writing h = absurd h
@@ -256,6 +287,7 @@ module _ (config : Config) (state : State (store_of config)) (i : ℕ) where
   free_so Undeclared one begun sight h on = absurd h
   free_so (Eventless text) one begun sight h on = refl
   free_so (Switching leaf down) one begun sight h on = refl
+  free_so (Retiring range leaf) one begun sight h on = refl
   free_so Dismissed one begun sight h on = unended (sym (over_so Dismissed one begun sight h) ∙ on)
   free_so Recovering one begun sight h on = unended (sym (over_so Recovering one begun sight h) ∙ on)
   free_so Writing one begun sight h on = unended (sym (over_so Writing one begun sight h) ∙ on)
@@ -269,36 +301,49 @@ module _ (config : Config) (state : State (store_of config)) (i : ℕ) where
   begun_so Undeclared one begun sight h = absurd h
   begun_so (Eventless text) (task.Refused own) begun sight h = or_false begun ∙ h.begun_is
   begun_so (Eventless text) (task.Switches switching) begun sight h = absurd h
+  begun_so (Eventless text) (task.Retires retiring) begun sight h = absurd h
   begun_so (Eventless text) (task.Recovers recovering) begun sight h = absurd h
   begun_so (Eventless text) (task.Writes writing) begun sight h = absurd h
   begun_so (Eventless text) (task.Queries querying) begun sight h = absurd h
   begun_so (Eventless text) task.Ended begun sight h = absurd h
   begun_so (Switching leaf down) (task.Refused own) begun sight h = absurd h
   begun_so (Switching leaf down) (task.Switches switching) begun sight h = or_false begun ∙ h.begun_is
+  begun_so (Switching leaf down) (task.Retires retiring) begun sight h = absurd h
   begun_so (Switching leaf down) (task.Recovers recovering) begun sight h = absurd h
   begun_so (Switching leaf down) (task.Writes writing) begun sight h = absurd h
   begun_so (Switching leaf down) (task.Queries querying) begun sight h = absurd h
   begun_so (Switching leaf down) task.Ended begun sight h = absurd h
+  begun_so (Retiring range leaf) (task.Refused own) begun sight h = absurd h
+  begun_so (Retiring range leaf) (task.Switches switching) begun sight h = absurd h
+  begun_so (Retiring range leaf) (task.Retires retiring) begun sight h = or_false begun ∙ h.begun_is
+  begun_so (Retiring range leaf) (task.Recovers recovering) begun sight h = absurd h
+  begun_so (Retiring range leaf) (task.Writes writing) begun sight h = absurd h
+  begun_so (Retiring range leaf) (task.Queries querying) begun sight h = absurd h
+  begun_so (Retiring range leaf) task.Ended begun sight h = absurd h
   begun_so Dismissed (task.Refused own) begun sight h = absurd h
   begun_so Dismissed (task.Switches switching) begun sight h = absurd h
+  begun_so Dismissed (task.Retires retiring) begun sight h = absurd h
   begun_so Dismissed (task.Recovers recovering) begun sight h = absurd h
   begun_so Dismissed (task.Writes writing) begun sight h = absurd h
   begun_so Dismissed (task.Queries querying) begun sight h = absurd h
   begun_so Dismissed task.Ended begun sight h = or_true begun
   begun_so Recovering (task.Refused own) begun sight h = absurd h
   begun_so Recovering (task.Switches switching) begun sight h = absurd h
+  begun_so Recovering (task.Retires retiring) begun sight h = absurd h
   begun_so Recovering (task.Recovers recovering) begun sight h = or_false begun ∙ h.begun_is
   begun_so Recovering (task.Writes writing) begun sight h = absurd h
   begun_so Recovering (task.Queries querying) begun sight h = absurd h
   begun_so Recovering task.Ended begun sight h = or_true begun ∙ sym h.begun_is
   begun_so Writing (task.Refused own) begun sight h = absurd h
   begun_so Writing (task.Switches switching) begun sight h = absurd h
+  begun_so Writing (task.Retires retiring) begun sight h = absurd h
   begun_so Writing (task.Recovers recovering) begun sight h = absurd h
   begun_so Writing (task.Writes writing) begun sight h = or_false begun ∙ h.begun_is
   begun_so Writing (task.Queries querying) begun sight h = absurd h
   begun_so Writing task.Ended begun sight h = or_true begun ∙ sym h.begun_is
   begun_so Asking (task.Refused own) begun sight h = absurd h
   begun_so Asking (task.Switches switching) begun sight h = absurd h
+  begun_so Asking (task.Retires retiring) begun sight h = absurd h
   begun_so Asking (task.Recovers recovering) begun sight h = absurd h
   begun_so Asking (task.Writes writing) begun sight h = absurd h
   begun_so Asking (task.Queries querying) begun sight h = or_false begun ∙ h.begun_is
@@ -309,6 +354,7 @@ module _ (config : Config) (state : State (store_of config)) (i : ℕ) where
   not_begun Undeclared h = refl
   not_begun (Eventless text) h = absurd h
   not_begun (Switching leaf down) h = absurd h
+  not_begun (Retiring range leaf) h = absurd h
   not_begun Dismissed h = absurd h
   not_begun Recovering h = absurd h
   not_begun Writing h = absurd h

@@ -13,12 +13,12 @@ use Rattle.query_core.specs.declared.stages.Stage.TheVariants as query
 use Rattle.weave_core.proofs.TaskLemmas.{unended}
 use Rattle.weave_core.specs.ActorAgreements.{Agrees}
 use Rattle.core_theory.specs.Core.{query_now}
-use Rattle.weave_core.specs.EndTexts.{switch_text}
+use Rattle.weave_core.specs.EndTexts.{retire_text, switch_text}
 use Rattle.weave_core.specs.AskedEvents.{event_of_copy, event_of_query, event_of_write}
 use Rattle.weave_core.specs.ScheduleTurns.{GoesSo, HasGone}
 use Rattle.weave_core.specs.Schedules.{IsNextEvent, Went}
-use Rattle.weave_core.specs.States.{Asking, Dismissed, Eventless, Recovering, Role, State, Switching, Undeclared}
-use Rattle.weave_core.specs.States.{Writing}
+use Rattle.weave_core.specs.States.{Asking, Dismissed, Eventless, Recovering, Retiring, Role, State, Switching}
+use Rattle.weave_core.specs.States.{Undeclared, Writing}
 use Rattle.core_store.specs.NextAsks.{copy_asks}
 use Rattle.weave_core.specs.States.{role_fault, next_in}
 use Rattle.weave_core.specs.States.{step_fault}
@@ -108,6 +108,7 @@ module _ (store : Setting) (k : ℕ) where
   went_in Undeclared state after steps = absurd steps
   went_in (Eventless text) state after steps = refl
   went_in (Switching leaf down) state after steps = refl
+  went_in (Retiring range leaf) state after steps = refl
   went_in Dismissed state after steps = absurd steps
   went_in Recovering state after (inl waits) = let no : stepped.Went ≡ stepped.Waits = waits.waits in absurd cc
   went_in Recovering state after (inr goes) =
@@ -128,6 +129,9 @@ module _ (store : Setting) (k : ℕ) where
   same_role (Switching leaf down) state after (inl waits) = ap (λ (s : State store). s.roles k) waits.same
   same_role (Switching leaf down) state after (inr goes) =
       let no : stepped.Went ≡ stepped.Ended (switch_text store.zones leaf down goes.answer) = goes.went in absurd cc
+  same_role (Retiring range leaf) state after (inl waits) = ap (λ (s : State store). s.roles k) waits.same
+  same_role (Retiring range leaf) state after (inr goes) =
+      let no : stepped.Went ≡ stepped.Ended (retire_text store.zones range leaf goes.answer) = goes.went in absurd cc
   same_role Dismissed state after steps = absurd steps
   same_role Recovering state after (inl waits) = ap (λ (s : State store). s.roles k) waits.same
   same_role Recovering state after (inr goes) = ap (λ (s : State store). s.roles k) goes.becomes
@@ -147,6 +151,7 @@ module _ (store : Setting) (k : ℕ) where
   next_free_in Undeclared state event e = absurd cc
   next_free_in (Eventless text) state event e = refl
   next_free_in (Switching leaf down) state event e = refl
+  next_free_in (Retiring range leaf) state event e = refl
   next_free_in Dismissed state event e = absurd cc
   next_free_in Recovering state event e = unended (ap (λ (o : Option Event). not (is_some o)) e)
   next_free_in Writing state event e = unended (ap (λ (o : Option Event). not (is_some o)) e)

@@ -16,7 +16,6 @@ use Rattle.query_core.specs.Program.{ask_of}
 use Rattle.query_traces.specs.Rounds.{QuerySetting}
 use Rattle.query_traces.specs.declared.asks.Ask.{Ask}
 use Rattle.query_traces.specs.declared.asks.Ask.TheVariants as ask
-use Rattle.query_core.specs.declared.stages.Stage.TheVariants as at
 use Rattle.core_store.proofs.PlaceLemmas.{root_there, zone_word_there}
 use Rattle.plan_split.proofs.PlanBuckets.{next_below}
 use Rattle.core_theory.specs.Core.{Core}

@@ -9,19 +9,20 @@ use Rattle.weave_core.proofs.TaskLemmas.{no_fault}
 use Rattle.weave_core.specs.ActorAgreements.{IsActorSo, IsTaskSo, IsWriting}
 use Rattle.weave_core.specs.ActorSteps.{ActorSteps, IsIn, WrittenSo}
 use Rattle.core_theory.specs.Core.{Happens}
-use Rattle.weave_core.specs.EndTexts.{write_end_text}
-use Rattle.weave_core.specs.States.{Asking, Dismissed, Eventless, Recovering, Role, State, Switching, Undeclared}
-use Rattle.weave_core.specs.States.{Writing}
+use Rattle.weave_core.specs.EndTexts.{deed_of, write_end_text}
+use Rattle.weave_core.specs.States.{Asking, Dismissed, Eventless, Recovering, Retiring, Role, State, Switching}
+use Rattle.weave_core.specs.States.{Undeclared, Writing}
 use Rattle.weave_core.specs.States.{holder_in}
 use Rattle.core_store.specs.NextAsks.{is_past_lock, write_asks, writes_begun}
 use Rattle.core_store.specs.Agreements.{store_of}
 use Rattle.weave_core.specs.Steps.{StepsIn, with_event, write_stepped, writer_stepped}
 use Rattle.core_store.specs.WriteTurns.{IsAtWork, WritesSo}
-use Rattle.core_store.specs.Writers.{writer_of}
+use Rattle.core_store.specs.Writers.{change_turn, writer_of}
 use Rattle.weave_core.specs.declared.actors.Actor.{Actor}
 use Rattle.weave_core.specs.declared.actors.Task.TheVariants as task
 use Rattle.weave_core.specs.declared.stepped.Stepped.{Stepped}
 use Rattle.weave_core.specs.declared.stepped.Stepped.TheVariants as stepped
+use Rattle.weave_core.specs.declared.texts.Deed.{Deed}
 use Rattle.mon_topo.specs.declared.sights.Sight.{Sight}
 use Rattle.core_store.specs.declared.store.Store.{Store}
 use Rattle.core_store.specs.declared.writes.WriteTurn.{WriteTurn}
@@ -121,6 +122,7 @@ module _ (config : Config) (state : State (store_of config)) (i : ℕ) (store : 
   writing_by Undeclared h = absurd h
   writing_by (Eventless text) h = absurd h
   writing_by (Switching leaf down) h = absurd h
+  writing_by (Retiring range leaf) h = absurd h
   writing_by Dismissed h = absurd h
   writing_by Recovering h = absurd h
   writing_by Writing h = refl
@@ -154,12 +156,13 @@ module _ (config : Config) (state : State (store_of config)) (i : ℕ) (store : 
     abbrev doer_then : Doer
     doer_then = then'.core.world.actors i
 
-  pub write_steps : (zones : List ZoneSpec) (new : Store) (now : Sight) (turn : WriteTurn) (own : Actor)
+  pub write_steps : (zones : List ZoneSpec) (done : Deed) (new : Store) (now : Sight) (turn : WriteTurn) (own : Actor)
       (how : Option Stepped)
-      → zones ≡ config.topology → WritesSo config state.core.world i writing new sight now turn
-      → WrittenSo zones turn now begun own how
+      → zones ≡ config.topology → done ≡ deed_of (change_turn writing.change)
+      → WritesSo config state.core.world i writing new sight now turn
+      → WrittenSo zones done turn now begun own how
       → ActorSteps config state i new (record { task = task.Writes writing; sight = sight; begun = begun }) own how
-  write_steps zones new now (turn.Went next) own how same went h =
+  write_steps zones done new now (turn.Went next) own how same is went h =
       subst (λ (o : Option Stepped). ActorSteps config state i new before own o) (sym h.1) (record {
         fault = no_fault config state i store before here refl;
         after = then' went.answer;
@@ -189,7 +192,7 @@ module _ (config : Config) (state : State (store_of config)) (i : ℕ) (store : 
                   writes.writer.writer went.came.can));
             }));
       })
-  write_steps zones new now (turn.Waits next) own how same waits h =
+  write_steps zones done new now (turn.Waits next) own how same is waits h =
       subst (λ (o : Option Stepped). ActorSteps config state i new before own o) (sym h.1) (record {
         fault = no_fault config state i store before here refl;
         after = state;
@@ -206,18 +209,18 @@ module _ (config : Config) (state : State (store_of config)) (i : ℕ) (store : 
             (sym (h.0 ∙ (λ k. record { task = task.Writes (waits.writer k); sight = waits.seen k; begun = begun })))
             here.actor;
       })
-  write_steps zones new now (turn.Ended range last) own how same ended h =
+  write_steps zones done new now (turn.Ended range last) own how same is ended h =
       subst (λ (o : Option Stepped). ActorSteps config state i new before own o) (sym h.1) (record {
         fault = no_fault config state i store before here refl;
         after = then' ended.answer;
         steps = subst (λ (role : Role). StepsIn (store_of config) role state i
-            (stepped.Ended (write_end_text zones range last))
+            (stepped.Ended (write_end_text zones done range last))
             (then' ended.answer)) (sym role_is)
             (inr (record {
               answer = ended.answer;
               can = ended.came.can;
-              went = (λ k. stepped.Ended (write_end_text (same k) (ended.range_is k) ((ended.end_is ∙ ap (λ (r : Range).
-                  end_of_verdict r ended.verdict) ended.range_is) k)))
+              went = (λ k. stepped.Ended (write_end_text (same k) (is k) (ended.range_is k)
+                  ((ended.end_is ∙ ap (λ (r : Range). end_of_verdict r ended.verdict) ended.range_is) k)))
                   ∙ sym (ap (write_stepped config.topology) ended.writer);
               becomes = refl;
             }));

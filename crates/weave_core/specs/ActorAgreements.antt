@@ -4,8 +4,9 @@ use Rattle.std.specs.Prelude.{Some, None}
 use Rattle.mon_config.specs.declared.config.Config.{Config}
 use Rattle.mon_topo.specs.HeldHistories.{AreWithin, first_histories}
 use Rattle.mon_topo.specs.Settings.{Setting}
-use Rattle.mon_topo.specs.Zones.{leaves_in}
+use Rattle.mon_topo.specs.Zones.{leaves_in, ranges_in}
 use Rattle.mon_value.specs.declared.positions.Leaf.{Leaf}
+use Rattle.mon_value.specs.declared.positions.Range.{Range}
 use Rattle.query_traces.specs.Askings.{IsAskedOf}
 use Rattle.query_core.specs.Machine.{new_query}
 use Rattle.query_core.specs.Program as query
@@ -18,8 +19,8 @@ use Rattle.weave_core.specs.PlannedQueries.{IsPlanned}
 use Rattle.mon_topo.specs.Sights.{sight_of}
 use Rattle.mon_value.specs.Parts.{is_any}
 use Rattle.core_store.specs.Recoverers.{IsRecovererSo}
-use Rattle.weave_core.specs.States.{Asking, Dismissed, Eventless, Recovering, Role, State, Switching, Undeclared}
-use Rattle.weave_core.specs.States.{Writing}
+use Rattle.weave_core.specs.States.{Asking, Dismissed, Eventless, Recovering, Retiring, Role, State, Switching}
+use Rattle.weave_core.specs.States.{Undeclared, Writing}
 use Rattle.core_store.specs.NextAsks.{copy_asks, recovers_begun, write_asks, writes_begun}
 use Rattle.core_store.specs.Agreements.{store_of}
 use Rattle.core_store.specs.Writers.{IsWriterSo}
@@ -29,6 +30,7 @@ use Rattle.weave_core.specs.declared.actors.Task.TheVariants as task
 use Rattle.schedule_lines.specs.declared.limits.TheConstants.{LAST_ACTOR}
 use Rattle.weave_core.specs.declared.queries.Querying.{Querying}
 use Rattle.core_store.specs.declared.recoveries.Recovering.{Recovering as Recovery}
+use Rattle.core_store.specs.declared.retirements.Retiring.{Retiring as Retire}
 use Rattle.mon_topo.specs.declared.sights.Sight.{Sight}
 use Rattle.core_store.specs.declared.switches.Switching.{Switching as Switch}
 use Rattle.weave_core.specs.declared.weave.Weave.{Weave}
@@ -70,7 +72,7 @@ module _ (config : Config) (i : ℕ) (doer : Doer) (reader : Reader (store_of co
     pub begun_is : begun ≡ false
     pub seen : sight ≡ sight_of (view_of doer).seen
 
-  -- it has done so, or has switched its leaf
+  -- it has done so, or has switched its leaf, or retired its replica
   pub record IsDismissed (sight : Sight) : Type 0 where
     pub stands : HasWrittenNothing
     pub seen : sight ≡ sight_of (view_of doer).seen
@@ -79,6 +81,14 @@ module _ (config : Config) (i : ℕ) (doer : Doer) (reader : Reader (store_of co
   pub record IsSwitching (leaf : Leaf) (down : Bool) (switching : Switch) (begun : Bool) (sight : Sight) : Type 0 where
     pub switch_is : switching ≡ record { number = i; leaf = leaf; down = down }
     pub there : leaf.0 < length (leaves_in config.topology)
+    pub stands : HasWrittenNothing
+    pub begun_is : begun ≡ false
+    pub seen : sight ≡ sight_of (view_of doer).seen
+
+  -- it is to retire a range's replica on a leaf, and has not begun
+  pub record IsRetiring (range : Range) (leaf : Leaf) (retiring : Retire) (begun : Bool) (sight : Sight) : Type 0 where
+    pub retire_is : retiring ≡ record { number = i; range = range; leaf = leaf }
+    pub there : range.0 < length (ranges_in config.topology)
     pub stands : HasWrittenNothing
     pub begun_is : begun ≡ false
     pub seen : sight ≡ sight_of (view_of doer).seen
@@ -95,13 +105,13 @@ module _ (config : Config) (i : ℕ) (doer : Doer) (reader : Reader (store_of co
     pub begun_is : recovers_begun doer ≡ true
     pub seen : sight ≡ sight_of (view_of doer).seen
 
-  -- it writes
+  -- it writes, or trims
   pub record IsWriting (writing : Write) (begun : Bool) (sight : Sight) : Type 0 where
     pub writer : IsWriterSo config.buckets i doer writing sight
     pub goes_on : write.ask_of writing.machine.stage ≢ write_ask.Finished
     pub begun_is : begun ≡ writes_begun doer
 
-  -- its write has ended
+  -- its write or trim has ended
   pub record HasWritten (sight : Sight) : Type 0 where
     pub ended : write_asks doer ≡ write_ask.Finished
     pub begun_is : writes_begun doer ≡ true
@@ -127,36 +137,49 @@ module _ (config : Config) (i : ℕ) (doer : Doer) (reader : Reader (store_of co
   IsTaskSo Undeclared task begun sight = ⊥
   IsTaskSo (Eventless text) (task.Refused own) begun sight = IsWithoutEvent text own begun sight
   IsTaskSo (Eventless text) (task.Switches switching) begun sight = ⊥
+  IsTaskSo (Eventless text) (task.Retires retiring) begun sight = ⊥
   IsTaskSo (Eventless text) (task.Recovers recovering) begun sight = ⊥
   IsTaskSo (Eventless text) (task.Writes writing) begun sight = ⊥
   IsTaskSo (Eventless text) (task.Queries querying) begun sight = ⊥
   IsTaskSo (Eventless text) task.Ended begun sight = ⊥
   IsTaskSo (Switching leaf down) (task.Refused own) begun sight = ⊥
   IsTaskSo (Switching leaf down) (task.Switches switching) begun sight = IsSwitching leaf down switching begun sight
+  IsTaskSo (Switching leaf down) (task.Retires retiring) begun sight = ⊥
   IsTaskSo (Switching leaf down) (task.Recovers recovering) begun sight = ⊥
   IsTaskSo (Switching leaf down) (task.Writes writing) begun sight = ⊥
   IsTaskSo (Switching leaf down) (task.Queries querying) begun sight = ⊥
   IsTaskSo (Switching leaf down) task.Ended begun sight = ⊥
+  IsTaskSo (Retiring range leaf) (task.Refused own) begun sight = ⊥
+  IsTaskSo (Retiring range leaf) (task.Switches switching) begun sight = ⊥
+  IsTaskSo (Retiring range leaf) (task.Retires retiring) begun sight = IsRetiring range leaf retiring begun sight
+  IsTaskSo (Retiring range leaf) (task.Recovers recovering) begun sight = ⊥
+  IsTaskSo (Retiring range leaf) (task.Writes writing) begun sight = ⊥
+  IsTaskSo (Retiring range leaf) (task.Queries querying) begun sight = ⊥
+  IsTaskSo (Retiring range leaf) task.Ended begun sight = ⊥
   IsTaskSo Dismissed (task.Refused own) begun sight = ⊥
   IsTaskSo Dismissed (task.Switches switching) begun sight = ⊥
+  IsTaskSo Dismissed (task.Retires retiring) begun sight = ⊥
   IsTaskSo Dismissed (task.Recovers recovering) begun sight = ⊥
   IsTaskSo Dismissed (task.Writes writing) begun sight = ⊥
   IsTaskSo Dismissed (task.Queries querying) begun sight = ⊥
   IsTaskSo Dismissed task.Ended begun sight = IsDismissed sight
   IsTaskSo Recovering (task.Refused own) begun sight = ⊥
   IsTaskSo Recovering (task.Switches switching) begun sight = ⊥
+  IsTaskSo Recovering (task.Retires retiring) begun sight = ⊥
   IsTaskSo Recovering (task.Recovers recovering) begun sight = IsRecovering recovering begun sight
   IsTaskSo Recovering (task.Writes writing) begun sight = ⊥
   IsTaskSo Recovering (task.Queries querying) begun sight = ⊥
   IsTaskSo Recovering task.Ended begun sight = HasRecovered sight
   IsTaskSo Writing (task.Refused own) begun sight = ⊥
   IsTaskSo Writing (task.Switches switching) begun sight = ⊥
+  IsTaskSo Writing (task.Retires retiring) begun sight = ⊥
   IsTaskSo Writing (task.Recovers recovering) begun sight = ⊥
   IsTaskSo Writing (task.Writes writing) begun sight = IsWriting writing begun sight
   IsTaskSo Writing (task.Queries querying) begun sight = ⊥
   IsTaskSo Writing task.Ended begun sight = HasWritten sight
   IsTaskSo Asking (task.Refused own) begun sight = ⊥
   IsTaskSo Asking (task.Switches switching) begun sight = ⊥
+  IsTaskSo Asking (task.Retires retiring) begun sight = ⊥
   IsTaskSo Asking (task.Recovers recovering) begun sight = ⊥
   IsTaskSo Asking (task.Writes writing) begun sight = ⊥
   IsTaskSo Asking (task.Queries querying) begun sight = IsQuerying querying begun sight
@@ -166,6 +189,7 @@ module _ (config : Config) (i : ℕ) (doer : Doer) (reader : Reader (store_of co
   IsActorSo Undeclared None = IsUndeclared
   IsActorSo (Eventless text) None = ⊥
   IsActorSo (Switching leaf down) None = ⊥
+  IsActorSo (Retiring range leaf) None = ⊥
   IsActorSo Dismissed None = ⊥
   IsActorSo Recovering None = ⊥
   IsActorSo Writing None = ⊥

@@ -4,7 +4,8 @@ use Rattle.mon_config.specs.declared.config.Config.{Config}
 use Rattle.mon_topo.specs.declared.zones.ZoneSpec.{ZoneSpec}
 use Rattle.weave_core.specs.ActorAgreements.{IsActorSo}
 use Rattle.core_store.specs.Agreements.{AreShared}
-use Rattle.weave_core.specs.EndTexts.{query_text, recover_text, switch_text, write_end_text}
+use Rattle.weave_core.specs.EndTexts.{query_text, recover_text, retire_text, switch_text, write_end_text}
+use Rattle.weave_core.specs.declared.texts.Deed.{Deed}
 use Rattle.core_store.specs.Holders.{AreHolders}
 use Rattle.core_theory.specs.Licensed.{IsWoven}
 use Rattle.weave_core.specs.States.{State, step_fault}
@@ -21,11 +22,13 @@ use Rattle.core_store.specs.declared.recoveries.RecoverTurn.{RecoverTurn}
 use Rattle.core_store.specs.declared.recoveries.RecoverTurn.TheVariants as recover_turn
 use Rattle.mon_topo.specs.declared.sights.Sight.{Sight}
 use Rattle.core_store.specs.Switches.{switch_told}
+use Rattle.core_store.specs.declared.retirements.Retiring.{Retiring}
 use Rattle.core_store.specs.declared.store.Store.{Store}
 use Rattle.core_store.specs.declared.switches.Switched.{Switched}
 use Rattle.core_store.specs.declared.switches.Switching.{Switching}
 use Rattle.core_store.specs.declared.writes.WriteTurn.{WriteTurn}
 use Rattle.core_store.specs.declared.writes.WriteTurn.TheVariants as write_turn
+use Rattle.write_core.specs.declared.retirements.Retirement.{Retirement}
 
 -- ---- an actor and what its step came to, by the turn of its recovery, of its write or of its query
 
@@ -38,14 +41,14 @@ RecoveredSo zones (recover_turn.Ended range leaf outcome) sight begun own how =
     (own ≡ record { task = task.Ended; sight = sight; begun = true })
     × (how ≡ Some (stepped.Ended (recover_text zones range leaf outcome)))
 
-abbrev pub WrittenSo : List ZoneSpec → WriteTurn → Sight → Bool → Actor → Option Stepped → Type 0
-WrittenSo zones (write_turn.Went writing) sight begun own how =
+abbrev pub WrittenSo : List ZoneSpec → Deed → WriteTurn → Sight → Bool → Actor → Option Stepped → Type 0
+WrittenSo zones done (write_turn.Went writing) sight begun own how =
     (own ≡ record { task = task.Writes writing; sight = sight; begun = true }) × (how ≡ Some stepped.Went)
-WrittenSo zones (write_turn.Waits writing) sight begun own how =
+WrittenSo zones done (write_turn.Waits writing) sight begun own how =
     (own ≡ record { task = task.Writes writing; sight = sight; begun = begun }) × (how ≡ Some stepped.Waits)
-WrittenSo zones (write_turn.Ended range end) sight begun own how =
+WrittenSo zones done (write_turn.Ended range end) sight begun own how =
     (own ≡ record { task = task.Ended; sight = sight; begun = true })
-    × (how ≡ Some (stepped.Ended (write_end_text zones range end)))
+    × (how ≡ Some (stepped.Ended (write_end_text zones done range end)))
 
 abbrev pub QueriedSo : List ZoneSpec → QueryTurn → Sight → Bool → Actor → Option Stepped → Type 0
 QueriedSo zones (query_turn.Went querying) sight begun own how =
@@ -63,6 +66,14 @@ SwitchedSo zones switching (Some was) sight begun own how =
     × (how ≡ Some (stepped.Ended (switch_text zones switching.leaf switching.down (switch_told was))))
 SwitchedSo zones switching None sight begun own how =
     (own ≡ record { task = task.Switches switching; sight = sight; begun = begun }) × (how ≡ Some stepped.Waits)
+
+-- it retired a range's replica, and ends with what it was told; or it waits for the range
+abbrev pub RetiredSo : List ZoneSpec → Retiring → Option Retirement → Sight → Bool → Actor → Option Stepped → Type 0
+RetiredSo zones retiring (Some was) sight begun own how =
+    (own ≡ record { task = task.Ended; sight = sight; begun = true })
+    × (how ≡ Some (stepped.Ended (retire_text zones retiring.range retiring.leaf was)))
+RetiredSo zones retiring None sight begun own how =
+    (own ≡ record { task = task.Retires retiring; sight = sight; begun = begun }) × (how ≡ Some stepped.Waits)
 
 -- ---- in a core
 

@@ -4,6 +4,7 @@ use Rattle.mon_config.specs.declared.config.Config.{Config}
 use Rattle.mon_hints.specs.Formulas.{formula_tree}
 use Rattle.mon_config.specs.Configs.{range_of_key}
 use Rattle.mon_topo.specs.Settings.{Setting}
+use Rattle.mon_value.specs.Turns.{Adds, Hides}
 use Rattle.mon_value.specs.declared.positions.Leaf.{Leaf}
 use Rattle.mon_value.specs.declared.positions.Range.{Range}
 use Rattle.mon_value.specs.declared.rows.Row.{Row}
@@ -16,8 +17,8 @@ use Rattle.core_theory.specs.Core.{CanCome, CoreEvent, Happens, Hears, Reader}
 use Rattle.query_texts.specs.TextTypes.{text_type}
 use Rattle.query_texts.specs.declared.faults.TextFault.{TextFault}
 use Rattle.weave_core.specs.EndTexts.{no_plan_line, no_zone_line}
-use Rattle.weave_core.specs.States.{Asking, Dismissed, Eventless, Recovering, Role, State, Switching, Undeclared}
-use Rattle.weave_core.specs.States.{Writing, actor_at, view_at}
+use Rattle.weave_core.specs.States.{Asking, Dismissed, Eventless, Recovering, Retiring, Role, State, Switching}
+use Rattle.weave_core.specs.States.{Undeclared, Writing, actor_at, view_at}
 use Rattle.core_store.specs.Agreements.{store_of}
 use Rattle.weave_core.specs.Steps.{with_event, with_role}
 use Rattle.schedule_lines.specs.declared.calls.Call.{Call}
@@ -60,9 +61,16 @@ module _ (config : Config) where
   abbrev pub WriteBegins : State (store_of config) → ℕ → Row → Option Range → State (store_of config) → Type 0
   WriteBegins state k row None after = after ≡ with_role (store_of config) state k (Eventless no_zone_line)
   WriteBegins state k row (Some range) after =
-      CanCome (store_of config) state.core (Happens (Begins k row range))
-      × (after ≡ with_role (store_of config) (with_event (store_of config) state (Happens (Begins k row range))) k
+      CanCome (store_of config) state.core (Happens (Begins k (Adds row) range))
+      × (after ≡ with_role (store_of config) (with_event (store_of config) state (Happens (Begins k (Adds row) range))) k
       Writing)
+
+  -- a trim of a range below a moment begins: it is a write of a bound
+  abbrev pub TrimBegins : State (store_of config) → ℕ → Range → ℤ → State (store_of config) → Type 0
+  TrimBegins state k range before after =
+      CanCome (store_of config) state.core (Happens (Begins k (Hides before) range))
+      × (after ≡ with_role (store_of config)
+      (with_event (store_of config) state (Happens (Begins k (Hides before) range))) k Writing)
 
   -- a query is asked of the store, if its text has a typed tree; else it has no event
   abbrev pub QueryBegins : State (store_of config) → ℕ → ℤ → Result TypedTree TextFault → State (store_of config)
@@ -88,6 +96,8 @@ module _ (config : Config) where
   Declares state k (call.Down leaf) after = after ≡ with_role (store_of config) state k (Switching leaf true)
   Declares state k (call.Up leaf) after = after ≡ with_role (store_of config) state k (Switching leaf false)
   Declares state k (call.Recover range leaf) after = RecoveryBegins state k range leaf after
+  Declares state k (call.Trim range before) after = TrimBegins state k range before after
+  Declares state k (call.Retire range leaf) after = after ≡ with_role (store_of config) state k (Retiring range leaf)
   Declares state k (call.Query moment text) after = QueryBegins state k moment (text_type config.schemas text) after
 
 -- ---- meetings
@@ -97,6 +107,7 @@ module _ (store : Setting) where
   hearing_in Undeclared k view = Happens (Learns k view)
   hearing_in (Eventless text) k view = Happens (Learns k view)
   hearing_in (Switching leaf down) k view = Happens (Learns k view)
+  hearing_in (Retiring range leaf) k view = Happens (Learns k view)
   hearing_in Dismissed k view = Happens (Learns k view)
   hearing_in Recovering k view = Happens (Learns k view)
   hearing_in Writing k view = Happens (Learns k view)

@@ -5,8 +5,10 @@ use Rattle.mon_script.specs.Controls.{control_refusal_text, recovered_text, sour
 use Rattle.mon_script.specs.declared.control_texts.ControlRefusal.{ControlRefusal}
 use Rattle.mon_script.specs.declared.control_texts.ControlRefusal.TheVariants as control
 use Rattle.mon_table.specs.Tables.{newline, printed_table}
-use Rattle.mon_topo.specs.Zones.{down_text}
+use Rattle.mon_topo.specs.Zones.{down_text, leaf_text, range_text}
 use Rattle.mon_topo.specs.declared.zones.ZoneSpec.{ZoneSpec}
+use Rattle.mon_value.specs.Turns.{Adds, Hides, Turn}
+use Rattle.mon_value.specs.declared.histories.Ack.{Ack}
 use Rattle.mon_value.specs.declared.positions.Leaf.{Leaf}
 use Rattle.mon_value.specs.declared.positions.Range.{Range}
 use Rattle.query_traces.specs.FaultTexts.{round_fault_text}
@@ -14,6 +16,8 @@ use Rattle.query_traces.specs.declared.answers.Answer.{Answer}
 use Rattle.query_traces.specs.declared.answers.RoundFault.{RoundFault}
 use Rattle.query_texts.specs.TextTypes.{text_fault_text}
 use Rattle.query_texts.specs.declared.faults.TextFault.{TextFault}
+use Rattle.weave_core.specs.declared.texts.Deed.{Deed}
+use Rattle.weave_core.specs.declared.texts.Deed.TheVariants as deed
 use Rattle.write_core.specs.Events.{SwitchTold, SwitchesSpent, WasDownAlready, WasSwitched, WasUpAlready}
 use Rattle.write_core.specs.declared.copies.Denial.{Denial}
 use Rattle.write_core.specs.declared.copies.Denial.TheVariants.{ServesFully, ServesThere, SlotsSpent}
@@ -23,19 +27,33 @@ use Rattle.write_core.specs.RangeAnswers.{no_zone_text, refused_text}
 use Rattle.write_core.specs.declared.asks.WriteEnd.{WriteEnd}
 use Rattle.write_core.specs.declared.asks.WriteEnd.TheVariants as end
 use Rattle.write_core.specs.declared.refusals.Refused.TheVariants as refused
+use Rattle.write_core.specs.declared.retirements.Retirement.{Retirement}
+use Rattle.write_core.specs.declared.retirements.Retirement.TheVariants.{LastServing, NotServing, WasRetired}
 
 -- the line of a call that is refused
 abbrev pub refused_line : List ℕ → List ℕ
 refused_line why = codes "refused: " ++ (why ++ newline)
 
--- how many replicas took the row, and how many missed it; or why the row was not written
-abbrev pub write_end_text : List ZoneSpec → Range → WriteEnd → List ℕ
-write_end_text zones range (end.Written ack) =
-    codes "written: took "
-    ++ (decimal (length ack.took) ++ (codes ", missed " ++ (decimal (length ack.missed) ++ newline)))
-write_end_text zones range (end.OldPoint last) = refused_line (refused_text (refused.OldPoint last))
-write_end_text zones range (end.RangeFull limit) = refused_line (refused_text (refused.RangeFull limit))
-write_end_text zones range (end.Unavailable founds) =
+-- a row that is added is written, and a bound trims the range
+abbrev pub deed_of : Turn → Deed
+deed_of (Adds row) = deed.Write
+deed_of (Hides before) = deed.Trim
+
+-- how many replicas took it, and how many missed it
+abbrev pub taken_text : Ack → List ℕ
+taken_text ack = decimal (length ack.took) ++ (codes ", missed " ++ (decimal (length ack.missed) ++ newline))
+
+abbrev pub done_text : List ZoneSpec → Deed → Range → Ack → List ℕ
+done_text zones deed.Write range ack = codes "written: took " ++ taken_text ack
+done_text zones deed.Trim range ack =
+    codes "trim " ++ (range_text zones range ++ (codes ": took " ++ taken_text ack))
+
+-- that a row was written, or a range trimmed; or why not
+abbrev pub write_end_text : List ZoneSpec → Deed → Range → WriteEnd → List ℕ
+write_end_text zones done range (end.Written ack) = done_text zones done range ack
+write_end_text zones done range (end.OldPoint last) = refused_line (refused_text (refused.OldPoint last))
+write_end_text zones done range (end.RangeFull limit) = refused_line (refused_text (refused.RangeFull limit))
+write_end_text zones done range (end.Unavailable founds) =
     refused_line (codes "Unavailable " ++ down_text zones range founds)
 
 -- a leaf went down, or came up, or why it did not
@@ -44,6 +62,14 @@ switch_text zones leaf down (WasSwitched cut) = switched_text zones leaf down
 switch_text zones leaf down (WasDownAlready cut) = refused_line (control_refusal_text (control.AlreadyDown cut))
 switch_text zones leaf down (WasUpAlready cut) = refused_line (control_refusal_text (control.AlreadyUp cut))
 switch_text zones leaf down (SwitchesSpent count) = refused_line (control_refusal_text (control.SwitchesSpent count))
+
+-- the slot of a range that was retired from a leaf, or why none was
+abbrev pub retire_text : List ZoneSpec → Range → Leaf → Retirement → List ℕ
+retire_text zones range leaf (WasRetired slot) =
+    codes "retire " ++ (range_text zones range ++ (codes " " ++ (leaf_text zones leaf
+    ++ (codes ": slot " ++ (decimal slot.0 ++ newline)))))
+retire_text zones range leaf NotServing = refused_line (codes "NotServing")
+retire_text zones range leaf (LastServing slot) = refused_line (codes "LastServing " ++ decimal slot.0)
 
 -- why a range opens no replica on a leaf
 abbrev pub denial_told : Denial → ControlRefusal

@@ -1,5 +1,5 @@
 -- What a look of a query does to the seat that it needs and to how far this has seen, and what it is told.
-use Rattle.std.specs.Prelude.{ℕ, ℤ, ◌≡◌, ◌<◌, true, is_some, List, length, slice_get, Option}
+use Rattle.std.specs.Prelude.{ℕ, ℤ, ◌≡◌, ◌<◌, List, length, slice_get, Option}
 use Rattle.std.specs.Prelude.{Some, None}
 use Rattle.leaf_store.specs.LeafStates.{key_buckets}
 use Rattle.leaf_eval.specs.Visits.{IsVisit}

@@ -44,5 +44,6 @@ IsQueryTask config moment text (task.Queries querying) = BeginsToAsk config mome
 IsQueryTask config moment text (task.Refused line) = HasNoPlan config text line
 IsQueryTask config moment text (task.Writes writing) = ⊥
 IsQueryTask config moment text (task.Switches switching) = ⊥
+IsQueryTask config moment text (task.Retires retiring) = ⊥
 IsQueryTask config moment text (task.Recovers recovering) = ⊥
 IsQueryTask config moment text task.Ended = ⊥

@@ -2,6 +2,7 @@
 use Rattle.std.specs.Prelude.{ℕ, Bool, true, false, not, is_some, List, Option, Some, None, if◌then◌else◌}
 use Rattle.mon_topo.specs.Settings.{Setting}
 use Rattle.mon_value.specs.declared.positions.Leaf.{Leaf}
+use Rattle.mon_value.specs.declared.positions.Range.{Range}
 use Rattle.query_traces.specs.declared.asks.Ask.{Ask}
 use Rattle.query_traces.specs.declared.asks.Ask.TheVariants as ask
 use Rattle.core_theory.specs.Core.{Core, Reader, asked_now}
@@ -18,12 +19,13 @@ use Rattle.mon_value.specs.Parts.{is_any}
 -- ---- actors
 
 -- what an actor was declared to do: nothing so far; a call that has no event, and ends at its first step with this
--- text; to switch a leaf down, or up, which is one event; either of these two, when it is done; a recovery, a write, or
--- a query, which the core has under its number
+-- text; to switch a leaf down, or up, which is one event; to retire a range's replica on a leaf, which is one event;
+-- one of these three, when it is done; a recovery, a write or a trim, or a query, which the core has under its number
 pub data Role : Type 0 where
   Undeclared : Role
   Eventless : List ℕ → Role
   Switching : Leaf → Bool → Role
+  Retiring : Range → Leaf → Role
   Dismissed : Role
   Recovering : Role
   Writing : Role
@@ -53,6 +55,7 @@ module _ (store : Setting) (state : State store) (k : ℕ) where
   next_in Undeclared = None
   next_in (Eventless text) = None
   next_in (Switching leaf down) = Some event.Switch
+  next_in (Retiring range leaf) = Some event.Retire
   next_in Dismissed = None
   next_in Recovering = event_of_copy (copy_asks actor_at)
   next_in Writing = event_of_write (write_asks actor_at)
@@ -66,6 +69,7 @@ module _ (store : Setting) (state : State store) (k : ℕ) where
   declared_in Undeclared = false
   declared_in (Eventless text) = true
   declared_in (Switching leaf down) = true
+  declared_in (Retiring range leaf) = true
   declared_in Dismissed = true
   declared_in Recovering = true
   declared_in Writing = true
@@ -78,12 +82,13 @@ module _ (store : Setting) (state : State store) (k : ℕ) where
   ended_in Undeclared = false
   ended_in (Eventless text) = false
   ended_in (Switching leaf down) = false
+  ended_in (Retiring range leaf) = false
   ended_in Dismissed = true
   ended_in Recovering = not (is_some (next_in Recovering))
   ended_in Writing = not (is_some (next_in Writing))
   ended_in Asking = not (is_some (next_in Asking))
 
-  -- a recovery, a write or a query has ended once no event of it is left
+  -- a recovery, a write, a trim or a query has ended once no event of it is left
   abbrev pub has_ended : Bool
   has_ended = ended_in (state.roles k)
 
@@ -91,6 +96,7 @@ module _ (store : Setting) (state : State store) (k : ℕ) where
   begun_in Undeclared = false
   begun_in (Eventless text) = false
   begun_in (Switching leaf down) = false
+  begun_in (Retiring range leaf) = false
   begun_in Dismissed = true
   begun_in Recovering = recovers_begun actor_at
   begun_in Writing = writes_begun actor_at
@@ -104,6 +110,7 @@ module _ (store : Setting) (state : State store) (k : ℕ) where
   role_fault Undeclared = Some fault.NoActor
   role_fault (Eventless text) = None
   role_fault (Switching leaf down) = None
+  role_fault (Retiring range leaf) = None
   role_fault Dismissed = Some fault.Finished
   role_fault Recovering = if ended_in Recovering then Some fault.Finished else None
   role_fault Writing = if ended_in Writing then Some fault.Finished else None
@@ -117,6 +124,7 @@ module _ (store : Setting) (state : State store) (k : ℕ) where
   view_in Undeclared = view_of actor_at
   view_in (Eventless text) = view_of actor_at
   view_in (Switching leaf down) = view_of actor_at
+  view_in (Retiring range leaf) = view_of actor_at
   view_in Dismissed = view_of actor_at
   view_in Recovering = view_of actor_at
   view_in Writing = view_of actor_at
@@ -130,6 +138,7 @@ module _ (store : Setting) (state : State store) (k : ℕ) where
   holder_in Undeclared = None
   holder_in (Eventless text) = None
   holder_in (Switching leaf down) = state.core.world.leaf_holder leaf.0
+  holder_in (Retiring range leaf) = state.core.world.range_holder range.0
   holder_in Dismissed = None
   holder_in Recovering = holder_for_actor state.core.world actor_at
   holder_in Writing = holder_for_actor state.core.world actor_at

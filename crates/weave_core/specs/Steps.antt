@@ -3,22 +3,24 @@ use Rattle.std.specs.Prelude.{ℕ, ◌≡◌, ◌≢◌, ◌⊎◌, Bool, List, 
 use Rattle.mon_topo.specs.Settings.{Setting}
 use Rattle.mon_topo.specs.declared.zones.ZoneSpec.{ZoneSpec}
 use Rattle.mon_value.specs.declared.positions.Leaf.{Leaf}
+use Rattle.mon_value.specs.declared.positions.Range.{Range}
 use Rattle.query_traces.specs.declared.asks.Told.{Told}
 use Rattle.query_core.specs.declared.stages.Stage.{Stage}
 use Rattle.query_core.specs.declared.stages.Stage.TheVariants as query
 use Rattle.core_theory.specs.Core.{CanCome, CoreEvent, Happens, Tells, came, query_now}
-use Rattle.weave_core.specs.EndTexts.{query_text, recover_text, switch_text, write_end_text}
-use Rattle.weave_core.specs.States.{Asking, Dismissed, Eventless, Recovering, Role, State, Switching, Undeclared}
-use Rattle.weave_core.specs.States.{Writing, holder_at}
+use Rattle.weave_core.specs.EndTexts.{deed_of, query_text, recover_text, retire_text, switch_text, write_end_text}
+use Rattle.weave_core.specs.States.{Asking, Dismissed, Eventless, Recovering, Retiring, Role, State, Switching}
+use Rattle.weave_core.specs.States.{Undeclared, Writing, holder_at}
 use Rattle.weave_core.specs.declared.stepped.Stepped.{Stepped}
 use Rattle.weave_core.specs.declared.stepped.Stepped.TheVariants as stepped
-use Rattle.write_core.specs.Events.{Copies, Goes, SwitchTold, Switches}
+use Rattle.write_core.specs.Events.{Copies, Goes, Retires, SwitchTold, Switches}
 use Rattle.write_core.specs.Program.{Acking, Ended, Entering, Inside, Locking, Reserving, end_of_verdict}
 use Rattle.write_core.specs.Program as write
 use Rattle.write_core.specs.Recovering.{Beginning, Carrying, CopyStage, Copying, Nearing, Over, Telling, Within}
 use Rattle.write_core.specs.declared.copies.CopyTold.{CopyTold}
 use Rattle.write_core.specs.World.{Actor, Recovers, Recovery, Stands, Writer, Writes, with_value_at}
 use Rattle.write_core.specs.declared.asks.WriteTold.{WriteTold}
+use Rattle.write_core.specs.declared.retirements.Retirement.{Retirement}
 
 -- ---- how a step went that did an event
 
@@ -29,9 +31,10 @@ writer_stepped zones writer (Entering round) = stepped.Went
 writer_stepped zones writer (Inside round at_root in_zone) = stepped.Went
 writer_stepped zones writer (Acking verdict) = stepped.Went
 writer_stepped zones writer (Ended verdict) =
-    stepped.Ended (write_end_text zones writer.range (end_of_verdict writer.range verdict))
+    stepped.Ended
+    (write_end_text zones (deed_of writer.turn) writer.range (end_of_verdict writer.range verdict))
 
--- a write has more events, or has ended with a text (who does not write has nothing left to do)
+-- a write or a trim has more events, or has ended with a text (who does not write has nothing left to do)
 abbrev pub write_stepped : List ZoneSpec → Actor → Stepped
 write_stepped zones (Writes writer) = writer_stepped zones writer writer.stage
 write_stepped zones (Recovers recovery) = stepped.Ended []
@@ -79,7 +82,7 @@ module _ (store : Setting) where
     pub waits : how ≡ stepped.Waits
     pub same : after ≡ state
 
-  -- the next event of a write comes
+  -- the next event of a write or a trim comes
   pub record WriteGoes (state : State store) (k : ℕ) (how : Stepped) (after : State store) : Type 0 where
     pub answer : WriteTold
     pub can : CanCome store state.core (Happens (Goes k answer))
@@ -109,11 +112,21 @@ module _ (store : Setting) where
     pub went : how ≡ stepped.Ended (switch_text store.zones leaf down answer)
     pub becomes : after ≡ with_role (with_event state (Happens (Switches k leaf down answer))) k Dismissed
 
+  -- it retires a replica of a range that nobody holds, and ends with what it is told
+  pub record RetireGoes (range : Range) (leaf : Leaf) (state : State store) (k : ℕ) (how : Stepped)
+      (after : State store) : Type 0 where
+    pub answer : Retirement
+    pub can : CanCome store state.core (Happens (Retires k range leaf answer))
+    pub went : how ≡ stepped.Ended (retire_text store.zones range leaf answer)
+    pub becomes : after ≡ with_role (with_event state (Happens (Retires k range leaf answer))) k Dismissed
+
   abbrev pub StepsIn : Role → State store → ℕ → Stepped → State store → Type 0
   StepsIn Undeclared state k how after = ⊥
   StepsIn (Eventless text) state k how after = (how ≡ stepped.Ended text) × (after ≡ with_role state k Dismissed)
   StepsIn (Switching leaf down) state k how after =
       Waits state k how after ⊎ SwitchGoes leaf down state k how after
+  StepsIn (Retiring range leaf) state k how after =
+      Waits state k how after ⊎ RetireGoes range leaf state k how after
   StepsIn Dismissed state k how after = ⊥
   StepsIn Recovering state k how after = Waits state k how after ⊎ RecoveryGoes state k how after
   StepsIn Writing state k how after = Waits state k how after ⊎ WriteGoes state k how after

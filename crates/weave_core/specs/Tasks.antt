@@ -12,6 +12,7 @@ use Rattle.write_core.specs.Program as write
 abbrev pub event_of : Task → Option Event
 event_of (task.Refused text) = None
 event_of (task.Switches switching) = Some event.Switch
+event_of (task.Retires retiring) = Some event.Retire
 event_of (task.Recovers recovering) = event_of_copy (copy_ask_of recovering.machine)
 event_of (task.Writes writing) = event_of_write (write.ask_of writing.machine.stage)
 event_of (task.Queries querying) = event_of_query (query.ask_of querying.machine.setting querying.machine.stage)
@@ -20,6 +21,7 @@ event_of task.Ended = None
 abbrev pub is_over : Task → Bool
 is_over (task.Refused text) = false
 is_over (task.Switches switching) = false
+is_over (task.Retires retiring) = false
 is_over (task.Recovers recovering) = false
 is_over (task.Writes writing) = false
 is_over (task.Queries querying) = false

@@ -1,8 +1,8 @@
 // Steps of actors.
 ghost use Rattle.std.specs.Prelude.{◌≡◌, ℕ, IfOk};
 ghost use Rattle.mon_config.specs.declared.config.Config.{Config as ConfigOf};
-ghost use Rattle.weave_core.specs.ActorSteps.{ActorSteps, IsIn, IsSomewhere, QueriedSo, RecoveredSo, SwitchedSo};
-ghost use Rattle.weave_core.specs.ActorSteps.{WrittenSo};
+ghost use Rattle.weave_core.specs.ActorSteps.{ActorSteps, IsIn, IsSomewhere, QueriedSo, RecoveredSo, RetiredSo};
+ghost use Rattle.weave_core.specs.ActorSteps.{SwitchedSo, WrittenSo};
 ghost use Rattle.weave_core.specs.States.{State};
 ghost use Rattle.core_store.specs.Agreements.{store_of};
 ghost use Rattle.weave_core.specs.declared.actors.Task.TheVariants.{Ended};
@@ -10,10 +10,13 @@ ghost use Rattle.weave_core.specs.declared.actors.Task.TheVariants.{Ended};
 use crate::actors::{Actor, Task};
 use crate::queries::{QueryTurn, query};
 use crate::stepped::Stepped;
-use crate::texts::{query_text, recover_text, switch_text, write_end_text};
-use core_store::{RecoverTurn, Store, Switched, Switching, WriteTurn};
+use crate::texts::{
+    Deed, deed_of, query_text, recover_text, retire_text, switch_text, write_end_text,
+};
+use core_store::{RecoverTurn, Retiring, Store, Switched, Switching, WriteTurn};
 use mon_topo::Sight;
 use mon_value::OutOfMemory;
+use write_core::Retirement;
 
 /// Does the next event of an actor, unless another one is in its way, and tells how that went; nothing where it has
 /// ended.
@@ -34,13 +37,18 @@ pub(crate) fn step_actor(
             let came = store.switch(switching, &mut sight);
             switched(store, switching, came, sight, begun)
         }
+        Task::Retires(retiring) => {
+            let came = store.retire(retiring, &mut sight);
+            retired(store, retiring, came, sight, begun)
+        }
         Task::Recovers(recovering) => {
             let turn = store.recover(recovering, &mut sight)?;
             recovered(store, turn, sight, begun)
         }
         Task::Writes(writing) => {
+            let deed = deed_of(&writing.change);
             let turn = store.write(writing, &mut sight)?;
-            written(store, turn, sight, begun)
+            written(store, deed, turn, sight, begun)
         }
         Task::Queries(querying) => {
             let turn = query(store, querying, &mut sight)?;
@@ -87,6 +95,33 @@ fn switched(
     }
 }
 
+// An actor that retired a range's replica, or waits for the range, and what came of it.
+fn retired(
+    store: &Store,
+    retiring: Retiring,
+    came: Option<Retirement>,
+    sight: Sight,
+    begun: bool,
+) -> Result<(Actor, Option<Stepped>), OutOfMemory>
+    ensures retired { IfOk result (λ pair.
+        RetiredSo store.now.config.topology retiring came sight begun pair.0 pair.1) }
+{
+    match came {
+        Some(came) => {
+            let text = retire_text(store.alloc, &store.config.topology, retiring, came)?;
+            Ok((ended(sight, true), Some(Stepped::Ended(text))))
+        }
+        None => Ok((
+            Actor {
+                task: Task::Retires(retiring),
+                sight,
+                begun,
+            },
+            Some(Stepped::Waits),
+        )),
+    }
+}
+
 // An actor that took this turn of its recovery, and what came of it.
 fn recovered(
     store: &Store,
@@ -120,14 +155,15 @@ fn recovered(
     }
 }
 
-// An actor that took this turn of its write, and what came of it.
+// An actor that took this turn of its write or trim, and what came of it.
 fn written(
     store: &Store,
+    deed: Deed,
     turn: WriteTurn,
     sight: Sight,
     begun: bool,
 ) -> Result<(Actor, Option<Stepped>), OutOfMemory>
-    ensures written { IfOk result (λ pair. WrittenSo store.now.config.topology turn sight begun pair.0 pair.1) }
+    ensures written { IfOk result (λ pair. WrittenSo store.now.config.topology deed turn sight begun pair.0 pair.1) }
 {
     match turn {
         WriteTurn::Went(writing) => Ok((
@@ -147,7 +183,7 @@ fn written(
             Some(Stepped::Waits),
         )),
         WriteTurn::Ended(range, end) => {
-            let text = write_end_text(store.alloc, &store.config.topology, range, &end)?;
+            let text = write_end_text(store.alloc, &store.config.topology, deed, range, &end)?;
             Ok((ended(sight, true), Some(Stepped::Ended(text))))
         }
     }

@@ -2,14 +2,15 @@
 ghost use Rattle.std.specs.Prelude.{◌≡◌, ◌||◌, None, IfOk};
 ghost use Rattle.core_store.specs.Agreements.{IsServed};
 ghost use Rattle.weave_core.specs.Tasks.{event_of, is_over};
-ghost use Rattle.weave_core.specs.NewActors.{IsTaskOf, IsDeclaredActor, IsWriteTask};
+ghost use Rattle.core_store.specs.declared.writes.Change.TheVariants.{Adds};
+ghost use Rattle.weave_core.specs.NewActors.{IsTaskOf, IsDeclaredActor, IsTrimTask, IsWriteTask};
 ghost use Rattle.write_core.specs.Program.{new_write as machine_of};
 
 use crate::asked_events::{event_of_copy, event_of_query, event_of_write};
 use crate::queries::Querying;
 use crate::query_plans::query_task;
 use crate::texts::no_zone;
-use core_store::{Recovering, Store, Switching, Writing};
+use core_store::{Change, Recovering, Retiring, Store, Switching, Writing};
 use mon_topo::Sight;
 use mon_value::{OutOfMemory, Range, Row, Text, TryCopy};
 use schedule_lines::{Call, Event};
@@ -23,9 +24,11 @@ pub(crate) enum Task {
     Refused(Text),
     /// It switches a leaf.
     Switches(Switching),
+    /// It retires a range's replica on a leaf.
+    Retires(Retiring),
     /// It recovers a range.
     Recovers(Recovering),
-    /// It writes.
+    /// It writes, or trims.
     Writes(Writing),
     /// It queries.
     Queries(Querying),
@@ -63,6 +66,7 @@ impl Actor {
         match &self.task {
             Task::Refused(_)
             | Task::Switches(_)
+            | Task::Retires(_)
             | Task::Recovers(_)
             | Task::Writes(_)
             | Task::Queries(_) => false,
@@ -86,6 +90,7 @@ impl Actor {
             Task::Queries(querying) => event_of_query(&querying.machine.next()),
             Task::Recovers(recovering) => event_of_copy(recovering.machine.next()),
             Task::Switches(_) => Some(Event::Switch),
+            Task::Retires(_) => Some(Event::Retire),
             Task::Refused(_) | Task::Ended => None,
         }
     }
@@ -115,7 +120,26 @@ fn task_of(store: &Store, number: u32, call: Call) -> Result<Task, OutOfMemory>
             leaf,
             machine: CopyMachine::new(store.alloc),
         })),
+        Call::Trim(range, before) => Ok(new_trim(store.alloc, number, range, before)),
+        Call::Retire(range, leaf) => Ok(Task::Retires(Retiring {
+            number,
+            range,
+            leaf,
+        })),
     }
+}
+
+// A trim of a range below a moment that has not begun.
+fn new_trim(alloc: Global, number: u32, range: Range, before: i64) -> Task
+    ensures task { IsTrimTask number range before result }
+{
+    Task::Writes(Writing {
+        number,
+        change: Change::Hides(before),
+        range,
+        machine: WriteMachine::new(alloc, range),
+        inside: None,
+    })
 }
 
 // A write of a row, or the text that no zone lists its location.
@@ -131,8 +155,7 @@ fn write_task(store: &Store, number: u32, row: Row) -> Result<Task, OutOfMemory>
 // A write of a row to a range that has not begun.
 fn new_write(alloc: Global, number: u32, row: Row, range: Range) -> Result<Writing, OutOfMemory>
     ensures number { IfOk result (λ writing. writing.number ≡ number) }
-    ensures row { IfOk result (λ writing. writing.row ≡ row) }
-    ensures key { IfOk result (λ writing. writing.key ≡ row.key) }
+    ensures change { IfOk result (λ writing. writing.change ≡ Adds row row.key) }
     ensures range { IfOk result (λ writing. writing.range ≡ range) }
     ensures machine { IfOk result (λ writing. writing.machine ≡ machine_of range) }
     ensures inside { IfOk result (λ writing. writing.inside ≡ None) }
@@ -140,8 +163,7 @@ fn new_write(alloc: Global, number: u32, row: Row, range: Range) -> Result<Writi
     let key = row.key.copy(alloc)?;
     Ok(Writing {
         number,
-        row,
-        key,
+        change: Change::Adds(row, key),
         range,
         machine: WriteMachine::new(alloc, range),
         inside: None,

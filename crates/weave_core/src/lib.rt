@@ -1,5 +1,5 @@
-//! A core whose writes, queries, switches and recoveries go one event at a time, in any order, as the lines of a
-//! schedule ask for them.
+//! A core whose writes, trims, queries, switches, recoveries and retirements go one event at a time, in any order, as
+//! the lines of a schedule ask for them.
 #![tactic(auto)]
 
 mod actor_steps;

@@ -1,53 +1,92 @@
 // What an actor prints that ends.
 ghost use Rattle.std.specs.Prelude.{◌≡◌, IfOk, string_bytes};
+ghost use Rattle.core_store.specs.Writers.{change_turn};
 ghost use Rattle.mon_script.specs.Controls.{control_refusal_text, source_down_text};
 ghost use Rattle.query_traces.specs.FaultTexts.{round_fault_text};
 ghost use Rattle.weave_core.specs.EndTexts as spec;
 ghost use Rattle.core_store.specs.Switches.{switch_told};
 ghost use Rattle.write_core.specs.RangeAnswers.{refused_text};
 
-use core_store::{Switched, Switching};
+use core_store::{Change, Retiring, Switched, Switching};
 use mon_script::{ControlRefusal, recovered_text, source_down_text, switched_text};
 use mon_table::print;
-use mon_topo::{Topology, down_text};
-use mon_value::{FoundDown, Leaf, OutOfMemory, Range, Text};
+use mon_topo::{Topology, down_text, leaf_text, range_text};
+use mon_value::{Ack, FoundDown, Leaf, OutOfMemory, Range, Text};
 use query_core::{Answer, RoundFault, fault_text};
 use query_texts::TextFault;
 use std::alloc::Global;
-use write_core::{Denial, Outcome, Refused, WriteEnd};
+use write_core::{Denial, Outcome, Refused, Retirement, WriteEnd};
 
-/// The text of a write to a range that ended so.
+/// What an actor does that writes to a range.
+#[derive(Clone, Copy)]
+pub(crate) enum Deed {
+    /// It writes a row.
+    Write,
+    /// It trims the range.
+    Trim,
+}
+
+/// What an actor does that brings this change to a range.
+pub(crate) fn deed_of(change: &Change) -> Deed
+    ensures deed { result ≡ spec.deed_of (change_turn change.now) }
+{
+    match change {
+        Change::Adds(_, _) => Deed::Write,
+        Change::Hides(_) => Deed::Trim,
+    }
+}
+
+/// The text of a write to a range, or of a trim, that ended so.
 pub(crate) fn write_end_text(
     alloc: Global,
     topology: &Topology,
+    deed: Deed,
     range: Range,
     end: &WriteEnd,
 ) -> Result<Text, OutOfMemory>
-    ensures text { IfOk result (λ text. text ≡ spec.write_end_text topology.now range end.now) }
+    ensures text { IfOk result (λ text. text ≡ spec.write_end_text topology.now deed range end.now) }
 {
-    Text::from_string(write_line(alloc, topology, range, end)?)
+    Text::from_string(write_line(alloc, topology, deed, range, end)?)
 }
 
 // The line of it.
 fn write_line(
     alloc: Global,
     topology: &Topology,
+    deed: Deed,
     range: Range,
     end: &WriteEnd,
 ) -> Result<String, OutOfMemory>
-    ensures line { IfOk result (λ line. string_bytes line ≡ spec.write_end_text topology.now range end.now) }
+    ensures line { IfOk result (λ line. string_bytes line ≡ spec.write_end_text topology.now deed range end.now) }
 {
     match end {
-        WriteEnd::Written(ack) => {
-            let took = ack.took.len();
-            let missed = ack.missed.len();
-            format!(in alloc; "written: took {took}, missed {missed}\n")
-        }
+        WriteEnd::Written(ack) => done_line(alloc, topology, deed, range, ack),
         WriteEnd::OldPoint(last) => refused_line(alloc, Refused::OldPoint(*last)),
         WriteEnd::RangeFull(limit) => refused_line(alloc, Refused::RangeFull(*limit)),
         WriteEnd::Unavailable(founds) => {
             let down = down_text(alloc, topology, range, founds.as_slice())?;
             format!(in alloc; "refused: Unavailable {down}\n")
+        }
+    }
+}
+
+// The line of a write or a trim that some replica took.
+fn done_line(
+    alloc: Global,
+    topology: &Topology,
+    deed: Deed,
+    range: Range,
+    ack: &Ack,
+) -> Result<String, OutOfMemory>
+    ensures line { IfOk result (λ line. string_bytes line ≡ spec.done_text topology.now deed range ack.now) }
+{
+    let took = ack.took.len();
+    let missed = ack.missed.len();
+    match deed {
+        Deed::Write => format!(in alloc; "written: took {took}, missed {missed}\n"),
+        Deed::Trim => {
+            let range = range_text(alloc, topology, range)?;
+            format!(in alloc; "trim {range}: took {took}, missed {missed}\n")
         }
     }
 }
@@ -82,6 +121,43 @@ fn control_refused(alloc: Global, why: ControlRefusal) -> Result<Text, OutOfMemo
     ensures text { IfOk result (λ text. text ≡ spec.refused_line (control_refusal_text why)) }
 {
     Text::from_string(format!(in alloc; "refused: {why}\n")?)
+}
+
+/// The text of a retirement of which this came.
+pub(crate) fn retire_text(
+    alloc: Global,
+    topology: &Topology,
+    retiring: Retiring,
+    came: Retirement,
+) -> Result<Text, OutOfMemory>
+    ensures text { IfOk result (λ text. text ≡ spec.retire_text topology.now retiring.range retiring.leaf came) }
+{
+    Text::from_string(retire_line(alloc, topology, retiring, came)?)
+}
+
+// The line of it.
+fn retire_line(
+    alloc: Global,
+    topology: &Topology,
+    retiring: Retiring,
+    came: Retirement,
+) -> Result<String, OutOfMemory>
+    ensures line { IfOk result (λ line.
+        string_bytes line ≡ spec.retire_text topology.now retiring.range retiring.leaf came) }
+{
+    match came {
+        Retirement::WasRetired(slot) => {
+            let range = range_text(alloc, topology, retiring.range)?;
+            let leaf = leaf_text(topology, retiring.leaf);
+            let number = slot.0;
+            format!(in alloc; "retire {range} {leaf}: slot {number}\n")
+        }
+        Retirement::NotServing => format!(in alloc; "refused: NotServing\n"),
+        Retirement::LastServing(slot) => {
+            let number = slot.0;
+            format!(in alloc; "refused: LastServing {number}\n")
+        }
+    }
 }
 
 /// The text of a recovery of a range onto a leaf that came out so.

@@ -4,14 +4,18 @@ ghost use Rattle.std.specs.declared.cmp.Ordering.TheVariants.{Less};
 ghost use Rattle.mon_hints.specs.Formulas.{All, And, Bucket, Or, formulas, holds};
 ghost use Rattle.mon_hints.specs.Hints.{metric_bucket, pattern_excerpts, text_excerpts, value_buckets};
 ghost use Rattle.mon_hints.specs.Hints.{value_excerpts, with_byte, with_bytes};
+ghost use Rattle.mon_topo.specs.RangeHistories.{left_rows, serving_after};
 ghost use Rattle.mon_value.specs.Grids.{grid_times};
 ghost use Rattle.mon_value.specs.Groups.{mean_of, merged_of, percentile_of};
 ghost use Rattle.mon_value.specs.Order.{target_cmp, value_cmp};
 ghost use Rattle.mon_value.specs.Same.{is_match};
+ghost use Rattle.mon_value.specs.Turns.{Adds, Hides, after_turns};
 ghost use Rattle.mon_value.specs.Values.{number_of, value_text};
 ghost use Rattle.mon_value.specs.declared.values.FieldValue.TheVariants as field;
 ghost use Rattle.mon_value.specs.declared.values.Value.TheVariants as value;
 ghost use Rattle.worked_examples.specs.Marked.{all_marked};
+ghost use Rattle.worked_examples.specs.Replicas.{acknowledges, begins, bounds, ending, kept_in, opens, puts, replica_in};
+ghost use Rattle.worked_examples.specs.Replicas.{retires, trims};
 
 /// What is looked for in values: of a truth value its name, and in a text its windows of three bytes, with marks in
 /// front and behind.
@@ -116,4 +120,20 @@ pub(crate) fn values_are_spelled()
     ensures blank { number_of (codes " 1") ≡ None }
     ensures truth { value_text (value.Bool false) ≡ codes "false" }
     ensures text { value_text (value.Text (codes "a;b")) ≡ codes "a;b" }
+{}
+
+/// Which rows stand: a bound hides those that had come and end before it, and none that comes behind it.
+pub(crate) fn trims_hide_rows()
+    ensures hidden { after_turns [] (Adds (ending 10) ∷ Adds (ending 20) ∷ Hides (pos 20) ∷ []) ≡ ending 20 ∷ [] }
+    ensures behind { after_turns [] (Hides (pos 20) ∷ Adds (ending 10) ∷ []) ≡ ending 10 ∷ [] }
+    ensures begun { kept_in 2 (begins 2 (10 ∷ 20 ∷ []) ∷ trims 2 20 ∷ puts 2 30 ∷ []) ≡ map ending (20 ∷ 30 ∷ []) }
+    ensures other { kept_in 0 (begins 0 (10 ∷ []) ∷ begins 1 (10 ∷ []) ∷ trims 1 20 ∷ []) ≡ ending 10 ∷ [] }
+    ensures left { left_rows (acknowledges 10 ∷ bounds 20 [] ∷ acknowledges 15 ∷ []) ≡ ending 15 ∷ [] }
+{}
+
+/// Which replicas serve: one that missed a bound or was retired serves no longer.
+pub(crate) fn replicas_serve()
+    ensures missed { serving_after [] (opens 0 ∷ opens 1 ∷ bounds 20 (1 ∷ []) ∷ []) ≡ replica_in 0 ∷ [] }
+    ensures retired { serving_after [] (opens 0 ∷ opens 1 ∷ retires 0 ∷ []) ≡ replica_in 1 ∷ [] }
+    ensures again { serving_after [] (opens 0 ∷ opens 1 ∷ retires 0 ∷ opens 2 ∷ []) ≡ map replica_in (1 ∷ 2 ∷ []) }
 {}

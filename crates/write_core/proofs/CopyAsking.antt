@@ -1,11 +1,12 @@
 -- A recovery takes its lock, asks the replicas that serve for their rows, and comes to its own leaf.
-use Rattle.std.proofs.Common.{◌≡◌, ℕ, Some, None, Option, List, [], ◌∷◌, ◌++◌, refl, sym, ap, subst, ◌∙◌}
+use Rattle.std.proofs.Common.{◌≡◌, ℕ, ◌<◌, length, Some, None, Option, List, [], ◌∷◌, ◌++◌, refl, sym, ap, subst, ◌∙◌}
 use Rattle.std.proofs.Common.{append-nil, arith, inl, append_assoc}
 use Rattle.std.specs.Prelude.{Contains}
 use Rattle.std.specs.List.{AllByRecursion as All}
 use Rattle.std.proofs.lemmas.List.{map-append, take_all}
 use Rattle.std.proofs.lemmas.List.Elements.{Contains-append_left, Contains-push}
-use Rattle.mon_value.specs.LeafHistories.{IsDownAt, is_down, replica_rows}
+use Rattle.mon_value.specs.LeafHistories.{IsDownAt, is_down, kept_rows}
+use Rattle.mon_topo.proofs.LeftLemmas.{kept_is_left}
 use Rattle.mon_value.specs.declared.histories.Entry.{Entry}
 use Rattle.mon_value.specs.declared.histories.RangeEntry.{RangeEntry}
 use Rattle.mon_value.specs.declared.positions.FoundDown.{FoundDown}
@@ -13,7 +14,7 @@ use Rattle.mon_value.specs.declared.positions.Leaf.{Leaf}
 use Rattle.mon_value.specs.declared.positions.Range.{Range}
 use Rattle.mon_value.specs.declared.positions.SlotLeaf.{SlotLeaf}
 use Rattle.mon_value.specs.declared.rows.Row.{Row}
-use Rattle.mon_topo.specs.RangeHistories.{acknowledged_rows, serving}
+use Rattle.mon_topo.specs.RangeHistories.{left_rows, serving}
 use Rattle.mon_topo.specs.Settings.{Setting}
 use Rattle.mon_topo.proofs.HeldLemmas.{down_on}
 use Rattle.mon_topo.proofs.RangeHistoryLemmas.{all_append}
@@ -31,7 +32,8 @@ use Rattle.write_core.specs.World.{Recovers, Recovery, World, at_leaf, at_range,
 use Rattle.write_core.proofs.KeepsLemmas.{KeepsRange, changed_same, settled_moves}
 use Rattle.write_core.proofs.MeetLemmas as meet
 use Rattle.write_core.proofs.MeetLemmas.{base_range, base_up, base_whole, inside_from, quiet}
-use Rattle.write_core.proofs.OpeningLemmas.{replica_at_home}
+use Rattle.write_core.proofs.OpeningLemmas.{kept_at_home}
+use Rattle.write_core.proofs.InsideLemmas.{opened_there}
 use Rattle.write_core.proofs.StepLemmas.{IsStep, recover_at_leaf, recover_at_range, recovery_of}
 use Rattle.write_core.proofs.ViewLemmas.{within_itself}
 
@@ -110,7 +112,7 @@ module _ (setting : Setting) (world : World) (i : ℕ) (who : Recovery) (is : wo
         → HasCopied setting after i (copied_on who stage view) rows
     copied_moves rows h = record {
       copying = copying_moves h.copying;
-      all = h.all ∙ ap acknowledged_rows (sym its.history);
+      all = h.all ∙ ap left_rows (sym its.history);
       at_home = h.at_home;
     }
 
@@ -239,15 +241,23 @@ module _ (setting : Setting) (world : World) (i : ℕ) (who : Recovery) (is : wo
       quiet_step o None stage free
       (quiet_copying o None stage at.locked at, record { asked = asked; all = all; found = found })
 
-  -- the rows of a replica that serves are the acknowledged ones, and at home
+  -- the rows that a replica keeps which serves are those that are left, and at home
   has_copied : (source : SlotLeaf) (rows : List Row) → IsCopying setting world i who → Contains (serving g) source
-      → rows ≡ replica_rows r source.slot (of_leaf world.truth source.leaf) → HasCopied setting world i who rows
-  has_copied source rows h there same = record {
-    copying = h;
-    all = same ∙ (h.locked.settled.rows source there).all;
-    at_home = λ row among. replica_at_home setting.held setting.zones r source.slot (of_leaf world.truth source.leaf)
-        (kept.truth.held.at_home source.leaf) row (subst (λ (xs : List Row). Contains xs row) same among);
-  }
+      → rows ≡ kept_rows r source.slot (of_leaf world.truth source.leaf) → HasCopied setting world i who rows
+  has_copied source rows h there same =
+      let range_there : r.0 < length world.truth.seen.ranges =
+      subst (λ (n : ℕ). r.0 < n) (sym kept.truth.held.all_ranges) own.aimed.range_there in
+      let legal = kept.truth.held.legal r range_there in
+      let formed = kept.truth.held.formed source.leaf
+      (opened_there world.truth.seen.leaves source.leaf.0 r source.slot (h.locked.settled.rows source there).opened) in
+      record {
+        copying = h;
+        all = same
+            ∙ kept_is_left setting.held setting.zones setting.points r world.truth.seen g legal
+            (kept.truth.held.borne_out r range_there) source there formed (h.locked.settled.rows source there).all;
+        at_home = λ row among. kept_at_home setting.held setting.zones r source.slot (of_leaf world.truth source.leaf) formed
+            (kept.truth.held.at_home source.leaf) row (subst (λ (xs : List Row). Contains xs row) same among);
+      }
 
   source_serves : (founds : List FoundDown) (source : SlotLeaf) (left : List SlotLeaf)
       → IsAskingSources world who founds (source ∷ left) → Contains (serving g) source

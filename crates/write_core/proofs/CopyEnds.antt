@@ -1,13 +1,16 @@
 -- A recovery opens its replica and tells its range, so all its events keep the invariant.
-use Rattle.std.proofs.Common.{◌≡◌, ◌≢◌, ℕ, suc, ◌+◌, ◌<◌, ◌≤◌, true, false, ◌||◌, cond, Some, None, List, [], ◌∷◌, ◌++◌}
-use Rattle.std.proofs.Common.{length, refl, sym, ap, ap₂, subst, ◌∙◌, append-nil, length-append, arith, inl, inr}
+use Rattle.std.proofs.Common.{◌≡◌, ◌≢◌, ℕ, suc, ◌+◌, ◌<◌, ◌≤◌, true, false, ◌||◌, Some, None, List, [], ◌∷◌, ◌++◌}
+use Rattle.std.proofs.Common.{length, refl, sym, ap, subst, ◌∙◌, append-nil, length-append, arith, inl, inr}
 use Rattle.std.specs.Prelude.{nat_eq, Contains}
 use Rattle.std.proofs.lemmas.Bool.{and_from, and_left, and_right, eq-eqb, ne_eqb, or_right}
 use Rattle.std.proofs.lemmas.List.{length-set, take_at}
 use Rattle.std.proofs.lemmas.List.Elements.{Contains-push, Contains-push_cases}
 use Rattle.mon_hints.specs.Formulas.{is_among}
 use Rattle.mon_value.specs.LeafHistories as leaf_spec
-use Rattle.mon_value.specs.LeafHistories.{entry_rows, is_opened, replica_rows, IsSource}
+use Rattle.mon_value.specs.LeafHistories.{is_opened, replica_turns, IsSource}
+use Rattle.mon_value.proofs.KeptRowLemmas.{in_turn, replica_turns-push}
+use Rattle.mon_topo.proofs.HeldSteps.{opened_kept, serving_since}
+use Rattle.mon_topo.proofs.TurnsSinceLemmas.{since_opened}
 use Rattle.mon_value.specs.declared.histories.Entry.{Entry}
 use Rattle.mon_value.specs.declared.histories.RangeEntry.{RangeEntry}
 use Rattle.mon_value.specs.declared.histories.RangeEntry.TheVariants as range_entry
@@ -16,20 +19,20 @@ use Rattle.mon_value.specs.declared.positions.Range.{Range}
 use Rattle.mon_value.specs.declared.positions.Slot.{Slot}
 use Rattle.mon_value.specs.declared.positions.SlotLeaf.{SlotLeaf}
 use Rattle.mon_value.specs.declared.rows.Row.{Row}
-use Rattle.mon_value.proofs.LeafHistoryLemmas.{no_rows, opened_more, replica_rows-push}
+use Rattle.mon_value.proofs.LeafHistoryLemmas.{opened_more}
 use Rattle.mon_topo.specs.HeldHistories.{BeginsWith, IsBorneOut, IsOpened}
 use Rattle.mon_topo.specs.RangeHistories as range_spec
-use Rattle.mon_topo.specs.RangeHistories.{acknowledged_rows, opened_slots, serving}
+use Rattle.mon_topo.specs.RangeHistories.{left_rows, opened_slots, serving, turns_since}
 use Rattle.mon_topo.specs.Settings.{Setting, zone_of_leaf}
-use Rattle.mon_topo.proofs.FrontLemmas.{begins-flat_map, begins_same, begins_through, contains_on}
+use Rattle.mon_topo.proofs.FrontLemmas.{contains_on}
 use Rattle.mon_topo.proofs.HeldLemmas.{leaf_entry_by, leaf_entry_other, leaf_entry_same, range_entry_other}
 use Rattle.mon_topo.proofs.HeldLemmas.{range_entry_same}
-use Rattle.mon_topo.proofs.RangeHistoryLemmas.{all_at, numbered, slot_below}
+use Rattle.mon_topo.proofs.RangeHistoryLemmas.{all_from, numbered, slot_below}
 use Rattle.mon_hints.specs.Covers.{StaysSet, Bits, Covers}
 use Rattle.mon_hints.specs.Hints.{history_buckets, rows_buckets}
 use Rattle.write_core.specs.CopySteps.{CanCopyAt, IsDeniedFor, IsToldWithin, copied_in, copy_at, copy_of, new_replica}
 use Rattle.write_core.specs.CopySteps.{next_slot, opening_of, told_range}
-use Rattle.write_core.specs.Invariant.{HasCause, HasCopied, HasLocked, HasOpened, HasRows, HaveFound, IsCopyAt}
+use Rattle.write_core.specs.Invariant.{HasCause, HasCopied, HasLocked, HasOpened, HasTurns, HaveFound, IsCopyAt}
 use Rattle.write_core.specs.Invariant.{IsInside, IsKept, IsRecovery, IsRangeSettled, IsTelling, IsUnopened}
 use Rattle.write_core.specs.Recovering.{Beginning, Carrying, CopyStage, CopyTold, Copying, Denied, Nearing, NoSource}
 use Rattle.write_core.specs.Recovering.{NoTarget, Opens, Outcome, Over, Telling, Within}
@@ -46,7 +49,7 @@ use Rattle.write_core.proofs.KeepsLemmas.{changed_same, opened_moves, opened_wit
 use Rattle.write_core.proofs.MeetLemmas as meet
 use Rattle.write_core.proofs.MeetLemmas.{base_range, base_sound, base_up, base_whole, base_within, inside_root}
 use Rattle.write_core.proofs.MeetLemmas.{inside_zone, raised_all, root_bit, zone_bit}
-use Rattle.write_core.proofs.OpeningLemmas.{acked-opened, acked_source, opened-opened, serving-opened}
+use Rattle.write_core.proofs.OpeningLemmas.{left_source, opened-opened, serving-opened}
 use Rattle.write_core.proofs.StepLemmas.{IsStep, ChangesLeaf, ChangesRange, recover_at_leaf, recover_at_range}
 use Rattle.write_core.proofs.StepLemmas.{recovery_of}
 
@@ -139,7 +142,7 @@ module _ (setting : Setting) (world : World) (i : ℕ) (who : Recovery) (is : wo
       may_truth = (
         inside.up,
         never l,
-        subst IsSource (sym at.all) (acked_source setting.held setting.zones setting.points r g legal),
+        subst IsSource (sym at.all) (left_source setting.held setting.zones setting.points r g legal),
       )
 
       may_met : leaf_spec.MayFollow (of_leaf met l) e
@@ -157,18 +160,19 @@ module _ (setting : Setting) (world : World) (i : ℕ) (who : Recovery) (is : wo
             in_zone = raised_all who.view.bits.zone bits.zone l.0 bucket zone (inside.zone bucket its);
           }
 
-      -- another replica gets no rows, and is not opened
-      module _ (o : Range) (place : Slot) (other : leaf_spec.same_replica o place r s ≡ false) where
-        rows_elsewhere : (leaf : Leaf) → replica_rows o place (of_leaf (with_entry l e world.truth) leaf)
-            ≡ replica_rows o place (of_leaf world.truth leaf)
-        rows_elsewhere leaf =
-            leaf_entry_by world.truth.seen l e in_truth
-            (λ x history. replica_rows o place history ≡ replica_rows o place (of_leaf world.truth x)) leaf
-            (replica_rows-push o place (of_leaf world.truth l) e
-            ∙ ap (λ b. replica_rows o place (of_leaf world.truth l) ++ cond b rows []) other
-            ∙ append-nil (replica_rows o place (of_leaf world.truth l)))
-            refl
+      -- no replica has a turn more
+      turns_stay : (o : Range) (place : Slot) (leaf : Leaf)
+          → replica_turns o place (of_leaf (with_entry l e world.truth) leaf)
+          ≡ replica_turns o place (of_leaf world.truth leaf)
+      turns_stay o place leaf =
+          leaf_entry_by world.truth.seen l e in_truth
+          (λ x history. replica_turns o place history ≡ replica_turns o place (of_leaf world.truth x)) leaf
+          (replica_turns-push o place (of_leaf world.truth l) e
+          ∙ append-nil (replica_turns o place (of_leaf world.truth l)))
+          refl
 
+      -- another replica is not opened
+      module _ (o : Range) (place : Slot) (other : leaf_spec.same_replica o place r s ≡ false) where
         opened_elsewhere : (leaf : Leaf) → is_opened o place (of_leaf (with_entry l e world.truth) leaf)
             ≡ is_opened o place (of_leaf world.truth leaf)
         opened_elsewhere leaf =
@@ -203,7 +207,7 @@ module _ (setting : Setting) (world : World) (i : ℕ) (who : Recovery) (is : wo
             ∙ sym (leaf_entry_same world.truth.seen l e in_truth);
         others = leaf_entry_other world.truth.seen l e;
         ranges = λ o. refl;
-        rows = λ o free place. rows_elsewhere o place (other_range o place free);
+        rows = λ o free place. turns_stay o place;
         opened = λ o free place. opened_elsewhere o place (other_range o place free);
         puts = λ pass apart. puts_stay pass world.truth l e in_truth refl;
       }
@@ -213,24 +217,17 @@ module _ (setting : Setting) (world : World) (i : ℕ) (who : Recovery) (is : wo
 
       -- the replicas that serve are as they were
       still_serve : (replica : SlotLeaf) → Contains (serving g) replica
-          → HasRows next.truth r replica (acknowledged_rows g)
+          → HasTurns next.truth r replica (turns_since replica.slot g)
       still_serve replica there =
           let has = locked.settled.rows replica there in
-          let known = numbered setting.held setting.zones setting.points r g legal in
-          let below : replica.slot.0 < length (opened_slots g) = slot_below g known replica
-          (all_at (Contains (opened_slots g)) (serving g) replica known.among there) in
           record {
             opened = opened_moves world next changes.grows r replica.slot replica.leaf has.opened;
-            all = rows_elsewhere r replica.slot (other_slot replica.slot (λ same. omega arith)) replica.leaf ∙ has.all;
+            all = turns_stay r replica.slot replica.leaf ∙ has.all;
           }
 
-      rows_then : replica_rows r s (of_leaf next.truth l) ≡ acknowledged_rows g
-      rows_then =
-          ap (replica_rows r s) (leaf_entry_same world.truth.seen l e in_truth)
-          ∙ replica_rows-push r s (of_leaf world.truth l) e
-          ∙ ap₂ (λ old new. old ++ cond new rows [])
-          (no_rows r s (of_leaf world.truth l) (kept.truth.held.formed l in_truth) (never l)) this_slot
-          ∙ at.all
+      none_then : replica_turns r s (of_leaf next.truth l) ≡ []
+      none_then = turns_stay r s l
+          ∙ ((in_turn r s (of_leaf world.truth l) (kept.truth.held.formed l in_truth)).none (never l)).1
 
       open_then : is_opened r s (of_leaf next.truth l) ≡ true
       open_then =
@@ -254,9 +251,7 @@ module _ (setting : Setting) (world : World) (i : ℕ) (who : Recovery) (is : wo
               rows = still_serve;
               fresh = fresh_then;
               may = at.copying.may;
-              has = record { opened = open_then; all = rows_then };
-              seen = begins_same (replica_rows r s (of_leaf (with_entry l e met) l)) (acknowledged_rows g)
-                  (ap (replica_rows r s) changes.whole ∙ rows_then);
+              has = record { opened = open_then; all = none_then };
               entered = subst (λ (xs : List Row). Contains (of_leaf (with_entry l e met) l) (copy_of who g xs)) at.all
                   (subst (λ (history : List Entry). Contains history e) (sym (leaf_entry_same met.seen l e in_met))
                   (Contains-push (of_leaf met l) e));
@@ -307,46 +302,33 @@ module _ (setting : Setting) (world : World) (i : ℕ) (who : Recovery) (is : wo
     serve_then : serving (g ++ last ∷ []) ≡ serving g ++ new ∷ []
     serve_then = serving-opened g who.pass new.slot new.leaf
 
-    acked_then : acknowledged_rows (g ++ last ∷ []) ≡ acknowledged_rows g
-    acked_then = acked-opened g who.pass new.slot new.leaf
+    g_legal : range_spec.IsLegal setting.held setting.zones setting.points r g
+    g_legal = kept.truth.held.legal r
+        (subst (λ (n : ℕ). r.0 < n) (sym kept.truth.held.all_ranges) own.aimed.range_there)
 
     module _ (view : View) (sound : IsSound setting view) (upper : IsViewWithin who.view view)
         (whole : of_range view r ≡ g) where
       here : r.0 < length view.seen.ranges
       here = subst (λ (n : ℕ). r.0 < n) (sym sound.held.all_ranges) own.aimed.range_there
 
-      old_rows : (replica : SlotLeaf) → Contains (serving g) replica
-          → BeginsWith (replica_rows r replica.slot (of_leaf view replica.leaf)) (acknowledged_rows g)
-      old_rows = subst (λ (history : List RangeEntry). (replica : SlotLeaf) → Contains (serving history) replica
-          → BeginsWith (replica_rows r replica.slot (of_leaf view replica.leaf)) (acknowledged_rows history)) whole
+      old_turns : (replica : SlotLeaf) → Contains (serving g) replica
+          → BeginsWith (replica_turns r replica.slot (of_leaf view replica.leaf)) (turns_since replica.slot g)
+      old_turns = subst (λ (history : List RangeEntry). (replica : SlotLeaf) → Contains (serving history) replica
+          → BeginsWith (replica_turns r replica.slot (of_leaf view replica.leaf)) (turns_since replica.slot history)) whole
           (sound.held.borne_out r here).kept
 
-      new_rows : BeginsWith (replica_rows r (next_slot g) (of_leaf view l)) (acknowledged_rows g)
-      new_rows =
-          begins_through (acknowledged_rows g) (replica_rows r (next_slot g) (of_leaf who.view l))
-          (replica_rows r (next_slot g) (of_leaf view l)) h.seen
-          (begins-flat_map (entry_rows r (next_slot g)) (of_leaf view l) (of_leaf who.view l) (upper.seen.leaves l))
-
-      keeps_rows : (replica : SlotLeaf) → Contains (serving (g ++ last ∷ [])) replica
-          → BeginsWith (replica_rows r replica.slot (of_leaf view replica.leaf)) (acknowledged_rows (g ++ last ∷ []))
-      keeps_rows replica there =
-          subst (λ (xs : List Row). BeginsWith (replica_rows r replica.slot (of_leaf view replica.leaf)) xs)
-          (sym acked_then)
-          (elim (Contains-push_cases (serving g) new replica
-          (subst (λ (xs : List SlotLeaf). Contains xs replica) serve_then there)) [
-            | inl old ↦ old_rows replica old
-            | inr same ↦ subst
-                (λ (x : SlotLeaf). BeginsWith (replica_rows r x.slot (of_leaf view x.leaf)) (acknowledged_rows g))
-                same new_rows
-          ])
+      keeps_turns : (replica : SlotLeaf) → Contains (serving (g ++ last ∷ [])) replica
+          → BeginsWith (replica_turns r replica.slot (of_leaf view replica.leaf))
+          (turns_since replica.slot (g ++ last ∷ []))
+      keeps_turns = opened_kept setting.held setting.zones setting.points r view.seen g g_legal old_turns who.pass new refl
 
       borne_out : IsBorneOut view.seen r (g ++ last ∷ []) (length g) last
       borne_out =
-          subst (λ (front : List RangeEntry). IsOpened r new (acknowledged_rows front) (of_leaf view l))
+          subst (λ (front : List RangeEntry). IsOpened r new (left_rows front) (of_leaf view l))
           (sym (take_at g (last ∷ []) (length g) refl))
           (record {
             pass = who.pass;
-            entered = contains_on (of_leaf view l) (of_leaf who.view l) (copy_of who g (acknowledged_rows g))
+            entered = contains_on (of_leaf view l) (of_leaf who.view l) (copy_of who g (left_rows g))
                 (upper.seen.leaves l) h.entered;
           })
 
@@ -354,8 +336,9 @@ module _ (setting : Setting) (world : World) (i : ℕ) (who : Recovery) (is : wo
       last_sound =
           range_entry_sound view r last here setting sound
           (subst (λ (x : List RangeEntry). (replica : SlotLeaf) → Contains (serving (x ++ last ∷ [])) replica
-          → BeginsWith (replica_rows r replica.slot (of_leaf view replica.leaf)) (acknowledged_rows (x ++ last ∷ [])))
-          (sym whole) keeps_rows)
+          → BeginsWith (replica_turns r replica.slot (of_leaf view replica.leaf))
+          (turns_since replica.slot (x ++ last ∷ [])))
+          (sym whole) keeps_turns)
           (subst (λ (x : List RangeEntry). IsBorneOut view.seen r (x ++ last ∷ []) (length x) last) (sym whole)
           borne_out)
           (subst (λ (x : List RangeEntry). range_spec.MayFollow setting.held setting.zones setting.points r x last)
@@ -397,18 +380,31 @@ module _ (setting : Setting) (world : World) (i : ℕ) (who : Recovery) (is : wo
     told_history : of_range told_truth r ≡ g ++ last ∷ []
     told_history = range_entry_same world.truth.seen r last there_truth
 
+    -- it has had no turn since it was opened
+    none_since : turns_since new.slot (g ++ last ∷ []) ≡ []
+    none_since = since_opened new.slot who.pass new g [] refl
+        (all_from (λ (one : SlotLeaf). new.slot.0 ≢ one.slot.0) (opened_slots g)
+        (λ one known same. (let below : one.slot.0 < length (opened_slots g) =
+        slot_below g (numbered setting.held setting.zones setting.points r g g_legal) one known in
+        let this : length (opened_slots g) ≡ one.slot.0 = same in
+        absurd (omega (arith, below, this)))))
+
     -- the new replica serves too, and is known
     settled_then : IsRangeSettled told_truth r
     settled_then = record {
       rows = subst (λ (history : List RangeEntry). (replica : SlotLeaf) → Contains (serving history) replica
-          → HasRows told_truth r replica (acknowledged_rows history)) (sym told_history)
-          (λ replica there. subst (λ (xs : List Row). HasRows told_truth r replica xs) (sym acked_then)
-          (elim (Contains-push_cases (serving g) new replica
+          → HasTurns told_truth r replica (turns_since replica.slot history)) (sym told_history)
+          (λ replica there. elim (Contains-push_cases (serving g) new replica
           (subst (λ (xs : List SlotLeaf). Contains xs replica) serve_then there)) [
-            | inl old ↦ record { opened = (h.rows replica old).opened; all = (h.rows replica old).all }
-            | inr same ↦ subst (λ (x : SlotLeaf). HasRows told_truth r x (acknowledged_rows g)) same
-                (record { opened = h.has.opened; all = h.has.all })
-          ]));
+            | inl old ↦ record {
+              opened = (h.rows replica old).opened;
+              all = (h.rows replica old).all
+                  ∙ sym (serving_since setting.held setting.zones setting.points r told_truth.seen g g_legal replica old last
+                  ∙ append-nil (turns_since replica.slot g));
+            }
+            | inr same ↦ subst (λ (x : SlotLeaf). HasTurns told_truth r x (turns_since x.slot (g ++ last ∷ []))) same
+                (record { opened = h.has.opened; all = h.has.all ∙ sym none_since })
+          ]);
       fresh = subst (λ (history : List RangeEntry). IsUnopened told_truth r (length (opened_slots history)))
           (sym told_history)
           (λ slot leaf beyond. h.fresh slot leaf

@@ -1,4 +1,9 @@
 -- What a write has done, one event on.
+use Rattle.mon_value.specs.declared.histories.Ack.{Ack}
+use Rattle.mon_value.specs.declared.positions.Slot.{Slot}
+use Rattle.mon_value.specs.LeafHistories.{turn_entry}
+use Rattle.mon_value.specs.Turns.{Turn, Adds, Hides}
+use Rattle.mon_topo.specs.RangeHistories.{turn_ack}
 use Rattle.std.proofs.Common.{◌≡◌, ◌≢◌, ℕ, ◌<◌, Bool, true, false, ◌&&◌, cond, List, [], ◌∷◌, ◌++◌, length, map, refl}
 use Rattle.std.proofs.Common.{sym, ap, ap₂, subst, ◌∙◌, append-nil, append_assoc, inl, inr}
 use Rattle.std.specs.Prelude.{nat_eq}
@@ -9,7 +14,6 @@ use Rattle.mon_value.specs.LeafHistories.{is_switch}
 use Rattle.mon_value.specs.declared.histories.Entry.{Entry}
 use Rattle.mon_value.specs.declared.histories.Entry.TheVariants as entry
 use Rattle.mon_value.specs.declared.histories.RangeEntry.{RangeEntry}
-use Rattle.mon_value.specs.declared.histories.RangeEntry.TheVariants as range_entry
 use Rattle.mon_value.specs.declared.positions.Leaf.{Leaf}
 use Rattle.mon_value.specs.declared.positions.Range.{Range}
 use Rattle.mon_value.specs.declared.positions.SlotLeaf.{SlotLeaf}
@@ -155,12 +159,24 @@ puts_stay pass truth l e here other o =
 pub switch_is_no_put : (pass : ℕ) (e : Entry) → is_switch e ≡ true → is_put_by pass e ≡ false
 switch_is_no_put pass (entry.Opened other range slot rows) h = refl
 switch_is_no_put pass (entry.Put other range slot row) h = absurd cc
+switch_is_no_put pass (entry.Trim other range slot before) h = absurd cc
 switch_is_no_put pass (entry.Down other) h = refl
 switch_is_no_put pass (entry.Up other) h = refl
 
+-- a turn's entries are by its pass
+put_by_turn : (pass other : ℕ) (range : Range) (slot : Slot) (turn : Turn)
+    → is_put_by pass (turn_entry other range slot turn) ≡ nat_eq other pass
+put_by_turn pass other range slot (Adds row) = refl
+put_by_turn pass other range slot (Hides before) = refl
+
+ack_by_turn : (pass other : ℕ) (turn : Turn) (ack : Ack) → is_ack_by pass (turn_ack other turn ack) ≡ nat_eq other pass
+ack_by_turn pass other (Adds row) ack = refl
+ack_by_turn pass other (Hides before) ack = refl
+
 pub anothers_put : (pass : ℕ) (writer : Writer) (mark : Mark) → pass ≢ writer.pass
     → is_put_by pass (put_of writer mark) ≡ false
-anothers_put pass writer mark apart = ne_eqb writer.pass pass (λ e. apart (sym e))
+anothers_put pass writer mark apart = put_by_turn pass writer.pass writer.range mark.slot writer.turn
+    ∙ ne_eqb writer.pass pass (λ e. apart (sym e))
 
 pub acks_stay : (pass : ℕ) (truth : View) (r : Range) (e : RangeEntry) → r.0 < length truth.seen.ranges
     → is_ack_by pass e ≡ false → (o : Range)
@@ -205,7 +221,8 @@ module _ (truth : View) (writer : Writer) (done left : List Mark) (mark : Mark) 
       ∙ ap (λ more. puts_on writer o done ++ more) (append-nil (put_on writer o new))
 
   own_put : puts_by writer.pass (e ∷ []) ≡ e ∷ []
-  own_put = cond-true (nat_eq writer.pass writer.pass) (e ∷ []) [] (eq-eqb writer.pass writer.pass refl)
+  own_put = cond-true (is_put_by writer.pass e) (e ∷ []) []
+      (put_by_turn writer.pass writer.pass writer.range mark.slot writer.turn ∙ eq-eqb writer.pass writer.pass refl)
 
   new_here : put_on writer l new ≡ e ∷ []
   new_here = cond-true (nat_eq l.0 l.0) (e ∷ []) [] (eq-eqb l.0 l.0 refl)
@@ -239,7 +256,7 @@ module _ (truth : View) (writer : Writer) (marks : List Mark) where
   r = writer.range
 
   abbrev last : RangeEntry
-  last = range_entry.Acked writer.pass writer.row (ack_of r marks)
+  last = turn_ack writer.pass writer.turn (ack_of r marks)
 
   -- no replica took the row
   pub done_none : some_took marks ≡ false → HasDone truth writer (Acking (Marked marks))
@@ -251,7 +268,8 @@ module _ (truth : View) (writer : Writer) (marks : List Mark) where
 
   module _ (some : some_took marks ≡ true) (here : r.0 < length truth.seen.ranges) where
     own_ack : acks_by writer.pass (last ∷ []) ≡ last ∷ []
-    own_ack = cond-true (nat_eq writer.pass writer.pass) (last ∷ []) [] (eq-eqb writer.pass writer.pass refl)
+    own_ack = cond-true (is_ack_by writer.pass last) (last ∷ []) []
+        (ack_by_turn writer.pass writer.pass writer.turn (ack_of r marks) ∙ eq-eqb writer.pass writer.pass refl)
 
     ack_by : (o : Range) (b : Bool) → nat_eq r.0 o.0 ≡ b → ack_on writer o marks ≡ cond b (last ∷ []) []
     ack_by o b e = ap₂ (λ x y. cond (x && y) (last ∷ []) []) some e
@@ -273,5 +291,6 @@ module _ (truth : View) (writer : Writer) (marks : List Mark) where
     }
 
 pub anothers_ack : (pass : ℕ) (writer : Writer) (marks : List Mark) → pass ≢ writer.pass
-    → is_ack_by pass (range_entry.Acked writer.pass writer.row (ack_of writer.range marks)) ≡ false
-anothers_ack pass writer marks apart = ne_eqb writer.pass pass (λ e. apart (sym e))
+    → is_ack_by pass (turn_ack writer.pass writer.turn (ack_of writer.range marks)) ≡ false
+anothers_ack pass writer marks apart = ack_by_turn pass writer.pass writer.turn (ack_of writer.range marks)
+    ∙ ne_eqb writer.pass pass (λ e. apart (sym e))

@@ -8,6 +8,7 @@ pub mod CopyPlaces
 pub mod CourseLemmas
 pub mod DecidedLemmas
 pub mod DeedLemmas
+pub mod FirstOnLemmas
 pub mod InsideLemmas
 pub mod KeepsLemmas
 pub mod KeptLemmas
@@ -18,6 +19,7 @@ mod NotedLemmas
 pub mod OpeningLemmas
 pub mod RangeEventLemmas
 pub mod ReplayLemmas
+pub mod RetireLemmas
 pub mod RoundLemmas
 pub mod StageLemmas
 pub mod StepLemmas

@@ -1,4 +1,6 @@
 -- What a write or a recovery found down, it has noted.
+use Rattle.write_core.specs.Events.{Retires, retired, retires_with}
+use Rattle.write_core.specs.declared.retirements.Retirement.{Retirement}
 use Rattle.std.proofs.Common.{◌≡◌, ◌≢◌, ℕ, Bool, Some, None, Option, List, [], ◌∷◌, ◌++◌, length, map, refl, sym}
 use Rattle.std.proofs.Common.{subst, inl, inr}
 use Rattle.std.specs.List.{AllByRecursion as All}
@@ -350,7 +352,7 @@ module _ (setting : Setting) (world : World) (noted : AreNoted world) where
     reserve_told mark left told.Done can = tt
 
     enter_told : (mark : Mark) (left : List Mark) (answer : WriteTold)
-        → IsToldAtEntry setting (of_leaf world.truth mark.leaf) who.row answer
+        → IsToldAtEntry setting (of_leaf world.truth mark.leaf) who.turn answer
         → LeftSo (HasNoted (notes ++ note_of mark.leaf ∷ [])) (mark ∷ left) answer
     enter_told mark left (told.Down cut) can =
         noted_now notes mark.leaf cut (length (of_leaf world.truth mark.leaf)) can.1
@@ -527,6 +529,13 @@ module _ (setting : Setting) (world : World) (noted : AreNoted world) where
   switch_noted i (Writes who) leaf down told = noted
   switch_noted i (Recovers who) leaf down told = noted
 
+  retire_noted : (i : ℕ) (actor : Actor) (range : Range) (leaf : Leaf) (told : Retirement)
+      → AreNoted (retired world i actor range leaf told)
+  retire_noted i (Stands who) range leaf told =
+      noted_at_range i who.view range (retires_with range who.pass told) None (stands_on who) tt
+  retire_noted i (Writes who) range leaf told = noted
+  retire_noted i (Recovers who) range leaf told = noted
+
   wiser_noted : (some : List LengthNote) (actor : Actor) (view : View) → IsNotedBy some actor
       → IsNotedBy some (wiser actor view)
   wiser_noted some (Writes who) view h = h
@@ -542,9 +551,10 @@ module _ (setting : Setting) (world : World) (noted : AreNoted world) where
   event_noted (Goes i answer) can = goes_noted i (world.actors i) answer (noted i) can
   event_noted (Copies i told) can = copies_noted i (world.actors i) told (noted i) can
   event_noted (Switches i leaf down told) can = switch_noted i (world.actors i) leaf down told
+  event_noted (Retires i range leaf told) can = retire_noted i (world.actors i) range leaf told
   event_noted (Learns i view) can =
       one_noted i (wiser (world.actors i) view) (wiser_noted (world.notes i) (world.actors i) view (noted i))
-  event_noted (Begins i row range) can = one_noted i (Writes (new_writer row range (world.actors i))) tt
+  event_noted (Begins i turn range) can = one_noted i (Writes (new_writer turn range (world.actors i))) tt
   event_noted (Aims i range leaf) can = one_noted i (Recovers (new_recovery range leaf (world.actors i))) tt
   event_noted (Visits leaf view) can = noted
   event_noted (Resolves range view) can = noted

@@ -1,26 +1,28 @@
 -- The events of a write at its range.
 use Rattle.std.proofs.Common.{◌≡◌, ℕ, zero, suc, ◌<◌, Bool, true, false, not, cond, Some, None, List, [], ◌∷◌, ◌++◌}
-use Rattle.std.proofs.Common.{length, map, refl, sym, ap, subst, ◌∙◌, arith, inl, inr}
-use Rattle.std.specs.Prelude.{Contains}
+use Rattle.std.proofs.Common.{length, take, map, refl, sym, ap, subst, ◌∙◌, arith, inl, inr}
+use Rattle.std.specs.Prelude.{Contains, filter}
 use Rattle.std.specs.List.{flat_map}
 use Rattle.std.proofs.lemmas.Bool.{both_ways, cases_Bool}
 use Rattle.std.proofs.lemmas.List.{length-set, take_at}
-use Rattle.std.proofs.lemmas.List.Elements.{Contains-push}
-use Rattle.mon_value.specs.LeafHistories.{replica_rows, IsSource}
+use Rattle.std.proofs.lemmas.List.Elements.{Contains-append_right, Contains-push}
+use Rattle.mon_value.specs.LeafHistories.{replica_turns}
+use Rattle.mon_value.specs.Turns.{Turn, Adds, Hides}
+use Rattle.mon_value.specs.declared.histories.Histories.{Histories}
+use Rattle.write_core.specs.Steps.{IsTurnAtHome, TakesTurn}
+use Rattle.mon_topo.proofs.HeldSteps.{serving_since, turn_kept}
 use Rattle.mon_value.specs.declared.histories.Ack.{Ack}
 use Rattle.mon_value.specs.declared.histories.Miss.{Miss}
 use Rattle.mon_value.specs.declared.histories.RangeEntry.{RangeEntry}
-use Rattle.mon_value.specs.declared.histories.RangeEntry.TheVariants as range_entry
 use Rattle.mon_value.specs.declared.positions.Range.{Range}
 use Rattle.mon_value.specs.declared.positions.Slot.{Slot}
 use Rattle.mon_value.specs.declared.positions.SlotLeaf.{SlotLeaf}
-use Rattle.mon_value.specs.declared.rows.Row.{Row}
-use Rattle.mon_topo.specs.HeldHistories.{BeginsWith, IsBorneOut, IsMissed, IsTaken}
+use Rattle.mon_topo.specs.HeldHistories.{BeginsWith, IsAckBorneOut, IsBorneOut, IsMissed, IsTaken}
 use Rattle.mon_topo.specs.RangeHistories as range_spec
-use Rattle.mon_topo.specs.RangeHistories.{acknowledged_rows, is_missed, opened_slots, serving}
+use Rattle.mon_topo.specs.RangeHistories.{is_missed, opened_slots, range_turns, serving, turn_ack, turns_since}
 use Rattle.write_core.specs.Deeds.{HasDone}
-use Rattle.write_core.specs.Invariant.{HasMissed, HasRows, HasSeen, HasTaken, HaveFound, IsDecided, IsUnopened}
-use Rattle.write_core.specs.Invariant.{IsKept, IsMark, IsRefused, IsRangeSettled, IsWriter, is_decided, is_waiting, rows_after}
+use Rattle.write_core.specs.Invariant.{HasMissed, HasTurns, HasSeen, HasTaken, HaveFound, IsDecided, IsUnopened}
+use Rattle.write_core.specs.Invariant.{IsKept, IsMark, IsRefused, IsRangeSettled, IsWriter, is_decided, is_waiting, turns_after}
 use Rattle.write_core.specs.Marks.{ack_of, found_in_mark, has_taken, replica_of, some_took, waiting}
 use Rattle.write_core.specs.Program.{Acking, Ended, Locking, Marked, Not, Stage, reserving}
 use Rattle.write_core.specs.Rounds.{round_of}
@@ -40,13 +42,56 @@ use Rattle.write_core.proofs.DeedLemmas.{acks_stay, anothers_ack, done_acked, do
 use Rattle.write_core.proofs.MeetLemmas as meet
 use Rattle.write_core.proofs.KeepsLemmas.{changed_same, seen_moves}
 use Rattle.mon_topo.proofs.HeldLemmas.{range_entry_other, range_entry_same}
-use Rattle.mon_topo.proofs.RangeHistoryLemmas.{acknowledged_rows-push, all_at, not_missed, numbered, one_replica}
-use Rattle.mon_topo.proofs.RangeHistoryLemmas.{serving-push}
-use Rattle.write_core.proofs.OpeningLemmas.{opened-acked}
+use Rattle.mon_topo.proofs.RangeHistoryLemmas.{all_at, not_missed, numbered, one_replica}
+use Rattle.mon_topo.proofs.RangeHistoryLemmas.{serving-push, serving-trimmed}
+use Rattle.write_core.proofs.OpeningLemmas.{opened-acked, opened-trimmed}
 use Rattle.write_core.proofs.StageLemmas.{at_reserving}
 use Rattle.write_core.proofs.StepLemmas.{IsStep, ChangesRange, write_at_range, writer_of}
 use Rattle.write_core.proofs.UnavailableLemmas.{all_found}
 use Rattle.write_core.proofs.ViewLemmas.{within_itself}
+
+-- a turn's acknowledgement: who serves behind it, what it opens, and that leaves bear it out
+pub serving-turn : (g : List RangeEntry) (pass : ℕ) (turn : Turn) (ack : Ack)
+    → serving (g ++ turn_ack pass turn ack ∷ []) ≡ filter (not_missed ack) (serving g)
+serving-turn g pass (Adds row) ack = serving-push g pass row ack
+serving-turn g pass (Hides before) ack = serving-trimmed g pass before ack
+
+pub opened-turn : (g : List RangeEntry) (pass : ℕ) (turn : Turn) (ack : Ack)
+    → opened_slots (g ++ turn_ack pass turn ack ∷ []) ≡ opened_slots g
+opened-turn g pass (Adds row) ack = opened-acked g pass row ack
+opened-turn g pass (Hides before) ack = opened-trimmed g pass before ack
+
+pub borne_turn : (seen : Histories) (r : Range) (history : List RangeEntry) (k pass : ℕ) (turn : Turn) (ack : Ack)
+    → IsAckBorneOut seen (opened_slots (take k history)) pass turn ack
+    → IsBorneOut seen r history k (turn_ack pass turn ack)
+borne_turn seen r history k pass (Adds row) ack h = h
+borne_turn seen r history k pass (Hides before) ack h = h
+
+pub since_turn : (pass : ℕ) (turn : Turn) (ack : Ack) → range_turns (turn_ack pass turn ack ∷ []) ≡ turn ∷ []
+since_turn pass (Adds row) ack = refl
+since_turn pass (Hides before) ack = refl
+
+-- an item that passes a test
+passes_by : (test : SlotLeaf → Bool) (first x : SlotLeaf) (xs : List SlotLeaf) (b : Bool) → Contains (filter test xs) x
+    → Contains (cond b (first ∷ filter test xs) (filter test xs)) x
+passes_by test first x xs true there = Contains-append_right (first ∷ []) (filter test xs) x there
+passes_by test first x xs false there = there
+
+passes_filter : (test : SlotLeaf → Bool) (xs : List SlotLeaf) (x : SlotLeaf) → Contains xs x → test x ≡ true
+    → Contains (filter test xs) x
+passes_filter test [] x there is = absurd (omega (arith, there.1))
+passes_filter test (first ∷ xs) x (zero, l, e) is =
+    subst (λ (b : Bool). Contains (cond b (first ∷ filter test xs) (filter test xs)) x) (sym (ap test e ∙ is))
+    (zero, omega arith, e)
+passes_filter test (first ∷ xs) x (suc k, l, e) is =
+    passes_by test first x xs (test first) (passes_filter test xs x (k, omega (arith, l), e) is)
+
+mapped_mark : (xs : List Mark) (mark : Mark) → Contains xs mark → Contains (map replica_of xs) (replica_of mark)
+mapped_mark [] mark there = absurd (omega (arith, there.1))
+mapped_mark (x ∷ xs) mark (zero, h, same) = (zero, omega arith, ap replica_of same)
+mapped_mark (x ∷ xs) mark (suc k, h, same) =
+    Contains-append_right (replica_of x ∷ []) (map replica_of xs) (replica_of mark)
+    (mapped_mark xs mark (k, omega (arith, h), same))
 
 map_waiting : (replicas : List SlotLeaf) → map replica_of (map waiting replicas) ≡ replicas
 map_waiting [] = refl
@@ -85,11 +130,10 @@ module _ (setting : Setting) (world : World) (i : ℕ) (who : Writer) (is : worl
   -- ---- the lock
 
   module _ (free : world.range_holder r.0 ≡ None) (deeds : HasDone world.truth who Locking) where
-    pub lock_slots : (replicas : List SlotLeaf) → replicas ≡ serving g → IsSource (acknowledged_rows g ++ who.row ∷ [])
-        → length (acknowledged_rows g) < setting.points
+    pub lock_slots : (replicas : List SlotLeaf) → replicas ≡ serving g → TakesTurn setting g who.turn
         → IsStep setting world (at_range world i who.view r same_view (Some i)
         (writes_on who (reserving (round_of (map waiting replicas)))))
-    lock_slots replicas serve source room =
+    lock_slots replicas serve takes =
         let stage = reserving (round_of (map waiting replicas)) in
         let next = at_range world i who.view r same_view (Some i) (writes_on who stage) in
         let then' = writer_at_stage who stage met in
@@ -98,8 +142,7 @@ module _ (setting : Setting) (world : World) (i : ℕ) (who : Writer) (is : worl
         (at_reserving setting next i then' (round_of (map waiting replicas))
         (record {
           holds = record { holder = changed_same world.range_holder r.0 (Some i); whole = met_whole };
-          source = source;
-          room = room;
+          takes = takes;
           serve = map_waiting replicas ∙ serve;
           fresh = (kept.settled r free).fresh;
           each = all_map_from waiting (IsMark next then') replicas
@@ -138,7 +181,7 @@ module _ (setting : Setting) (world : World) (i : ℕ) (who : Writer) (is : worl
     ack = ack_of r marks
 
     abbrev e : RangeEntry
-    e = range_entry.Acked who.pass who.row ack
+    e = turn_ack who.pass who.turn ack
 
     abbrev stage : Stage
     stage = Ended (Marked marks)
@@ -158,11 +201,12 @@ module _ (setting : Setting) (world : World) (i : ℕ) (who : Writer) (is : worl
       rows = λ replica there.
           let found = serving_mark replica there in
           let has = (mark_of found.0 found.1).has in
-          subst (λ (x : SlotLeaf). HasRows world.truth r x (acknowledged_rows g)) found.2
+          subst (λ (x : SlotLeaf). HasTurns world.truth r x (turns_since x.slot g)) found.2
           (record {
             opened = has.opened;
             all = has.all
-                ∙ ap (λ b. cond b (rows_after world who) (acknowledged_rows g)) (none_took marks found.0 none found.1);
+                ∙ ap (λ b. cond b (turns_after world who found.0.slot) (turns_since found.0.slot g))
+                (none_took marks found.0 none found.1);
           });
       fresh = at.going.fresh;
     }
@@ -188,7 +232,7 @@ module _ (setting : Setting) (world : World) (i : ℕ) (who : Writer) (is : worl
         × Contains marks mark × (replica_of mark ≡ replica) × (mark.fate ≡ fate.Took)
     still_serving replica there =
         let served = contains_filter (not_missed ack) (serving g) replica
-        (subst (λ (xs : List SlotLeaf). Contains xs replica) (serving-push g who.pass who.row ack) there) in
+        (subst (λ (xs : List SlotLeaf). Contains xs replica) (serving-turn g who.pass who.turn ack) there) in
         let found = serving_mark replica served.0 in (
           found.0,
           found.1,
@@ -205,17 +249,19 @@ module _ (setting : Setting) (world : World) (i : ℕ) (who : Writer) (is : worl
 
     module _ (some : some_took marks ≡ true) where
       may_follow : range_spec.MayFollow setting.held setting.zones setting.points r g e
-      may_follow = (
-        record {
-          ranged = refl;
-          taken = some_taken marks some;
-          named = named marks (serving g)
-              at.going.serve at.decided;
-        },
-        own.lawful.at_home.1,
-        at.going.source,
-        at.going.room,
-      )
+      may_follow = follows_turn who.turn own.lawful.at_home at.going.takes
+          (record {
+            ranged = refl;
+            taken = some_taken marks some;
+            named = named marks (serving g)
+                at.going.serve at.decided;
+          })
+        where
+          follows_turn : (turn : Turn) → IsTurnAtHome setting r turn → TakesTurn setting g turn
+              → range_spec.IsAckOf r (serving g) ack
+              → range_spec.MayFollow setting.held setting.zones setting.points r g (turn_ack who.pass turn ack)
+          follows_turn (Adds row) home takes of = (of, home.1, takes.0, takes.1)
+          follows_turn (Hides before) home takes of = of
 
       -- a view that has all that the write has seen, and all of the range
       module _ (view : View) (sound : IsSound setting view) (up : IsViewWithin who.view view)
@@ -232,17 +278,6 @@ module _ (setting : Setting) (world : World) (i : ℕ) (who : Writer) (is : worl
 
         missed : (mark : Mark) (cut : ℕ) → Contains marks mark → mark.fate ≡ fate.Missed cut → HasMissed seer mark cut
         missed mark cut there e = subst (λ (f : Fate). HasSeen world seer mark f) e (seen mark there)
-
-        keeps_rows : (replica : SlotLeaf) → Contains (serving (g ++ e ∷ [])) replica
-            → BeginsWith (replica_rows r replica.slot (of_leaf view replica.leaf)) (acknowledged_rows (g ++ e ∷ []))
-        keeps_rows replica there =
-            let found = still_serving replica there in
-            subst (λ (x : SlotLeaf). BeginsWith (replica_rows r x.slot (of_leaf view x.leaf))
-            (acknowledged_rows (g ++ e ∷ [])))
-            found.2
-            (subst (λ (rows : List Row). BeginsWith (replica_rows r found.0.slot (of_leaf view found.0.leaf))
-            rows) (sym (acknowledged_rows-push g who.pass who.row ack))
-            (taken found.0 found.1 found.3).rows)
 
         served : range_spec.IsLegal setting.held setting.zones setting.points r g
         served = kept.truth.held.legal r own.lawful.there
@@ -267,13 +302,13 @@ module _ (setting : Setting) (world : World) (i : ℕ) (who : Writer) (is : worl
             contains_mapped mark there = contains_at marks mark there
 
         borne_taken : (replica : SlotLeaf) → Contains (opened_slots g) replica → Contains ack.took replica.slot
-            → IsTaken view.seen who.pass who.row ack replica
+            → IsTaken view.seen who.pass who.turn ack replica
         borne_taken replica there took =
             let found = taken_in marks replica.slot took in
             let same : replica_of found.0 ≡ replica = one_replica g
             (numbered setting.held setting.zones setting.points r g served) (replica_of found.0) replica
             (mark_opened found.0 found.1) there (ap (λ (s : Slot). s.0) found.3) in
-            subst (λ (x : SlotLeaf). IsTaken view.seen who.pass who.row ack x) same
+            subst (λ (x : SlotLeaf). IsTaken view.seen who.pass who.turn ack x) same
             (record { put = (taken found.0 found.1 found.2).put })
 
         borne_missed : (miss : Miss) → Contains ack.missed miss → IsMissed view.seen (opened_slots g) miss
@@ -284,23 +319,41 @@ module _ (setting : Setting) (world : World) (i : ℕ) (who : Writer) (is : worl
 
         borne_out : IsBorneOut view.seen r (g ++ e ∷ []) (length g) e
         borne_out =
-            subst (λ (front : List RangeEntry).
-            ((replica : SlotLeaf) → Contains (opened_slots front) replica → Contains ack.took replica.slot
-            → IsTaken view.seen who.pass who.row ack replica)
-            × ((miss : Miss) → Contains ack.missed miss → IsMissed view.seen (opened_slots front) miss))
+            borne_turn view.seen r (g ++ e ∷ []) (length g) who.pass who.turn ack
+            (subst (λ (front : List RangeEntry).
+            IsAckBorneOut view.seen (opened_slots front) who.pass who.turn ack)
             (sym (take_at g (e ∷ []) (length g) refl))
-            (borne_taken, borne_missed)
+            (borne_taken, borne_missed))
 
         here : r.0 < length view.seen.ranges
         here = subst (λ (n : ℕ). r.0 < n) (kept.truth.held.all_ranges ∙ sym sound.held.all_ranges)
             own.lawful.there
 
+        old_turns : (replica : SlotLeaf) → Contains (serving g) replica
+            → BeginsWith (replica_turns r replica.slot (of_leaf view replica.leaf)) (turns_since replica.slot g)
+        old_turns = subst (λ (history : List RangeEntry). (replica : SlotLeaf) → Contains (serving history) replica
+            → BeginsWith (replica_turns r replica.slot (of_leaf view replica.leaf)) (turns_since replica.slot history))
+            whole (sound.held.borne_out r here).kept
+
+        keeps_turns : (replica : SlotLeaf) → Contains (serving (g ++ e ∷ [])) replica
+            → BeginsWith (replica_turns r replica.slot (of_leaf view replica.leaf))
+            (turns_since replica.slot (g ++ e ∷ []))
+        keeps_turns = turn_kept setting.held setting.zones setting.points r view.seen g served old_turns who.pass
+            who.turn ack
+            (λ replica there missed_not.
+            (let found = still_serving replica
+            (subst (λ (xs : List SlotLeaf). Contains xs replica) (sym (serving-turn g who.pass who.turn ack))
+            (passes_filter (not_missed ack) (serving g) replica there (ap not missed_not))) in
+            subst (λ (x : SlotLeaf). BeginsWith (replica_turns r x.slot (of_leaf view x.leaf))
+            (turns_since x.slot g ++ who.turn ∷ [])) found.2 (taken found.0 found.1 found.3).turns))
+
         ack_sound : IsSound setting (with_range_entry r e view)
         ack_sound =
             range_entry_sound view r e here setting sound
             (subst (λ (h : List RangeEntry). (replica : SlotLeaf) → Contains (serving (h ++ e ∷ [])) replica
-            → BeginsWith (replica_rows r replica.slot (of_leaf view replica.leaf)) (acknowledged_rows (h ++ e ∷ [])))
-            (sym whole) keeps_rows)
+            → BeginsWith (replica_turns r replica.slot (of_leaf view replica.leaf))
+            (turns_since replica.slot (h ++ e ∷ [])))
+            (sym whole) keeps_turns)
             (subst (λ (h : List RangeEntry). IsBorneOut view.seen r (h ++ e ∷ []) (length h) e) (sym whole)
             borne_out)
             (subst (λ (h : List RangeEntry). range_spec.MayFollow setting.held setting.zones setting.points r h e)
@@ -335,16 +388,21 @@ module _ (setting : Setting) (world : World) (i : ℕ) (who : Writer) (is : worl
             (subst (λ (h : List RangeEntry). Contains (serving h) replica)
             (range_entry_same world.truth.seen r e there_truth) there) in
             let has = (mark_of found.0 found.1).has in
-            subst (λ (x : SlotLeaf). HasRows (with_range_entry r e world.truth) r x
-            (acknowledged_rows (of_range (with_range_entry r e world.truth) r))) found.2
+            subst (λ (x : SlotLeaf). HasTurns (with_range_entry r e world.truth) r x
+            (turns_since x.slot (of_range (with_range_entry r e world.truth) r))) found.2
             (record {
               opened = has.opened;
-              all = has.all ∙ ap (λ f. cond (has_taken f) (rows_after world who) (acknowledged_rows g)) found.3
-                  ∙ sym (acknowledged_rows-push g who.pass who.row ack)
-                  ∙ ap acknowledged_rows (sym (range_entry_same world.truth.seen r e there_truth));
+              all = has.all
+                  ∙ ap (λ f. cond (has_taken f) (turns_after world who found.0.slot) (turns_since found.0.slot g)) found.3
+                  ∙ sym (serving_since setting.held setting.zones setting.points r world.truth.seen g
+                  (kept.truth.held.legal r own.lawful.there) (replica_of found.0)
+                  (subst (λ (xs : List SlotLeaf). Contains xs (replica_of found.0)) at.going.serve
+                  (mapped_mark marks found.0 found.1)) e
+                  ∙ ap (λ turns. turns_since found.0.slot g ++ turns) (since_turn who.pass who.turn ack))
+                  ∙ ap (turns_since found.0.slot) (sym (range_entry_same world.truth.seen r e there_truth));
             });
         fresh = subst (λ (n : ℕ). IsUnopened (with_range_entry r e world.truth) r n)
-            (sym (ap length (opened-acked g who.pass who.row ack))
+            (sym (ap length (opened-turn g who.pass who.turn ack))
             ∙ ap (λ h. length (opened_slots h)) (sym (range_entry_same world.truth.seen r e there_truth)))
             at.going.fresh;
       }

@@ -1,24 +1,29 @@
 -- What can happen: events of writes and of recoveries, and what else there is, one after another.
-use Rattle.std.specs.Prelude.{ℕ, ◌≡◌, ◌<◌, ◌+◌, Bool, true, false, not, List, [], ◌∷◌, length, None}
-use Rattle.std.specs.List.{count_by}
+use Rattle.std.specs.Prelude.{ℕ, ◌≡◌, ◌<◌, ◌+◌, Bool, true, false, not, List, [], ◌∷◌, length, None, Contains}
+use Rattle.std.specs.List.{count_by, list_any}
 use Rattle.mon_value.specs.LeafHistories.{is_down, is_switch}
 use Rattle.mon_value.specs.declared.limits.TheConstants.{MOST_SWITCHES}
 use Rattle.mon_value.specs.declared.histories.Entry.{Entry}
 use Rattle.mon_value.specs.declared.histories.Entry.TheVariants as entry
 use Rattle.mon_value.specs.declared.positions.Leaf.{Leaf}
+use Rattle.mon_value.specs.declared.histories.RangeEntry.{RangeEntry}
+use Rattle.mon_value.specs.declared.histories.RangeEntry.TheVariants as range_entry
 use Rattle.mon_value.specs.declared.positions.Range.{Range}
-use Rattle.mon_value.specs.declared.rows.Row.{Row}
-use Rattle.mon_topo.specs.HeldHistories.{IsAtHome}
+use Rattle.mon_topo.specs.RangeHistories.{is_on, serving}
+use Rattle.mon_value.specs.Turns.{Turn}
 use Rattle.mon_topo.specs.Settings.{Setting}
 use Rattle.write_core.specs.CopySteps.{CanCopy, copy_step}
 use Rattle.write_core.specs.Invariant.{IsAimed}
 use Rattle.write_core.specs.Program.{Locking}
 use Rattle.write_core.specs.Recovering.{Beginning, CopyTold}
-use Rattle.write_core.specs.Steps.{CanCome, same_view, step}
-use Rattle.mon_topo.specs.Views.{View, joined_view, of_leaf, with_entry}
+use Rattle.write_core.specs.Steps.{IsTurnAtHome, CanCome, same_view, step}
+use Rattle.mon_topo.specs.Views.{View, joined_view, of_leaf, of_range, with_entry, with_range_entry}
 use Rattle.write_core.specs.World.{Actor, IsPart, Recovers, Recovery, Stander, Stands, World, Writer, Writes, at_leaf}
+use Rattle.write_core.specs.World.{at_range}
 use Rattle.write_core.specs.World.{pass_of, stands_on, view_of, wiser, with_value_at}
 use Rattle.write_core.specs.declared.asks.WriteTold.{WriteTold}
+use Rattle.write_core.specs.declared.retirements.Retirement.{Retirement}
+use Rattle.write_core.specs.declared.retirements.Retirement.TheVariants.{LastServing, NotServing, WasRetired}
 
 -- what someone who switches a leaf is told: it is done, and the leaf's history has so many entries then; the leaf was
 -- down, or up, already, with so many; or it was switched so often that it may not be again
@@ -67,6 +72,41 @@ switched world i (Stands stander) leaf down told =
 abbrev pub after_switch : World → ℕ → Leaf → Bool → SwitchTold → World
 after_switch world i leaf down told = switched world i (world.actors i) leaf down told
 
+-- ---- retirements
+
+-- what someone who retires a range's replica on a leaf is told: the slot that serves no longer; that none serves there;
+-- or that it is the only one that serves
+abbrev pub IsToldOfRetirement : List RangeEntry → Leaf → Retirement → Type 0
+IsToldOfRetirement history leaf (WasRetired slot) =
+    Contains (serving history) (record { slot = slot; leaf = leaf }) × (1 < length (serving history))
+IsToldOfRetirement history leaf NotServing = list_any (is_on leaf) (serving history) ≡ false
+IsToldOfRetirement history leaf (LastServing slot) = serving history ≡ record { slot = slot; leaf = leaf } ∷ []
+
+abbrev pub retires_with : Range → ℕ → Retirement → View → View
+retires_with range pass (WasRetired slot) = with_range_entry range (range_entry.Retired pass slot)
+retires_with range pass NotServing = same_view
+retires_with range pass (LastServing slot) = same_view
+
+-- someone who stands by retires a replica of a range that nobody holds, and is told so
+pub record CanRetire (world : World) (stander : Stander) (range : Range) (leaf : Leaf) (told : Retirement) : Type 0 where
+  pub there : range.0 < length world.truth.seen.ranges
+  pub free : world.range_holder range.0 ≡ None
+  pub tells : IsToldOfRetirement (of_range world.truth range) leaf told
+
+abbrev pub MayRetire : World → Actor → Range → Leaf → Retirement → Type 0
+MayRetire world (Writes writer) range leaf told = ⊥
+MayRetire world (Recovers recovery) range leaf told = ⊥
+MayRetire world (Stands stander) range leaf told = CanRetire world stander range leaf told
+
+abbrev pub retired : World → ℕ → Actor → Range → Leaf → Retirement → World
+retired world i (Writes writer) range leaf told = world
+retired world i (Recovers recovery) range leaf told = world
+retired world i (Stands stander) range leaf told =
+    at_range world i stander.view range (retires_with range stander.pass told) None (stands_on stander)
+
+abbrev pub after_retirement : World → ℕ → Range → Leaf → Retirement → World
+after_retirement world i range leaf told = retired world i (world.actors i) range leaf told
+
 -- an actor that has not begun to write or to recover
 abbrev pub HasNotBegun : Actor → Type 0
 HasNotBegun (Writes writer) = writer.stage ≡ Locking
@@ -85,25 +125,25 @@ after_learning world i view = record {
   notes = world.notes;
 }
 
--- someone who stands by is to write a row, which lies in a range that there is
-abbrev pub CanBegin : Setting → World → Row → Range → Actor → Type 0
-CanBegin setting world row range (Stands stander) =
-    IsAtHome setting.held setting.zones range row × (range.0 < length world.truth.seen.ranges)
-CanBegin setting world row range (Writes writer) = ⊥
-CanBegin setting world row range (Recovers recovery) = ⊥
+-- someone who stands by is to write a row, which lies in a range that there is, or to trim one
+abbrev pub CanBegin : Setting → World → Turn → Range → Actor → Type 0
+CanBegin setting world turn range (Stands stander) =
+    IsTurnAtHome setting range turn × (range.0 < length world.truth.seen.ranges)
+CanBegin setting world turn range (Writes writer) = ⊥
+CanBegin setting world turn range (Recovers recovery) = ⊥
 
-abbrev pub new_writer : Row → Range → Actor → Writer
-new_writer row range actor =
-    record { pass = pass_of actor; row = row; range = range; stage = Locking; view = view_of actor }
+abbrev pub new_writer : Turn → Range → Actor → Writer
+new_writer turn range actor =
+    record { pass = pass_of actor; turn = turn; range = range; stage = Locking; view = view_of actor }
 
-abbrev pub after_beginning : World → ℕ → Row → Range → World
-after_beginning world i row range = record {
+abbrev pub after_beginning : World → ℕ → Turn → Range → World
+after_beginning world i turn range = record {
   truth = world.truth;
   leaves = world.leaves;
   ranges = world.ranges;
   leaf_holder = world.leaf_holder;
   range_holder = world.range_holder;
-  actors = with_value_at world.actors i (Writes (new_writer row range (world.actors i)));
+  actors = with_value_at world.actors i (Writes (new_writer turn range (world.actors i)));
   notes = world.notes;
 }
 
@@ -166,8 +206,9 @@ pub data Event : Type 0 where
   Goes : ℕ → WriteTold → Event
   Copies : ℕ → CopyTold → Event
   Switches : ℕ → Leaf → Bool → SwitchTold → Event
+  Retires : ℕ → Range → Leaf → Retirement → Event
   Learns : ℕ → View → Event
-  Begins : ℕ → Row → Range → Event
+  Begins : ℕ → Turn → Range → Event
   Aims : ℕ → Range → Leaf → Event
   Visits : Leaf → View → Event
   Resolves : Range → View → Event
@@ -176,8 +217,9 @@ abbrev pub CanHappen : Setting → World → Event → Type 0
 CanHappen setting world (Goes i answer) = CanCome setting world i answer
 CanHappen setting world (Copies i told) = CanCopy setting world i told
 CanHappen setting world (Switches i leaf down told) = MaySwitch world (world.actors i) leaf down told
+CanHappen setting world (Retires i range leaf told) = MayRetire world (world.actors i) range leaf told
 CanHappen setting world (Learns i view) = HasNotBegun (world.actors i) × IsPart setting world view
-CanHappen setting world (Begins i row range) = CanBegin setting world row range (world.actors i)
+CanHappen setting world (Begins i turn range) = CanBegin setting world turn range (world.actors i)
 CanHappen setting world (Aims i range leaf) = CanAim setting range leaf (world.actors i)
 CanHappen setting world (Visits leaf view) = (world.leaf_holder leaf.0 ≡ None) × IsPart setting world view
 CanHappen setting world (Resolves range view) = (world.range_holder range.0 ≡ None) × IsPart setting world view
@@ -186,8 +228,9 @@ abbrev pub after_event : Setting → World → Event → World
 after_event setting world (Goes i answer) = step setting world i answer
 after_event setting world (Copies i told) = copy_step setting world i told
 after_event setting world (Switches i leaf down told) = after_switch world i leaf down told
+after_event setting world (Retires i range leaf told) = after_retirement world i range leaf told
 after_event setting world (Learns i view) = after_learning world i view
-after_event setting world (Begins i row range) = after_beginning world i row range
+after_event setting world (Begins i turn range) = after_beginning world i turn range
 after_event setting world (Aims i range leaf) = after_aiming world i range leaf
 after_event setting world (Visits leaf view) = after_visit world leaf view
 after_event setting world (Resolves range view) = after_resolving world range view

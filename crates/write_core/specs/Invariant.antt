@@ -3,7 +3,9 @@ use Rattle.std.specs.Prelude.{ℕ, suc, ◌≡◌, ◌<◌, ◌≤◌, ◌||◌,
 use Rattle.std.specs.Prelude.{slice_get, Some, None, Contains, if◌then◌else◌}
 use Rattle.std.specs.List.{AllByRecursion, flat_map}
 use Rattle.mon_hints.specs.Formulas.{is_among}
-use Rattle.mon_value.specs.LeafHistories.{IsDownAt, is_down, is_opened, replica_rows, IsSource}
+use Rattle.mon_value.specs.LeafHistories.{IsDownAt, is_down, is_opened, replica_turns}
+use Rattle.mon_value.specs.Turns.{Turn}
+use Rattle.write_core.specs.Steps.{IsTurnAtHome, TakesTurn, turn_buckets}
 use Rattle.mon_value.specs.declared.histories.RangeEntry.TheVariants as range_entry
 use Rattle.mon_value.specs.declared.positions.FoundDown.{FoundDown}
 use Rattle.mon_value.specs.declared.positions.Leaf.{Leaf}
@@ -12,7 +14,8 @@ use Rattle.mon_value.specs.declared.positions.Slot.{Slot}
 use Rattle.mon_value.specs.declared.positions.SlotLeaf.{SlotLeaf}
 use Rattle.mon_value.specs.declared.rows.Row.{Row}
 use Rattle.mon_topo.specs.HeldHistories.{BeginsWith, IsAtHome, IsBorneOut}
-use Rattle.mon_topo.specs.RangeHistories.{IsInZoneOf, IsLegal, acknowledged_rows, opened_slots, serving}
+use Rattle.mon_topo.specs.RangeHistories.{IsInZoneOf, IsLegal, left_rows, opened_slots, serving}
+use Rattle.mon_topo.specs.RangeHistories.{turn_ack, turns_since}
 use Rattle.mon_topo.specs.Zones.{leaves_in, ranges_in}
 use Rattle.mon_hints.specs.Hints.{rows_buckets}
 use Rattle.write_core.specs.CopySteps.{IsDeniedFor, MayOpen, copy_of, new_replica, next_slot}
@@ -63,27 +66,27 @@ IsAtReady (mark ∷ left) = is_ready mark.fate ≡ true
 
 -- ---- replicas
 
--- a replica was opened, and has just these rows
-pub record HasRows (view : View) (range : Range) (replica : SlotLeaf) (rows : List Row) : Type 0 where
+-- a replica was opened, and has had just these turns
+pub record HasTurns (view : View) (range : Range) (replica : SlotLeaf) (turns : List Turn) : Type 0 where
   pub opened : is_opened range replica.slot (of_leaf view replica.leaf) ≡ true
-  pub all : replica_rows range replica.slot (of_leaf view replica.leaf) ≡ rows
+  pub all : replica_turns range replica.slot (of_leaf view replica.leaf) ≡ turns
 
 -- no leaf has a replica of the range from this slot on
 abbrev pub IsUnopened : View → Range → ℕ → Type 0
 IsUnopened view range from =
     (slot : Slot) (leaf : Leaf) → from ≤ slot.0 → is_opened range slot (of_leaf view leaf) ≡ false
 
--- the replicas that serve have just the acknowledged rows, and no replica was opened that the range does not know
+-- the replicas that serve have had just the turns since they were opened, and no replica was opened that the range does not know
 pub record IsRangeSettled (view : View) (range : Range) : Type 0 where
   pub rows : (replica : SlotLeaf) → Contains (serving (of_range view range)) replica
-      → HasRows view range replica (acknowledged_rows (of_range view range))
+      → HasTurns view range replica (turns_since replica.slot (of_range view range))
   pub fresh : IsUnopened view range (length (opened_slots (of_range view range)))
 
 -- ---- a write
 
 -- its row fits, and lies in its range, which there is
 pub record IsWriteLawful (setting : Setting) (world : World) (writer : Writer) : Type 0 where
-  pub at_home : IsAtHome setting.held setting.zones writer.range writer.row
+  pub at_home : IsTurnAtHome setting writer.range writer.turn
   pub there : writer.range.0 < length world.truth.seen.ranges
 
 -- it holds its range, and has seen all of its history
@@ -91,13 +94,14 @@ pub record HasRangeLock (world : World) (i : ℕ) (writer : Writer) : Type 0 whe
   pub holder : world.range_holder writer.range.0 ≡ Some i
   pub whole : of_range writer.view writer.range ≡ of_range world.truth writer.range
 
--- the rows that are acknowledged once its own is
-abbrev pub rows_after : World → Writer → List Row
-rows_after world writer = acknowledged_rows (of_range world.truth writer.range) ++ writer.row ∷ []
+-- the turns that a replica has had since it was opened, once the write's has come to it
+abbrev pub turns_after : World → Writer → Slot → List Turn
+turns_after world writer slot = turns_since slot (of_range world.truth writer.range) ++ writer.turn ∷ []
 
 -- the leaf of a replica has its row
 pub record HasTaken (world : World) (writer : Writer) (mark : Mark) : Type 0 where
-  pub rows : BeginsWith (replica_rows writer.range mark.slot (of_leaf writer.view mark.leaf)) (rows_after world writer)
+  pub turns : BeginsWith (replica_turns writer.range mark.slot (of_leaf writer.view mark.leaf))
+      (turns_after world writer mark.slot)
   pub put : Contains (of_leaf writer.view mark.leaf) (put_of writer mark)
 
 -- the leaf of a replica was down
@@ -111,20 +115,19 @@ HasSeen world writer mark fate.Ready = Unit {0}
 HasSeen world writer mark fate.Took = HasTaken world writer mark
 HasSeen world writer mark (fate.Missed cut) = HasMissed writer mark cut
 
--- the rows that a replica has
-abbrev pub rows_of_mark : World → Writer → Fate → List Row
-rows_of_mark world writer fate = if has_taken fate then rows_after world writer else acknowledged_rows
-    (of_range world.truth writer.range)
+-- the turns that a replica has had
+abbrev pub turns_of_mark : World → Writer → Slot → Fate → List Turn
+turns_of_mark world writer slot fate =
+    if has_taken fate then turns_after world writer slot else turns_since slot (of_range world.truth writer.range)
 
 pub record IsMark (world : World) (writer : Writer) (mark : Mark) : Type 0 where
-  pub has : HasRows world.truth writer.range (replica_of mark) (rows_of_mark world writer mark.fate)
+  pub has : HasTurns world.truth writer.range (replica_of mark) (turns_of_mark world writer mark.slot mark.fate)
   pub seen : HasSeen world writer mark mark.fate
 
--- its row can be acknowledged, and it knows what became of each replica that serves
+-- its turn can be acknowledged, and it knows what became of each replica that serves
 pub record IsGoing (world : World) (i : ℕ) (setting : Setting) (writer : Writer) (marks : List Mark) : Type 0 where
   pub holds : HasRangeLock world i writer
-  pub source : IsSource (rows_after world writer)
-  pub room : length (acknowledged_rows (of_range world.truth writer.range)) < setting.points
+  pub takes : TakesTurn setting (of_range world.truth writer.range) writer.turn
   pub serve : map replica_of marks ≡ serving (of_range world.truth writer.range)
   pub fresh : IsUnopened world.truth writer.range (length (opened_slots (of_range world.truth writer.range)))
   pub each : AllByRecursion (IsMark world writer) marks
@@ -144,7 +147,7 @@ pub record IsInside (setting : Setting) (world : World) (i : ℕ) (view : View) 
 abbrev pub IsInFirst : Setting → World → ℕ → Writer → List Mark → List ℕ → List ℕ → Type 0
 IsInFirst setting world i writer [] at_root in_zone = Unit {0}
 IsInFirst setting world i writer (mark ∷ left) at_root in_zone =
-    IsInside setting world i writer.view mark.leaf (setting.buckets_of writer.row.key) at_root in_zone
+    IsInside setting world i writer.view mark.leaf (turn_buckets setting writer.turn) at_root in_zone
 
 -- a round over leaves to enter
 pub record IsEntering (world : World) (i : ℕ) (setting : Setting) (writer : Writer) (round : Round) : Type 0 where
@@ -184,7 +187,7 @@ IsAcked writer (Not why) = Unit {0}
 IsAcked writer (Marked marks) =
     (some_took marks ≡ true
     → Contains (of_range writer.view writer.range)
-    (range_entry.Acked writer.pass writer.row (ack_of writer.range marks)))
+    (turn_ack writer.pass writer.turn (ack_of writer.range marks)))
     × (some_took marks ≡ false
     → HaveFound writer.view (serving (of_range writer.view writer.range)) (flat_map found_in_mark marks))
 
@@ -223,26 +226,23 @@ pub record IsCopying (setting : Setting) (world : World) (i : ℕ) (recovery : R
   pub locked : HasLocked world i recovery
   pub may : MayOpen setting (of_range world.truth recovery.range) recovery
 
--- it has the acknowledged rows, which are at home in its range
+-- it has the rows that are left of its range, which are a source and at home there
 pub record HasCopied (setting : Setting) (world : World) (i : ℕ) (recovery : Recovery) (rows : List Row) : Type 0 where
   pub copying : IsCopying setting world i recovery
-  pub all : rows ≡ acknowledged_rows (of_range world.truth recovery.range)
+  pub all : rows ≡ left_rows (of_range world.truth recovery.range)
   pub at_home : (row : Row) → Contains rows row → IsAtHome setting.held setting.zones recovery.range row
 
--- its leaf has the new replica with the acknowledged rows, of which the range does not know yet
+-- its leaf has the new replica with the rows that were left, of which the range does not know yet
 pub record HasOpened (setting : Setting) (world : World) (i : ℕ) (recovery : Recovery) : Type 0 where
   pub holder : world.range_holder recovery.range.0 ≡ Some i
   pub whole : of_range recovery.view recovery.range ≡ of_range world.truth recovery.range
   pub rows : (replica : SlotLeaf) → Contains (serving (of_range world.truth recovery.range)) replica
-      → HasRows world.truth recovery.range replica (acknowledged_rows (of_range world.truth recovery.range))
+      → HasTurns world.truth recovery.range replica (turns_since replica.slot (of_range world.truth recovery.range))
   pub fresh : IsUnopened world.truth recovery.range (suc (length (opened_slots (of_range world.truth recovery.range))))
   pub may : MayOpen setting (of_range world.truth recovery.range) recovery
-  pub has : HasRows world.truth recovery.range (new_replica recovery (of_range world.truth recovery.range))
-      (acknowledged_rows (of_range world.truth recovery.range))
-  pub seen : BeginsWith (replica_rows recovery.range (next_slot (of_range world.truth recovery.range))
-      (of_leaf recovery.view recovery.leaf)) (acknowledged_rows (of_range world.truth recovery.range))
+  pub has : HasTurns world.truth recovery.range (new_replica recovery (of_range world.truth recovery.range)) []
   pub entered : Contains (of_leaf recovery.view recovery.leaf)
-      (copy_of recovery (of_range world.truth recovery.range) (acknowledged_rows (of_range world.truth recovery.range)))
+      (copy_of recovery (of_range world.truth recovery.range) (left_rows (of_range world.truth recovery.range)))
 
 -- of the replicas that serve it has asked some, whose leaves were down, and is to ask the others
 pub record IsAskingSources (world : World) (recovery : Recovery) (founds : List FoundDown) (sources : List SlotLeaf)
@@ -352,17 +352,17 @@ pub record IsNewWorld (setting : Setting) (world : World) : Type 0 where
   pub passes : HaveOwnPasses world.actors
 
 -- a write has seen its acknowledgement in its range's history, which is legal; and the leaves' histories bear it out:
--- the leaf of each replica that took the row has it, and that of each one that missed it was down
+-- the leaf of each replica that took the turn has it, and that of each one that missed it was down
 pub record IsAcknowledged (setting : Setting) (writer : Writer) (marks : List Mark) : Type 0 where
   pub legal : IsLegal setting.held setting.zones setting.points writer.range (of_range writer.view writer.range)
   pub place : ℕ
   pub there : slice_get (of_range writer.view writer.range) place
-      ≡ Some (range_entry.Acked writer.pass writer.row (ack_of writer.range marks))
+      ≡ Some (turn_ack writer.pass writer.turn (ack_of writer.range marks))
   pub borne_out : IsBorneOut writer.view.seen writer.range (of_range writer.view writer.range) place
-      (range_entry.Acked writer.pass writer.row (ack_of writer.range marks))
+      (turn_ack writer.pass writer.turn (ack_of writer.range marks))
 
 -- a recovery has seen the opening of its replica in its range's history, which is legal; and its leaf's history bears
--- it out: the leaf took over the rows that were acknowledged before
+-- it out: the leaf took over the rows that were left before
 pub record IsRecovered (setting : Setting) (recovery : Recovery) (slot : Slot) : Type 0 where
   pub legal : IsLegal setting.held setting.zones setting.points recovery.range
       (of_range recovery.view recovery.range)

@@ -8,7 +8,7 @@ use std::alloc::{AllocError, Global};
 pub enum WriteAsk {
     /// Take the range's lock.
     Lock,
-    /// Make room for the row on a replica's leaf.
+    /// Make room for the row, or for the trim, on a replica's leaf.
     Reserve(Slot, Leaf),
     /// Take the lock of a replica's leaf.
     Enter(Slot, Leaf),
@@ -16,10 +16,10 @@ pub enum WriteAsk {
     RaiseRoot(u32),
     /// Set the leaf's bit in the word of a bucket of the zone of the leaf that was entered.
     RaiseZone(u32),
-    /// Append the row to the leaf's history, and let go of the leaf's lock.
+    /// Append the row, or the trim, to the leaf's history, and let go of the leaf's lock.
     Put(Slot, Leaf),
-    /// Append the acknowledgement to the range's history where some replica took the row, and let go of the range's
-    /// lock.
+    /// Append the acknowledgement to the range's history where some replica took the row, or the trim, and let go of the
+    /// range's lock.
     Ack,
     /// Nothing is left to do.
     Finished,
@@ -28,13 +28,13 @@ pub enum WriteAsk {
 /// What a write is told of its last event.
 #[derive(PartialEq, Eq, Drop)]
 pub enum WriteTold {
-    /// The range can take the row: the replicas that serve, in slot order.
+    /// The range can take the row, as it can any trim: the replicas that serve, in slot order.
     Slots(SlotLeaves),
     /// The series has an acknowledged row that ends there, which is not before the row's end.
     OldPoint(i64),
     /// The range holds so many rows, and no more go in.
     RangeFull(u64),
-    /// The leaf is up. Of one that was entered, the buckets of the row that it has not raised, rising.
+    /// The leaf is up. Of one that was entered, the buckets of the row that it has not raised, rising; a trim has none.
     Up(Buckets),
     /// The leaf is down, with so many entries in its history.
     Down(u64),
@@ -45,7 +45,7 @@ pub enum WriteTold {
 /// How a write ends.
 #[derive(PartialEq, Eq, Drop)]
 pub enum WriteEnd {
-    /// Some replica took the row, and it is acknowledged.
+    /// Some replica took the row, or the trim, and it is acknowledged.
     Written(Ack),
     /// As the range's lock told.
     OldPoint(i64),

@@ -1,8 +1,9 @@
 // The entries of a range's history.
-ghost use Rattle.std.specs.Prelude.{◌≡◌, ◌++◌, ◌∷◌, ◌<◌, ◌≤◌, ◌^◌, [], length, OnOk};
-ghost use Rattle.mon_topo.specs.RangeHistories.{acknowledged_rows};
+ghost use Rattle.std.specs.Prelude.{◌≡◌, ◌+◌, ◌++◌, ◌∷◌, ◌<◌, ◌≤◌, ◌^◌, [], length, OnOk};
+ghost use Rattle.mon_topo.specs.RangeHistories.{acked_row, acknowledged_rows};
 ghost use Rattle.mon_value.specs.LeafHistories.{last_end, points_of};
 ghost use Rattle.mon_value.specs.declared.histories.RangeEntry.TheVariants as entry;
+ghost use Rattle.write_core.specs.within.KeptEntries.{entry_of};
 
 use crate::lasts::{Lasts, last_of, note_last};
 use http_server::Log;
@@ -18,6 +19,8 @@ const MOST_ENTRIES: usize = 1 << 60;
 pub(crate) enum Logged {
     Opened { pass: u64, slot: Slot, leaf: Leaf },
     Acked { pass: u64, row: Row },
+    Trimmed { pass: u64, before: i64 },
+    Retired { pass: u64, slot: Slot },
 }
 
 /// The entries of a range's history, in their order. Contracts see the entries, and for how many more of them and of
@@ -81,12 +84,12 @@ impl KeptEntries {
         last_of(&self.lasts, guess, key)
     }
 
-    /// Whether an entry more may come: as where memory runs out where there are 2^60.
-    pub(crate) fn reserve_one(&mut self) -> Result<(), OutOfMemory>
-        ensures room { OnOk result (1 ≤ self.new.spare) }
+    /// Whether so many entries more may come: as where memory runs out where there would be more than 2^60.
+    pub(crate) fn reserve(&mut self, more: usize) -> Result<(), OutOfMemory>
+        ensures room { OnOk result (more ≤ self.new.spare) }
         ensures kept { self.new ≡ self.old }
     {
-        if self.count >= MOST_ENTRIES {
+        if MOST_ENTRIES - self.count < more {
             return Err(AllocError);
         }
         Ok(())
@@ -105,12 +108,42 @@ impl KeptEntries {
     pub(crate) fn push_opened(&mut self, pass: u64, slot: Slot, leaf: Leaf)
         requires room { 1 ≤ self.old.spare }
         ensures added { self.new.items ≡ self.old.items ++ entry.Opened pass slot leaf ∷ [] }
+        ensures room { self.new.spare + 1 ≡ self.old.spare }
     {
-        let opened = Logged::Opened { pass, slot, leaf };
         let nothing = nothing_told(self.alloc);
-        let entries = self.entries.and(&opened, &nothing);
-        drop(opened);
+        self.push(Logged::Opened { pass, slot, leaf }, &nothing);
         drop(nothing);
+    }
+
+    /// Adds an acknowledged trim.
+    pub(crate) fn push_trimmed(&mut self, pass: u64, before: i64, ack: &Ack)
+        requires room { 1 ≤ self.old.spare }
+        ensures added { self.new.items ≡ self.old.items ++ entry.Trimmed pass before ack.now ∷ [] }
+        ensures room { self.new.spare + 1 ≡ self.old.spare }
+    {
+        self.push(Logged::Trimmed { pass, before }, ack);
+    }
+
+    /// Adds the retirement of a replica.
+    pub(crate) fn push_retired(&mut self, pass: u64, slot: Slot)
+        requires room { 1 ≤ self.old.spare }
+        ensures added { self.new.items ≡ self.old.items ++ entry.Retired pass slot ∷ [] }
+        ensures room { self.new.spare + 1 ≡ self.old.spare }
+    {
+        let nothing = nothing_told(self.alloc);
+        self.push(Logged::Retired { pass, slot }, &nothing);
+        drop(nothing);
+    }
+
+    // Adds an entry that acknowledges no row.
+    fn push(&mut self, logged: Logged, ack: &Ack)
+        requires room { 1 ≤ self.old.spare }
+        requires bare { acked_row (entry_of logged ack.now) ≡ [] }
+        ensures added { self.new.items ≡ self.old.items ++ entry_of logged ack.now ∷ [] }
+        ensures room { self.new.spare + 1 ≡ self.old.spare }
+    {
+        let entries = self.entries.and(&logged, ack);
+        drop(logged);
         self.entries = entries;
         self.count += 1;
     }
@@ -129,6 +162,7 @@ impl KeptEntries {
         requires room { 1 ≤ self.old.spare }
         requires series { 1 ≤ self.old.series_spare }
         ensures added { self.new.items ≡ self.old.items ++ entry.Acked pass row ack.now ∷ [] }
+        ensures room { self.new.spare + 1 ≡ self.old.spare }
     {
         let place = note_last(&mut self.lasts, guess, key, row.point.end);
         let acked = Logged::Acked { pass, row };
@@ -140,7 +174,7 @@ impl KeptEntries {
     }
 }
 
-// What an opening tells a writer.
+// What an opening and a retirement tell a writer.
 fn nothing_told(alloc: Global) -> Ack {
     Ack {
         range: Range(0),

@@ -53,14 +53,14 @@ pub fn what_is_said_was_noted()
         → AreNoted world → AreNoted (after_events setting world events) }
 {}
 
-/// Whichever writes and recoveries go on, in whatever order, and whatever they are told, while leaves go down and
-/// come up, the invariant stays; it holds before any of them has begun; what someone has seen stays a sound part of
-/// the truth, also together with what another one has; a write that has ended, and that some replica took, stands
-/// acknowledged in a legal history, and one that none took has found down the leaf of each replica that serves; and the
-/// histories have one put of a write for each replica that took its row, on that replica's leaf and on no other, and
-/// one acknowledgement once it ended, if some replica took the row. A recovery that opened its replica has that in a
-/// legal history, and the replica's leaf took over the rows that were acknowledged before; any other has seen what was
-/// in its way.
+/// Whichever writes, trims and recoveries go on, in whatever order, and whatever they are told, while leaves go down and
+/// come up and replicas are retired, the invariant stays; it holds before any of them has begun; what someone has seen
+/// stays a sound part of the truth, also together with what another one has; a write or a trim that has ended, and that
+/// some replica took, stands acknowledged in a legal history, and one that none took has found down the leaf of each
+/// replica that serves; and the histories have one entry of it for each replica that took it, on that replica's leaf and
+/// on no other, and one acknowledgement once it ended, if some replica took it. A recovery that opened its replica has
+/// that in a legal history, and the replica's leaf took over the rows that were left before, acknowledged and not trimmed
+/// since; any other has seen what was in its way.
 pub fn writes_keep_the_invariant()
     ensures begins { (setting : Setting) (world : World) → IsNewWorld setting world → IsKept setting world }
     ensures stays { (setting : Setting) (world : World) (events : List Event) → CanRun setting world events

@@ -12,6 +12,7 @@ mod machine;
 mod marks;
 mod refusals;
 mod replays;
+mod retirements;
 mod rounds;
 
 pub use asks::{WriteAsk, WriteEnd, WriteTold};
@@ -24,3 +25,4 @@ pub use marks::{Fate, Mark};
 pub use mon_value::{Ack, Miss, Misses};
 pub use refusals::Refused;
 pub use replays::RangeReplay;
+pub use retirements::Retirement;

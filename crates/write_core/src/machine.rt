@@ -28,7 +28,7 @@ enum Phase {
     Ended(Option<Refused>),
 }
 
-/// A write of a row to a range. It says what is done next, is told how that went, and takes memory at
+/// A write of a row to a range, or a trim of one. It says what is done next, is told how that went, and takes memory at
 /// the range's lock alone.
 #[derive(Drop)]
 pub struct WriteMachine {

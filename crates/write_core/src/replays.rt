@@ -1,21 +1,23 @@
 // The replay of a range's history.
 ghost use Rattle.std.specs.Prelude.{◌≡◌, ◌<◌, ◌≤◌, ◌^◌, ◌+◌, ◌++◌, ◌∷◌, [], filter, length, not, slice_get, None, IfOk};
-ghost use Rattle.std.specs.Prelude.{OnErr, OnOk};
+ghost use Rattle.std.specs.Prelude.{Contains, OnErr, OnOk, map};
 ghost use Rattle.std.specs.List.{list_any};
 ghost use Rattle.mon_topo.specs.RangeHistories.{acknowledged_rows, is_missed, is_on, opened_slots, serving};
 ghost use Rattle.mon_topo.specs.RangeHistories.{first_serving, is_avoided};
 ghost use Rattle.mon_topo.specs.Sights.{range_sight};
-ghost use Rattle.mon_value.specs.Histories.{same_leaf};
+ghost use Rattle.mon_value.specs.Histories.{same_leaf, same_slot};
 ghost use Rattle.write_core.specs.RangeAnswers.{lock_answer};
 ghost use Rattle.mon_topo.specs.declared.limits.TheConstants.{MOST_SLOTS};
 ghost use Rattle.write_core.specs.CopySteps.{next_slot};
 ghost use Rattle.write_core.specs.Recovering.{denial_of, denied_by};
 ghost use Rattle.write_core.specs.Replays.{HasAckRoom, HasReplicaRoom};
+ghost use Rattle.write_core.specs.Retirements.{retirement_of};
 
 use crate::asks::WriteTold;
 use crate::copies::Denial;
 use crate::kept_entries::KeptEntries;
 use crate::refusals::Refused;
+use crate::retirements::Retirement;
 use mon_topo::{MOST_REPLICAS, MOST_SLOTS, RangeSight};
 use mon_value::{
     Ack, Leaf, Leaves, Miss, OutOfMemory, RangeEntry, Row, SeriesKey, Shared, Slot, SlotLeaf,
@@ -26,7 +28,7 @@ use std::marker::Model;
 
 /// The replay of a range's history: the replicas that serve, how many were opened, and how many rows were acknowledged;
 /// the history itself tells the end of the last row of each series. Contracts see the history, and the room that was
-/// made for more of it.
+/// made for more of it, beside an entry for each replica that serves: the one of its retirement.
 #[derive(Drop)]
 pub struct RangeReplay {
     alloc: Global,
@@ -41,7 +43,7 @@ pub struct RangeReplay {
 }
 
 impl Model for RangeReplay {
-    ghost use Rattle.std.specs.Prelude.{◌≡◌, ◌-◌, length, vec_capacity};
+    ghost use Rattle.std.specs.Prelude.{◌≡◌, ◌-◌, ◌≤◌, length, vec_capacity};
     ghost use Rattle.mon_topo.specs.RangeHistories as histories;
     ghost use Rattle.write_core.specs.Replays.{Replay};
 
@@ -49,7 +51,7 @@ impl Model for RangeReplay {
 
     ghost view = { λ replay. record {
       history = replay.history.items;
-      entry_room = replay.history.spare;
+      entry_room = replay.history.spare - length replay.serving.items;
       series_room = replay.history.series_spare;
       replica_room = vec_capacity replay.serving - length replay.serving.items;
     } };
@@ -58,6 +60,7 @@ impl Model for RangeReplay {
       serve : replay.serving.items ≡ histories.serving replay.history.items;
       count : replay.count ≡ length (histories.acknowledged_rows replay.history.items);
       opened : replay.opened ≡ length (histories.opened_slots replay.history.items);
+      retirements : length replay.serving.items ≤ replay.history.spare;
     } };
 }
 
@@ -87,12 +90,12 @@ impl RangeReplay {
         Ok(())
     }
 
-    /// Makes room for one replica more.
+    /// Makes room for one replica more, and for its retirement.
     pub fn reserve_replica(&mut self) -> Result<(), OutOfMemory>
         ensures history { self.new.history ≡ self.old.history }
         ensures room { OnOk result (HasReplicaRoom self.new) }
     {
-        self.history.reserve_one()?;
+        self.history.reserve(self.serving.as_slice().len() + 2)?;
         self.serving.reserve(1)?;
         Ok(())
     }
@@ -150,12 +153,12 @@ impl RangeReplay {
         }
     }
 
-    /// Makes room for an acknowledgement, whatever its row.
+    /// Makes room for an acknowledgement, whatever its row or its bound.
     pub fn reserve(&mut self) -> Result<(), OutOfMemory>
         ensures history { self.new.history ≡ self.old.history }
         ensures room { OnOk result (HasAckRoom self.new) }
     {
-        self.history.reserve_one()?;
+        self.history.reserve(self.serving.as_slice().len() + 1)?;
         self.history.reserve_series()
     }
 
@@ -170,6 +173,34 @@ impl RangeReplay {
         let place = self.history.push_acked(self.next, key, pass, row, ack);
         self.next = place.wrapping_add(place.wrapping_sub(self.place));
         self.place = place;
+    }
+
+    /// A trim is acknowledged, in room that was made before. The replicas that missed it serve no more. No memory is taken.
+    pub fn trim(&mut self, pass: u64, before: i64, ack: &Ack)
+        requires room { HasAckRoom self.old }
+        ensures trimmed { self.new.history ≡ self.old.history ++ RangeEntry.Trimmed pass before ack.now ∷ [] }
+    {
+        drop_missed(&mut self.serving, ack.missed.as_slice());
+        self.history.push_trimmed(pass, before, ack);
+    }
+
+    /// What becomes of a retirement of the range's replica on a leaf.
+    pub fn retirement(&self, leaf: Leaf) -> Retirement
+        ensures told { result ≡ retirement_of self.now.history leaf }
+    {
+        match first_on(self.serving.as_slice(), leaf) {
+            Some(replica) => Retirement::among(replica, self.serving.as_slice().len()),
+            None => Retirement::NotServing,
+        }
+    }
+
+    /// A replica serves no more, in the room that was made with its opening. No memory is taken.
+    pub fn retire(&mut self, pass: u64, slot: Slot)
+        requires serves { Contains (map (λ replica. replica.slot) (serving self.old.history)) slot }
+        ensures retired { self.new.history ≡ self.old.history ++ RangeEntry.Retired pass slot ∷ [] }
+    {
+        drop_slot(&mut self.serving, slot);
+        self.history.push_retired(pass, slot);
     }
 
     /// The first replica that serves and is on none of these leaves.
@@ -243,14 +274,21 @@ fn first_on(serving: &[SlotLeaf], leaf: Leaf) -> Option<SlotLeaf>
     None
 }
 
-// Takes out the replicas that missed a row.
+// Takes out the replicas that missed a turn.
 fn drop_missed(serving: &mut Vec<SlotLeaf>, missed: &[Miss])
     ensures dropped { serving.new.items ≡ filter (λ replica. not (is_missed missed.now replica)) serving.old.items }
 {
     serving.retain(|replica| !has_missed(missed, *replica));
 }
 
-// Whether a replica missed a row.
+// Takes out the replica in a slot.
+fn drop_slot(serving: &mut Vec<SlotLeaf>, slot: Slot)
+    ensures dropped { serving.new.items ≡ filter (λ replica. not (same_slot slot replica.slot)) serving.old.items }
+{
+    serving.retain(|replica| slot.0 != replica.slot.0);
+}
+
+// Whether a replica missed a turn.
 fn has_missed(missed: &[Miss], replica: SlotLeaf) -> bool
     ensures missed { result ≡ is_missed missed.now replica }
 {

@@ -1,11 +1,11 @@
--- Entries whose rows aren't with their replicas yet.
+-- Entries that aren't with their replicas yet.
 use Rattle.std.specs.Prelude.{◌≡◌, ℕ, List, [], ◌∷◌, ◌++◌, map, Some, IfSome, slice_get}
 use Rattle.mon_value.specs.LeafHistories.{series_of}
 use Rattle.mon_value.specs.declared.histories.Entry.{Entry}
 use Rattle.mon_value.specs.declared.histories.Entry.TheVariants as entry
 use Rattle.leaf_store.specs.LeafStates.{HasNumber}
 use Rattle.leaf_store.specs.declared.fresh.FreshEntry.{FreshEntry}
-use Rattle.leaf_store.specs.within.Replicas.{Replicas, rows_held, rows_if_kept}
+use Rattle.leaf_store.specs.within.Replicas.{Replicas, rows_held, rows_if_held}
 
 -- the entries themselves
 abbrev pub entries_in : List FreshEntry → List Entry
@@ -21,6 +21,7 @@ AreNumbered history (one ∷ fresh) =
 abbrev pub HasKeptNumber : Replicas → Entry → ℕ → Type 0
 HasKeptNumber replicas (entry.Opened pass range slot rows) number = ⊥
 HasKeptNumber replicas (entry.Put pass range slot row) number =
-    slice_get (series_of (rows_if_kept (rows_held replicas range slot))) number ≡ Some row.key
+    slice_get (series_of (rows_if_held (rows_held replicas range slot))) number ≡ Some row.key
+HasKeptNumber replicas (entry.Trim pass range slot before) number = ⊥
 HasKeptNumber replicas (entry.Down pass) number = ⊥
 HasKeptNumber replicas (entry.Up pass) number = ⊥

@@ -1,4 +1,4 @@
--- How entries whose rows are with their replicas are kept: in runs.
+-- How entries that are with their replicas are kept: in runs.
 use Rattle.std.specs.Prelude.{ℕ, zero, suc, ◌+◌, ◌-◌, List, [], ◌∷◌, ◌++◌, flat_map}
 use Rattle.leaf_store.specs.declared.kept.Kept.{Kept}
 use Rattle.leaf_store.specs.declared.kept.Kept.TheVariants as kept
@@ -14,6 +14,7 @@ puts pass replica row (suc count) = kept.Put pass replica row ∷ puts pass repl
 abbrev pub run_entries : Run → List Kept
 run_entries (run.Puts replica first last pass) = puts pass replica first (last + 1 - first)
 run_entries (run.Opened replica count pass) = kept.Opened pass replica count ∷ []
+run_entries (run.Trim replica before pass) = kept.Trim pass replica before ∷ []
 run_entries (run.Down pass) = kept.Down pass ∷ []
 run_entries (run.Up pass) = kept.Up pass ∷ []
 

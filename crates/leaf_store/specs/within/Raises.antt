@@ -8,8 +8,8 @@ use Rattle.mon_value.specs.declared.histories.Entry.{Entry}
 use Rattle.mon_value.specs.declared.histories.Entry.TheVariants as entry
 use Rattle.mon_value.specs.declared.positions.Range.{Range}
 use Rattle.mon_value.specs.declared.positions.Slot.{Slot}
-use Rattle.mon_value.specs.declared.rows.Row.{Row}
 use Rattle.mon_value.specs.declared.rows.SeriesKey.{SeriesKey}
+use Rattle.mon_series.specs.SlotViews.{SlotView}
 use Rattle.leaf_store.specs.LeafStates.{key_buckets}
 use Rattle.leaf_store.specs.within.Replicas.{HasSeries, Replicas, rows_held}
 
@@ -27,13 +27,14 @@ is_left raised own bucket = own bucket && not (raised bucket)
 
 -- the buckets of the replicas' rows are in a set
 abbrev pub HoldsBuckets : Replicas → (SeriesKey → List ℕ) → (ℕ → Bool) → Type 0
-HoldsBuckets replicas buckets_of set = (range : Range) → (slot : Slot) → (rows : List Row)
-    → rows_held replicas range slot ≡ Some rows
-    → (bucket : ℕ) → is_among bucket (rows_buckets buckets_of rows) ≡ true → set bucket ≡ true
+HoldsBuckets replicas buckets_of set = (range : Range) → (slot : Slot) → (held : SlotView)
+    → rows_held replicas range slot ≡ Some held
+    → (bucket : ℕ) → is_among bucket (rows_buckets buckets_of held.rows) ≡ true → set bucket ≡ true
 
 -- an entry's row is of a series that its replica has
 abbrev pub IsKnown : Replicas → Entry → Type 0
 IsKnown replicas (entry.Opened pass range slot rows) = ⊥
 IsKnown replicas (entry.Put pass range slot row) = HasSeries replicas (record { range = range; slot = slot }) row.key
+IsKnown replicas (entry.Trim pass range slot before) = ⊥
 IsKnown replicas (entry.Down pass) = ⊥
 IsKnown replicas (entry.Up pass) = ⊥

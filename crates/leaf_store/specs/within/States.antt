@@ -12,7 +12,7 @@ use Rattle.leaf_store.specs.declared.leaf_state.LeafState.TheInside.{Inside}
 use Rattle.leaf_store.specs.within.FreshEntries.{AreNumbered, entries_in}
 use Rattle.leaf_store.specs.within.Replicas.{IsInTwoParts, shown_entries}
 
--- the entries that are left, whose rows aren't with the replicas yet
+-- the entries that are left, which weren't brought to their replicas yet
 abbrev pub left_of : Inside → List Entry
 left_of leaf = entries_in (drop leaf.moved leaf.fresh.items)
 
@@ -32,7 +32,7 @@ leaf_view leaf = record {
 abbrev pub AllSwitches : List Entry → Type 0
 AllSwitches entries = AllByRecursion (λ entry. is_switch entry ≡ true) entries
 
--- the rows of what is kept are with the replicas, and what is left has its series' numbers; the set has the history's
+-- what is kept was brought to the replicas, and what is left has its series' numbers; the set has the history's
 -- buckets; whether the leaf is down and how many switches it may still have are those of the history; a settled leaf
 -- has only switches left; and there is room for what is promised and for the switches to come
 pub record IsLeafKept (leaf : Inside) : Type 0 where

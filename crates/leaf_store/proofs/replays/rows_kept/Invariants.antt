@@ -1,14 +1,20 @@
--- the rows of the runs so far, in front of those of the entries that are left, are all
-use Rattle.std.proofs.Common.{◌≡◌, ◌++◌, drop, take}
-use Rattle.mon_value.specs.LeafHistories.{replica_rows}
-use Rattle.leaf_store.specs.within.KeptEntries.{entries_of}
+-- what the runs left make of what was gathered is what all entries of the cut make
+use Rattle.std.proofs.Common.{◌≡◌, ◌≤◌, length, take}
+use Rattle.std.specs.List.{flat_map}
+use Rattle.leaf_store.specs.within.FromBehind.{behind_turns, but_last, none_standing, replica_steps}
+use Rattle.leaf_store.specs.within.KeptEntries.{run_entries}
 use Rattle.leaf_store.specs.within.Replicas.{AllHaveRows, shown_entries}
 use Rattle.leaf_store.proofs.replays.rows_kept.Given as goal
 
-abbrev pub invariant-loop-run : goal.invariant-loop-run
-invariant-loop-run l = record {
-  there : AllHaveRows l.replicas.entries (entries_of (drop l.run-index l.runs) l.last);
-  rows : l.rows ++ replica_rows l.replica.range l.replica.slot
-      (shown_entries l.replicas.entries (take l.left (entries_of (drop l.run-index l.runs) l.last)))
-      ≡ replica_rows l.replica.range l.replica.slot (shown_entries l.replicas.entries (take l.cut l.kept.items));
+abbrev pub invariant-loop-place : goal.invariant-loop-place
+invariant-loop-place l = record {
+  within : l.place ≤ length l.runs;
+  there : AllHaveRows l.replicas.entries (flat_map run_entries (take l.place l.runs));
+  gathered : behind_turns (replica_steps l.replica.range l.replica.slot
+      (shown_entries l.replicas.entries (but_last l.behind (flat_map run_entries (take l.place l.runs))))) l.found
+      ≡ behind_turns (replica_steps l.replica.range l.replica.slot
+      (shown_entries l.replicas.entries (take l.cut l.kept.items))) none_standing;
 }
+
+abbrev pub decreases-loop-place : goal.decreases-loop-place
+decreases-loop-place l = l.place

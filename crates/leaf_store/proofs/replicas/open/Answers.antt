@@ -1,8 +1,8 @@
-use Rattle.std.proofs.Common.{rules, ◌≡◌, ◌∙◌, ◌++◌, ◌∷◌, [], List, None, length, ap}
+use Rattle.std.proofs.Common.{rules, ◌≡◌, ◌∙◌, ◌++◌, ◌∷◌, [], None, length, ap}
 use Rattle.std.specs.Map.{lookup}
 use Rattle.indexmap.specs.IndexMap.{get}
 use Rattle.indexmap.proofs.CallerLemmas.{insert_entry-new}
-use Rattle.mon_value.specs.declared.rows.Row.{Row}
+use Rattle.mon_series.specs.SlotViews.{SlotView}
 use Rattle.leaf_store.specs.contracts.replicas.ReplicaPartialEq.TheImpl as derived
 use Rattle.leaf_store.proofs.ReplicaLemmas.{same_test}
 use Rattle.leaf_store.proofs.replicas.open.Goals as goal
@@ -20,5 +20,5 @@ returns-clause-opened c =
       count_is = count;
       grown = c.in_ok-insert.ensures.entries ∙ insert_entry-new derived.eq-value.it replicas replica
           c.in_ok-taken.taken none
-          ∙ ap (λ (rows : List Row). replicas.entries ++ (replica, rows) ∷ []) c.in_ok-taken.ensures.rows;
+          ∙ ap (λ (held : SlotView). replicas.entries ++ (replica, held) ∷ []) c.in_ok-taken.ensures.rows;
     }

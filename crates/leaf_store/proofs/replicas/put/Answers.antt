@@ -1,9 +1,9 @@
-use Rattle.std.proofs.Common.{rules, ◌≡◌, ◌∙◌, List, Option, Some, IfSome, slice_get, sym, ap, subst}
+use Rattle.std.proofs.Common.{rules, ◌≡◌, ◌∙◌, Option, Some, IfSome, slice_get, sym, ap, subst}
 use Rattle.indexmap.specs.Layout.{set_value_at}
 use Rattle.mon_series.proofs.FirstLemmas.{on_err, set_same}
 use Rattle.mon_value.specs.LeafHistories.{series_of}
-use Rattle.mon_value.specs.declared.rows.Row.{Row}
-use Rattle.leaf_store.specs.within.Replicas.{IsLater, has_row_of, rows_if_kept}
+use Rattle.mon_series.specs.SlotViews.{SlotView}
+use Rattle.leaf_store.specs.within.Replicas.{IsLater, has_row_of, rows_if_held}
 use Rattle.leaf_store.proofs.ReplicaLemmas.{is_put, placed_rows}
 use Rattle.leaf_store.proofs.replicas.put.Goals as goal
 
@@ -18,9 +18,9 @@ put_in-requires c =
     let own : Some c.requires.later.0 ≡ Some slot = sym c.requires.later.1 ∙ held in
     let same : c.requires.later.0 ≡ slot = cc in
     record {
-      numbered = subst (λ (o : Option (List Row)). IfSome c.args.series (λ number.
-          slice_get (series_of (rows_if_kept o)) number ≡ Some row.key)) held c.requires.numbered;
-      later = subst (IsLater row) same c.requires.later.2;
+      numbered = subst (λ (o : Option SlotView). IfSome c.args.series (λ number.
+          slice_get (series_of (rows_if_held o)) number ≡ Some row.key)) held c.requires.numbered;
+      later = subst (λ (held : SlotView). IsLater row held.rows) same c.requires.later.2;
     }
 
 pub returns-clause-known : goal.returns-clause-known
@@ -31,7 +31,7 @@ returns-clause-known c =
     let held = placed_rows replicas replica c.in-Some.at slot (sym c.in-Some.ensures.place)
     c.in-Some-get_index_mut.ensures.value in
     c.in_ok-place.ensures.known
-    ∙ ap (λ (o : Option (List Row)). has_row_of c.args.row.key (rows_if_kept o)) (sym held)
+    ∙ ap (λ (o : Option SlotView). has_row_of c.args.row.key (rows_if_held o)) (sym held)
 
 pub returns-in_err-place-clause-stayed : goal.returns-in_err-place-clause-stayed
 returns-in_err-place-clause-stayed c =

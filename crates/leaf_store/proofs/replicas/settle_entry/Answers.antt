@@ -1,12 +1,13 @@
-use Rattle.std.proofs.Common.{List, IfSome, sym, subst}
+use Rattle.std.proofs.Common.{rules, ◌≡◌, ℤ, List, IfSome, to_z, of_z, w64, sym, subst}
+use Rattle.mon_value.specs.Turns.{Hides}
 use Rattle.mon_value.specs.declared.histories.Entry.{Entry}
 use Rattle.mon_value.specs.declared.rows.Row.{Row}
 use Rattle.leaf_store.specs.declared.kept.Kept.TheVariants as kept
 use Rattle.leaf_store.specs.declared.replicas.Replica.{Replica}
 use Rattle.leaf_store.specs.within.FreshEntries.{HasKeptNumber}
-use Rattle.leaf_store.specs.within.Replicas.{CanSettle, IsReplicaAdded, SettlesEntry}
-use Rattle.leaf_store.proofs.EntryLemmas.{down_settles, opened_settles, put_settles, up_settles}
-use Rattle.leaf_store.proofs.StepLemmas.{can_put, is_new}
+use Rattle.leaf_store.specs.within.Replicas.{CanSettle, IsReplicaAdded, IsTurned, SettlesEntry}
+use Rattle.leaf_store.proofs.EntryLemmas.{down_settles, opened_settles, put_settles, trim_settles, up_settles}
+use Rattle.leaf_store.proofs.StepLemmas.{can_put, can_trim, is_new}
 use Rattle.leaf_store.proofs.replicas.settle_entry.Goals as goal
 
 pub put_copy-requires : goal.put_copy-requires
@@ -41,6 +42,29 @@ returns-in_ok-put-in-Put-clause-settled c =
     let at = c.in_ok-put-in-Put.put in
     subst (λ (e : Entry). SettlesEntry old new e (kept.Put c.in-Put.pass at.replica at.row)) (sym c.in-Put.is)
     (put_settles old new c.in-Put.pass replica c.in-Put.row at.replica at.row c.in_ok-put-in-Put.ensures.put)
+
+pub hide-requires : goal.hide-requires
+hide-requires c =
+    let replica : Replica = record { range = c.in-Trim.range; slot = c.in-Trim.slot } in
+    let old = c.args.replicas.now.entries in
+    record {
+      held = can_trim old c.in-Trim.pass replica c.in-Trim.before (subst (CanSettle old) c.in-Trim.is
+          c.requires.settles);
+    }
+
+pub returns-in_ok-number-in-Trim-clause-settled : goal.returns-in_ok-number-in-Trim-clause-settled
+returns-in_ok-number-in-Trim-clause-settled c =
+    let replica : Replica = record { range = c.in-Trim.range; slot = c.in-Trim.slot } in
+    let old = c.args.replicas.now.entries in
+    let new = c.hide.new.replicas.entries in
+    let number = c.in_ok-number-in-Trim.number in
+    let before : to_z w64 (of_z w64 c.in-Trim.before) ≡ c.in-Trim.before = search rules in
+    let hidden : IsTurned old new replica (Hides c.in-Trim.before) number =
+    subst (λ (bound : ℤ). IsTurned old new replica (Hides bound) number) before
+    c.in_ok-number-in-Trim.ensures.hidden in
+    subst (λ (bound : ℤ). SettlesEntry old new c.args.entry.now (kept.Trim c.in-Trim.pass number bound)) (sym before)
+    (subst (λ (e : Entry). SettlesEntry old new e (kept.Trim c.in-Trim.pass number c.in-Trim.before)) (sym c.in-Trim.is)
+    (trim_settles old new c.in-Trim.pass replica c.in-Trim.before number hidden))
 
 pub returns-in-Down-clause-settled : goal.returns-in-Down-clause-settled
 returns-in-Down-clause-settled c =

@@ -14,7 +14,7 @@ add_point-requires c =
     let key = c.args.key.now in
     record {
       rises = subst (λ (points : List Point). IfSome (last_end points) (λ last. last <ℤ p.end))
-          (sym c.loop-point.invariant.kept)
+          (λ i. (sym c.loop-point.invariant.hidden) i ++ (sym c.loop-point.invariant.kept) i)
           (rises_on (λ point. keeps fetch key point.value) c.args.reached.now c.loop-point.point-index p
           c.requires.rises c.point-item.is c.loop-point-test.true);
     }
@@ -35,5 +35,6 @@ loop-point-preserved c =
           ∙ ap (λ (points : List Point). points ++ cond c.in_ok-keeps.keeps (p ∷ []) []) c.loop-point.invariant.kept
           ∙ sym (kept_more fetch key c.args.reached.now i p c.point-item.is c.loop-point-test.true c.in_ok-keeps.keeps
           decided);
+      hidden = c.in_ok-add_point.ensures.hidden ∙ c.loop-point.invariant.hidden;
       cells = c.in_ok-keeps.ensures.cells ∙ c.loop-point.invariant.cells;
     }

@@ -1,4 +1,4 @@
-use Rattle.std.proofs.Common.{◌≡◌, ◌∙◌, ap, rules, sym}
+use Rattle.std.proofs.Common.{◌∙◌, ap, sym}
 use Rattle.mon_value.specs.declared.values.ValueType.TheVariants as type
 use Rattle.mon_meaning.proofs.SameTreeLemmas.{bounds_same}
 use Rattle.mon_meaning.proofs.same_columns.is_same_type.Goals as goal

@@ -23,7 +23,7 @@ no_others range = ap (λ b. cond (not b) (range ∷ []) []) (eq-eqb range.0 rang
 
 none_serve : (leaves ranges : ℕ) (range : Range) → HaveJust (empty_histories leaves ranges) range []
 none_serve leaves ranges range = record {
-  rows = λ replica there. absurd (omega (arith, there.1));
+  turns = λ replica there. absurd (omega (arith, there.1));
   fresh = λ slot leaf past. ap (is_opened range slot) (none_at leaves leaf.0);
 }
 
@@ -36,7 +36,7 @@ returns c = record {
     holds = held_once range;
     only = no_others range;
     history = none_at ranges range.0 ∙ sym none;
-    rows = subst (λ (h : List RangeEntry). HaveJust (empty_histories leaves ranges) range h) (sym none)
+    turns = subst (λ (h : List RangeEntry). HaveJust (empty_histories leaves ranges) range h) (sym none)
         (none_serve leaves ranges range);
   };
 }

@@ -17,12 +17,12 @@ cancel_one-requires g c =
     let i = c.loop-mark.mark-index in
     let mark : Mark = slice_index_or marks i none_yet in
     let next : drop i marks ≡ mark ∷ drop (i + 1) marks = drop_more marks i none_yet c.loop-mark-test.true in
-    let is = subst (λ (left : List Mark). IsWithdrawing here.range here.pass here.rows here.before here.replicas
+    let is = subst (λ (left : List Mark). IsWithdrawing here.range here.pass here.before here.replicas
     c.loop-mark.know left) next here.is in
     record {
-      there = λ ready. leaf_there here.range here.pass here.rows here.before here.replicas c.loop-mark.know mark
+      there = λ ready. leaf_there here.range here.pass here.before here.replicas c.loop-mark.know mark
           (drop (i + 1) marks) is g.N.Names.setting here.placed;
-      room = room_there here.range here.pass here.rows here.before here.replicas c.loop-mark.know mark (drop (i + 1) marks)
+      room = room_there here.range here.pass here.before here.replicas c.loop-mark.know mark (drop (i + 1) marks)
           is;
     }
 
@@ -37,17 +37,16 @@ loop-mark-preserved g c =
       somewhere = record {
         range = here.range;
         pass = here.pass;
-        rows = here.rows;
         before = here.before;
         replicas = here.replicas;
         placed = here.placed;
-        is = c.cancel_one.ensures.back here.range here.pass here.rows here.before here.replicas (drop (i + 1) marks)
-            (subst (λ (left : List Mark). IsWithdrawing here.range here.pass here.rows here.before here.replicas
+        is = c.cancel_one.ensures.back here.range here.pass here.before here.replicas (drop (i + 1) marks)
+            (subst (λ (left : List Mark). IsWithdrawing here.range here.pass here.before here.replicas
             c.loop-mark.know left) next here.is);
       };
-      back = λ range pass rows before replicas w. c.cancel_one.ensures.back range pass rows before replicas (drop (i + 1) marks)
-          (subst (λ (left : List Mark). IsWithdrawing range pass rows before replicas c.loop-mark.know left) next
-          (c.loop-mark.invariant.back range pass rows before replicas w));
+      back = λ range pass before replicas w. c.cancel_one.ensures.back range pass before replicas (drop (i + 1) marks)
+          (subst (λ (left : List Mark). IsWithdrawing range pass before replicas c.loop-mark.know left) next
+          (c.loop-mark.invariant.back range pass before replicas w));
     }
 
 pub returns : goal.returns
@@ -55,7 +54,7 @@ returns g c =
     let none : drop c.loop-mark.mark-index c.args.marks.now ≡ [] =
     at_drop_all (λ (m : List Mark). m) _ c.loop-mark.mark-index c.loop-mark-test.false in
     record {
-      back = λ range pass rows before replicas w.
-          subst (λ (left : List Mark). IsWithdrawing range pass rows before replicas c.loop-mark.know left) none
-          (c.loop-mark.invariant.back range pass rows before replicas w);
+      back = λ range pass before replicas w.
+          subst (λ (left : List Mark). IsWithdrawing range pass before replicas c.loop-mark.know left) none
+          (c.loop-mark.invariant.back range pass before replicas w);
     }

@@ -7,7 +7,7 @@ pub returns-then-is_ready : goal.returns-then-is_ready
 returns-then-is_ready g c =
     let ready : is_ready c.args.mark.fate ≡ true = search rules in
     record {
-      back = λ range pass rows before replicas left w. cancelled range pass rows before replicas c.args.know.now
+      back = λ range pass before replicas left w. cancelled range pass before replicas c.args.know.now
           c.args.mark left w c.cancel.new.know ready
           c.cancel.ensures.cancelled;
     }
@@ -16,6 +16,6 @@ pub returns-else-is_ready : goal.returns-else-is_ready
 returns-else-is_ready g c =
     let not_ready : is_ready c.args.mark.fate ≡ false = search rules in
     record {
-      back = λ range pass rows before replicas left w. passed_by range pass rows before replicas
+      back = λ range pass before replicas left w. passed_by range pass before replicas
           c.args.know.now c.args.mark left w not_ready;
     }

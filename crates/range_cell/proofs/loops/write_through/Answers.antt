@@ -11,20 +11,19 @@ cancel_all-requires g c =
       somewhere = record {
         range = c.args.range;
         pass = here.pass;
-        rows = here.rows;
         before = here.before;
         replicas = here.replicas;
         placed = here.placed;
-        is = subst (λ (marks : List Mark). IsWithdrawing c.args.range here.pass here.rows here.before here.replicas
+        is = subst (λ (marks : List Mark). IsWithdrawing c.args.range here.pass here.before here.replicas
             c.go_through.new.know marks)
             (sym c.marks.ensures.marks)
-            (c.in-Err.ensures.refused here.pass here.rows here.before here.replicas here.placed.apart here.at);
+            (c.in-Err.ensures.refused here.pass here.before here.replicas here.placed.apart here.at);
       };
     }
 
 pub returns-in-Err-clause-withdrawn : goal.returns-in-Err-clause-withdrawn
-returns-in-Err-clause-withdrawn g c pass rows before replicas apart at =
-    c.cancel_all.ensures.back c.args.range pass rows before replicas
-    (subst (λ (marks : List Mark). IsWithdrawing c.args.range pass rows before replicas c.go_through.new.know marks)
+returns-in-Err-clause-withdrawn g c pass before replicas apart at =
+    c.cancel_all.ensures.back c.args.range pass before replicas
+    (subst (λ (marks : List Mark). IsWithdrawing c.args.range pass before replicas c.go_through.new.know marks)
     (sym c.marks.ensures.marks)
-    (c.in-Err.ensures.refused pass rows before replicas apart at))
+    (c.in-Err.ensures.refused pass before replicas apart at))

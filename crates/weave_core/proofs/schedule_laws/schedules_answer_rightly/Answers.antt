@@ -41,6 +41,14 @@ returns c =
           c.ends_name_what_was_told.ensures.named (store_of config) reader.setting reader.moment
           reader.begin reader.session end (as_new (store_of config) state.core.world reader own fresh)
           (stage_is (store_of config) state.core.world reader own fresh (Ended end) ended);
+      done = λ config first state lines k writer new leads is.
+          c.writes_keep_the_invariant.ensures.deeds (store_of config) state.core.world k writer
+          (reached config (said.noted (store_of config)) (said.begins (store_of config)) first state lines new
+          leads).woven.world is;
+      written = λ config first state lines k writer marks new leads is ended took.
+          c.writes_keep_the_invariant.ensures.ended (store_of config) state.core.world k writer
+          (reached config (said.noted (store_of config)) (said.begins (store_of config)) first state lines new
+          leads).woven.world is marks ended took;
       found = λ config first state lines k new leads.
           finds_all state.core.world
           (reached config (said.noted (store_of config)) (said.begins (store_of config)) first state lines new

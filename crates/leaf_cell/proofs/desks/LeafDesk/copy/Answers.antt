@@ -3,7 +3,7 @@ use Rattle.history_book.specs.declared.rooms.RoomMove.TheVariants as move
 use Rattle.know.specs.Knowledge.{after_handing}
 use Rattle.leaf_cell.proofs.VisitLemmas.{copies}
 use Rattle.leaf_store.specs.LeafStates as store
-use Rattle.mon_value.specs.LeafHistories.{is_down, replica_rows}
+use Rattle.mon_value.specs.LeafHistories.{is_down, kept_rows}
 use Rattle.owners.proofs.CalledLemmas.{finds_down}
 use Rattle.leaf_cell.proofs.desks.LeafDesk.copy.Goals as goal
 
@@ -31,7 +31,7 @@ returns-clause-copied g c =
     let handed : c.hand.new.self ≡ after_handing (length rows) c.look-length.new.know = search rules in
     copies c.args.self.now.owner.leaf c.args.self.now.state.history c.args.range c.args.slot cut rows c.args.know.now
     c.look-length.new.know c.hand.new.self c.look-length.ensures.gone handed
-    (c.in_ok-rows.ensures.rows ∙ ap (λ (s : store.LeafView). replica_rows c.args.range c.args.slot
+    (c.in_ok-rows.ensures.rows ∙ ap (λ (s : store.LeafView). kept_rows c.args.range c.args.slot
     (take cut s.history)) same)
     c.look-length.ensures.length
     (ap (λ (s : store.LeafView). is_down s.history) (sym same) ∙ sym c.if-down.ensures.down)

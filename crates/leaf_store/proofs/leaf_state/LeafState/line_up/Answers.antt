@@ -1,19 +1,18 @@
-use Rattle.std.proofs.Common.{rules, ◌≡◌, ◌∙◌, ◌≤◌, ◌++◌, ◌∷◌, [], false, List, length, drop, IfSome, refl, sym, ap, subst}
+use Rattle.std.proofs.Common.{rules, ◌≡◌, ◌∙◌, ◌≤◌, ◌++◌, ◌∷◌, [], List, length, drop, IfSome, refl, sym, ap, subst}
 use Rattle.std.proofs.Common.{append-nil, arith}
 use Rattle.std.specs.List.{count_by}
 use Rattle.std.specs.Vec.{vec_len}
 use Rattle.std.proofs.lemmas.List.{length-append}
 use Rattle.mon_hints.specs.BucketSets.{is_set}
-use Rattle.mon_hints.specs.Hints.{history_buckets, rows_buckets}
+use Rattle.mon_hints.specs.Hints.{history_buckets}
 use Rattle.mon_hints.specs.Formulas.{is_among}
 use Rattle.mon_value.proofs.LeafHistoryLemmas.{follows}
-use Rattle.mon_value.specs.LeafHistories.{IsWellFormed, brought_rows, is_down, is_switch}
+use Rattle.mon_value.specs.LeafHistories.{IsWellFormed, is_down, is_switch}
 use Rattle.mon_value.specs.declared.histories.Entry.{Entry}
 use Rattle.leaf_store.specs.LeafStates.{key_buckets, LeafView, HasNumber}
 use Rattle.leaf_store.specs.declared.fresh.FreshEntry.{FreshEntry}
 use Rattle.leaf_store.specs.declared.kept.Kept.{Kept}
 use Rattle.leaf_store.specs.within.FreshEntries.{AreNumbered, entries_in}
-use Rattle.leaf_store.specs.within.Raises.{AddsBuckets}
 use Rattle.leaf_store.specs.within.Replicas.{IsInTwoParts, Replicas, shown_entries}
 use Rattle.leaf_store.specs.within.States.{history_inside, left_of}
 use Rattle.leaf_store.proofs.BehindLemmas.{comes_behind, none_behind, shown}

@@ -32,6 +32,16 @@ returns-in-Put-clause-follows c =
     (IsWellFormed-push c.args.self.now.history (entry.Put c.in-Put.pass c.in-Put.range c.in-Put.slot c.in-Put.row)
     c.may_put.ensures.formed (c.may_put.ensures.may yes))
 
+pub returns-in-Trim-clause-may : goal.returns-in-Trim-clause-may
+returns-in-Trim-clause-may c = λ yes. subst (λ (e : Entry). MayFollow c.args.self.now.history e) (sym c.in-Trim.is)
+    (c.may_trim.ensures.may yes)
+
+pub returns-in-Trim-clause-follows : goal.returns-in-Trim-clause-follows
+returns-in-Trim-clause-follows c =
+    λ yes. subst (λ (e : Entry). IsWellFormed (c.args.self.now.history ++ e ∷ [])) (sym c.in-Trim.is)
+    (IsWellFormed-push c.args.self.now.history (entry.Trim c.in-Trim.pass c.in-Trim.range c.in-Trim.slot
+    c.in-Trim.before) c.may_trim.ensures.formed (c.may_trim.ensures.may yes))
+
 pub returns-in-Down-clause-follows : goal.returns-in-Down-clause-follows
 returns-in-Down-clause-follows c =
     λ yes. subst (λ (e : Entry). IsWellFormed (c.args.self.now.history ++ e ∷ [])) (sym c.in-Down.is)

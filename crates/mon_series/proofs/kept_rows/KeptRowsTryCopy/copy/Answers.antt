@@ -1,5 +1,5 @@
 use Rattle.std.proofs.Common.{◌∙◌}
-use Rattle.mon_series.specs.within.Places.{rows_at_places}
+use Rattle.mon_series.specs.within.Hidden.{slot_of}
 use Rattle.mon_series.proofs.IndexedLemmas.{copy_kept}
 use Rattle.mon_series.proofs.kept_rows.KeptRowsTryCopy.copy.Goals as goal
 
@@ -10,6 +10,7 @@ invariant_of-result c =
 
 pub returns : goal.returns
 returns c = record {
-  equal = (λ i. rows_at_places (c.in_ok-copied_series.ensures.groups i) (c.in_ok-copy.ensures.items i))
+  equal = (λ i. slot_of (c.in_ok-copied_series.ensures.groups i) (c.in_ok-copied_series.ensures.hidden i)
+      (c.in_ok-copy.ensures.items i))
       ∙ c.self.view_is;
 }

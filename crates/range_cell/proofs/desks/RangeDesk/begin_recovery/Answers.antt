@@ -8,9 +8,8 @@ use Rattle.mon_value.specs.declared.positions.SlotLeaf.{SlotLeaf}
 use Rattle.range_cell.proofs.HoldingLemmas.{on_err, on_ok}
 use Rattle.range_cell.proofs.MeetingLemmas.{if_held, if_rests, rest_as, whole_so}
 use Rattle.range_cell.proofs.RestLemmas.{more_held}
-use Rattle.range_cell.specs.Calls.{HasBegun, HasMetRange, parted_owner}
+use Rattle.range_cell.specs.Calls.{HasBegun, parted_owner}
 use Rattle.range_cell.specs.Recoveries.{IsDeniedAs}
-use Rattle.range_cell.specs.Rest.{IsRangeAtRest, IsRangeHeld}
 use Rattle.write_core.specs.Recovering.{denial_of}
 use Rattle.write_core.specs.Replays.{Replay}
 use Rattle.range_cell.proofs.desks.RangeDesk.begin_recovery.Goals as goal

@@ -1,12 +1,11 @@
-use Rattle.std.proofs.Common.{◌≡◌, ◌<◌, ◌≤◌, ℕ, Some, List, length, refl, sym, ap, subst, ◌∙◌, arith}
+use Rattle.std.proofs.Common.{◌≡◌, ◌<◌, ℕ, Some, List, refl, sym, ap, subst, ◌∙◌}
 use Rattle.history_book.specs.Seats.{times_range}
-use Rattle.mon_value.specs.declared.histories.Ack.{Ack}
 use Rattle.mon_value.specs.declared.histories.RangeEntry.{RangeEntry}
 use Rattle.mon_value.specs.declared.histories.RangeEntry.TheVariants as entry
+use Rattle.mon_value.specs.Turns.{Adds}
 use Rattle.mon_value.specs.declared.positions.Range.{Range}
 use Rattle.mon_value.specs.declared.rows.Row.{Row}
 use Rattle.write_core.specs.declared.marks.Mark.{Mark}
-use Rattle.mon_topo.specs.RangeHistories.{serving}
 use Rattle.owners.specs.Puts.{number_or, pass_of}
 use Rattle.range_cell.proofs.BeginLemmas.{may_acknowledge, none_taken}
 use Rattle.range_cell.proofs.EndingLemmas.{ended_so, unavailable_end, written_end}
@@ -61,8 +60,8 @@ acknowledge-requires g c =
       may = subst (λ (r : Range). MayEnter setting r g0 (entry.Acked (pass_of know) c.into_row-row.result c.in-Written.ack)
           know) c.requires.range
           (subst (λ (e : RangeEntry). MayEnter setting range g0 e know) e_is
-          (may_acknowledge setting range row here.pass g0 here.begun know marks t.through here.fresh both.0 here.lies
-          here.source here.few));
+          (may_acknowledge setting range (Adds row) here.pass g0 here.legal here.begun know here.just marks t.through
+          both.0 here.home here.takes));
     }
 
 pub returns-in-Written-clause-ended : goal.returns-in-Written-clause-ended
@@ -109,9 +108,9 @@ give_back-requires g c =
       held = c.requires.held;
       holds = subst (λ (r : Range). 0 < times_range r know.purse.holds) c.requires.range
           t.through.so_far.writing.held;
-      rows = subst (λ (r : Range). HaveJust know.seen r g0) c.requires.range
-          (none_taken g.N.Names.setting range c.args.entering.copies.row here.pass g0 here.begun know marks t.through
-          here.fresh both.0);
+      turns = subst (λ (r : Range). HaveJust know.seen r g0) c.requires.range
+          (none_taken g.N.Names.setting range (Adds c.args.entering.copies.row) here.pass g0 here.legal here.begun know
+          here.just marks t.through both.0);
     }
 
 pub returns-in-Unavailable-clause-ended : goal.returns-in-Unavailable-clause-ended

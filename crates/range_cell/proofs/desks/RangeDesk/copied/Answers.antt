@@ -1,10 +1,13 @@
-use Rattle.std.proofs.Common.{◌≡◌, ◌<◌, ◌+◌, ◌++◌, ◌∷◌, ℕ, cond, not, List, [], length, map, take, sym, ap, subst, ◌∙◌, arith}
+use Rattle.std.proofs.Common.{◌≡◌, ◌+◌, ◌++◌, ◌∷◌, ℕ, cond, not, List, [], length, map, take, sym, ap, subst, ◌∙◌}
 use Rattle.std.specs.Prelude.{Contains, slice_index_or}
 use Rattle.std.proofs.lemmas.List.{map-append, take_all, take_more}
 use Rattle.std.proofs.lemmas.List.Elements.{Contains-get_or}
 use Rattle.know.specs.Knowledge.{stopped_count}
 use Rattle.know.specs.declared.answers.Copied.{Copied}
-use Rattle.mon_topo.specs.RangeHistories.{acknowledged_rows, serving}
+use Rattle.mon_topo.proofs.RangeHistoryLemmas.{all_at}
+use Rattle.mon_topo.specs.RangeHistories.{left_rows}
+use Rattle.mon_value.specs.Histories.{leaf_history}
+use Rattle.mon_value.specs.LeafHistories.{kept_rows}
 use Rattle.mon_value.specs.declared.positions.FoundDown.{FoundDown}
 use Rattle.mon_value.specs.declared.positions.SlotLeaf.{SlotLeaf}
 use Rattle.mon_value.specs.declared.rows.Row.{Row}
@@ -29,13 +32,11 @@ returns-in-Ok-Rows-clause-rows g c =
     let source : SlotLeaf = slice_index_or sources i none_yet in
     let up = subst (λ (x : Copied). HasCopied source.leaf range source.slot x old new) c.in-Ok-Rows.field-0-is
     c.in-Ok-Rows.ensures.copied in
-    let among : Contains (serving history) source =
-    subst (λ (xs : List SlotLeaf). Contains xs source) c.requires.serve
-    (Contains-get_or sources i none_yet c.loop-source-test.true) in
     up.rows_are
     ∙ found_rows range begun.handed begun.handed begun old new c.loop-source.invariant.looking c.requires.held
-    source.leaf up.history up.called source.slot (acknowledged_rows history)
-    (c.requires.just.rows source among).all
+    source.leaf up.history up.called source.slot (left_rows history)
+    (all_at (λ (x : SlotLeaf). kept_rows range x.slot (leaf_history begun.seen x.leaf) ≡ left_rows history) sources source
+    c.requires.kept (Contains-get_or sources i none_yet c.loop-source-test.true))
 
 pub returns-in-Ok-Rows-clause-copied : goal.returns-in-Ok-Rows-clause-copied
 returns-in-Ok-Rows-clause-copied g c =
@@ -50,13 +51,12 @@ returns-in-Ok-Rows-clause-copied g c =
     let looking = c.loop-source.invariant.looking in
     let up = subst (λ (x : Copied). HasCopied source.leaf range source.slot x old new) c.in-Ok-Rows.field-0-is
     c.in-Ok-Rows.ensures.copied in
-    let among : Contains (serving history) source =
-    subst (λ (xs : List SlotLeaf). Contains xs source) c.requires.serve
-    (Contains-get_or sources i none_yet c.loop-source-test.true) in
-    let rows : c.in-Ok-Rows.rows ≡ acknowledged_rows history =
+    let rows : c.in-Ok-Rows.rows ≡ left_rows history =
     up.rows_are
     ∙ found_rows range begun.handed begun.handed begun old new looking c.requires.held source.leaf up.history
-    up.called source.slot (acknowledged_rows history) (c.requires.just.rows source among).all in
+    up.called source.slot (left_rows history)
+    (all_at (λ (x : SlotLeaf). kept_rows range x.slot (leaf_history begun.seen x.leaf) ≡ left_rows history) sources source
+    c.requires.kept (Contains-get_or sources i none_yet c.loop-source-test.true)) in
     looks_on range begun.handed (after_copying history begun) begun old new looking c.requires.held source.leaf
     up.history up.called up.rooms_are
     (up.handed ∙ ap (λ (n : ℕ). stopped_count (n + length c.in-Ok-Rows.rows)) looking.counted

@@ -17,7 +17,7 @@ returns g c =
     record {
       rest = subst (λ (r : Replay). IsRangeAtRest desk.owner.range.0 r c.part.new.self) (sym c.receive.ensures.replay)
           (rests_back leaves know desk.owner now c.requires.held.own came desk.replay c.requires.held c.requires.holds
-          c.requires.rows c.part.new.self gone);
+          c.requires.turns c.part.new.self gone);
       met = met_so leaves know desk.owner now c.requires.held.own came false c.receive.new.know c.part.new.know
           c.receive.ensures.left c.part.ensures.know;
       whole = whole_so leaves know desk.owner now c.requires.held.own came false c.receive.new.know c.part.new.know

@@ -61,7 +61,7 @@ returns g c =
       rest = rests_entered leaves know desk.owner now c.requires.held.own came desk.replay c.requires.held c.requires.holds
           e c.enter_opening.new.self.replay
           (c.enter_opening.ensures.history ∙ ap (λ (r : Replay). r.history ++ e ∷ []) c.receive.ensures.replay)
-          may.rows c.part.new.self (parts ∙ ap (parted_owner false) then_owner);
+          may.turns c.part.new.self (parts ∙ ap (parted_owner false) then_owner);
       entered = subst (λ (n : ℕ). HasEntered leaves desk.owner.range desk.replay.history
           (entry.Opened n c.args.slot c.args.leaf) know c.part.new.know) same
           (has_entered leaves know desk.owner now c.requires.held.own came desk.replay c.requires.held c.requires.holds e

@@ -1,7 +1,7 @@
-use Rattle.std.proofs.Common.{◌≡◌, ◌<◌, ℕ, List, Some, [], ◌∷◌, length, sym, ap, subst, ◌∙◌}
-use Rattle.history_book.specs.Seats.{hand_of, times_range}
+use Rattle.std.proofs.Common.{◌≡◌, ◌<◌, ℕ, List, Some, [], ◌∷◌, sym, ap, subst, ◌∙◌}
+use Rattle.history_book.specs.Seats.{times_range}
 use Rattle.know.specs.declared.answers.Found.{Found}
-use Rattle.mon_topo.specs.RangeHistories.{acknowledged_rows}
+use Rattle.mon_topo.specs.RangeHistories.{left_rows}
 use Rattle.mon_value.specs.declared.histories.Entry.TheVariants as entry
 use Rattle.mon_value.specs.declared.histories.RangeEntry.TheVariants as range_entry
 use Rattle.mon_value.specs.declared.positions.Range.{Range}
@@ -10,7 +10,7 @@ use Rattle.mon_value.specs.declared.rows.Row.{Row}
 use Rattle.owners.specs.Calls.{HasFoundUp}
 use Rattle.owners.specs.Openings.{HasOpened, MayOpen}
 use Rattle.owners.specs.Puts.{pass_of}
-use Rattle.range_cell.proofs.LookingLemmas.{same_just, same_replicas}
+use Rattle.range_cell.proofs.LookingLemmas.{same_just, same_entries}
 use Rattle.range_cell.proofs.ReplicaLemmas.{is_free, may_open, may_tell, pass_then, same_number, still_holds}
 use Rattle.range_cell.specs.Calls.{HasEntered, HasGivenBack, MayEnter}
 use Rattle.range_cell.specs.Rest.{HaveJust}
@@ -44,9 +44,9 @@ open-requires g c =
     let holding = c.requires.holding in
     let told = subst (λ (f : Found). HasOpened leaf (entry.Opened (pass_of know) range slot c.args.rows) f know then)
     c.in-Ok-Up.field-0-is c.in-Ok-Up.ensures.opened in
-    let up : HasFoundUp leaf (entry.Opened (pass_of know) range (next_slot history) (acknowledged_rows history) ∷ [])
+    let up : HasFoundUp leaf (entry.Opened (pass_of know) range (next_slot history) (left_rows history) ∷ [])
     know.purse.rooms know then =
-    subst (λ (s : Slot). HasFoundUp leaf (entry.Opened (pass_of know) range s (acknowledged_rows history) ∷ [])
+    subst (λ (s : Slot). HasFoundUp leaf (entry.Opened (pass_of know) range s (left_rows history) ∷ [])
     know.purse.rooms know then) c.next_slot-slot.ensures.slot
     (subst (λ (rows : List Row). HasFoundUp leaf (entry.Opened (pass_of know) range slot rows ∷ [])
     know.purse.rooms know then) c.requires.rows told) in
@@ -79,12 +79,12 @@ returns-in-Ok-Up-clause-ended g c =
     let slot = c.next_slot-slot.result in
     let told = subst (λ (f : Found). HasOpened leaf (entry.Opened (pass_of know) range slot c.args.rows) f know then)
     c.in-Ok-Up.field-0-is c.in-Ok-Up.ensures.opened in
-    let here : HasFoundUp leaf (entry.Opened (pass_of know) range slot (acknowledged_rows history) ∷ [])
+    let here : HasFoundUp leaf (entry.Opened (pass_of know) range slot (left_rows history) ∷ [])
     know.purse.rooms know then =
     subst (λ (rows : List Row). HasFoundUp leaf (entry.Opened (pass_of know) range slot rows ∷ [])
     know.purse.rooms know then) c.requires.rows told in
     let up = subst (λ (s : Slot). HasFoundUp leaf
-    (entry.Opened (pass_of know) range s (acknowledged_rows history) ∷ []) know.purse.rooms know then)
+    (entry.Opened (pass_of know) range s (left_rows history) ∷ []) know.purse.rooms know then)
     c.next_slot-slot.ensures.slot here in
     let pass_is : pass_of then ≡ pass_of know = pass_then setting range leaf history know c.requires.holding up.history
     then up.called in
@@ -112,9 +112,9 @@ give_back-requires g c =
       held = c.requires.held;
       holds = subst (λ (r : Range). 0 < times_range r then.purse.holds) c.requires.range
           (subst (λ (xs : List Range). 0 < times_range range xs) (sym down.called.holds) c.requires.holding.held);
-      rows = subst (λ (r : Range). HaveJust then.seen r history) c.requires.range
+      turns = subst (λ (r : Range). HaveJust then.seen r history) c.requires.range
           (same_just range history know then
-          (same_replicas leaf down.history know then down.called range c.requires.holding.held)
+          (same_entries leaf down.history know then down.called range c.requires.holding.held)
           c.requires.holding.just);
     }
 
@@ -145,9 +145,9 @@ give_back-requires-in-Err g c =
       held = c.requires.held;
       holds = subst (λ (r : Range). 0 < times_range r then.purse.holds) c.requires.range
           (subst (λ (xs : List Range). 0 < times_range range xs) (sym looked.called.holds) c.requires.holding.held);
-      rows = subst (λ (r : Range). HaveJust then.seen r history) c.requires.range
+      turns = subst (λ (r : Range). HaveJust then.seen r history) c.requires.range
           (same_just range history know then
-          (same_replicas leaf looked.history know then looked.called range c.requires.holding.held)
+          (same_entries leaf looked.history know then looked.called range c.requires.holding.held)
           c.requires.holding.just);
     }
 

@@ -1,4 +1,4 @@
-use Rattle.std.proofs.Common.{◌≡◌, ◌<◌, ℕ, Some, List, length, refl, sym, ap, subst, ◌∙◌}
+use Rattle.std.proofs.Common.{◌≡◌, ◌<◌, ℕ, Some, List, length, sym, ap, subst, ◌∙◌}
 use Rattle.std.specs.Prelude.{option_map}
 use Rattle.history_book.specs.Seats.{hand_of, times_range}
 use Rattle.history_book.specs.declared.views.Kept.{Kept}
@@ -8,7 +8,6 @@ use Rattle.mon_topo.specs.RangeHistories.{IsInZoneOf, serving}
 use Rattle.mon_value.specs.Histories.{range_history}
 use Rattle.mon_value.specs.declared.histories.RangeEntry.{RangeEntry}
 use Rattle.mon_value.specs.declared.positions.Range.{Range}
-use Rattle.mon_value.specs.declared.positions.SlotLeaf.{SlotLeaf}
 use Rattle.owners.specs.Puts.{number_or, pass_of}
 use Rattle.range_cell.proofs.HoldingLemmas.{denied_so, is_holding, recovered_so}
 use Rattle.range_cell.specs.Calls.{HasBegun, HasMetRange}
@@ -44,7 +43,7 @@ recover_held-requires g c =
     (begins_from (range_history then.seen own) (range_history know.seen own) (begun.met.fronts.1 own).0
     (sym (begun.met.fronts.1 own).1))) in
     let holding : IsHolding setting own c.args.leaf history then =
-    is_holding setting own c.args.leaf history then sound.held here begun.whole begun.rows
+    is_holding setting own c.args.leaf history then sound.held here begun.whole begun.turns
     (subst (λ (r : Range). IsInZoneOf setting.zones r c.args.leaf) c.requires.range c.requires.zoned)
     c.in-Ok.ensures.may begins (number ∙ ap (λ (n : ℕ). Some n) (sym pass_is)) holds in
     record {

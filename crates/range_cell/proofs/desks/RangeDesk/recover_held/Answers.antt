@@ -1,15 +1,16 @@
-use Rattle.std.proofs.Common.{◌≡◌, ◌<◌, ℕ, List, length, sym, ap, subst, ◌∙◌}
+use Rattle.std.proofs.Common.{◌≡◌, ◌<◌, ℕ, List, length, sym, subst, ◌∙◌}
 use Rattle.std.specs.List.{AllByRecursion}
 use Rattle.history_book.specs.Seats.{times_range}
-use Rattle.mon_topo.specs.RangeHistories.{serving}
+use Rattle.mon_topo.specs.RangeHistories.{left_rows, serving}
 use Rattle.mon_topo.specs.Zones.{leaves_in}
-use Rattle.mon_value.specs.Histories.{range_history}
+use Rattle.mon_value.specs.Histories.{leaf_history}
+use Rattle.mon_value.specs.LeafHistories.{kept_rows}
 use Rattle.mon_value.specs.declared.positions.Range.{Range}
 use Rattle.mon_value.specs.declared.positions.SlotLeaf.{SlotLeaf}
 use Rattle.owners.specs.Puts.{pass_of}
 use Rattle.range_cell.proofs.HoldingLemmas.{ended_short, ended_there, looked_so}
 use Rattle.range_cell.proofs.LookingLemmas.{holds_on, same_pass}
-use Rattle.range_cell.specs.Calls.{HasGivenBack, HasMetRange, others_of}
+use Rattle.range_cell.specs.Calls.{HasGivenBack}
 use Rattle.range_cell.specs.Recoveries.{HasEndedThere, after_copying}
 use Rattle.range_cell.specs.Rest.{HaveJust}
 use Rattle.range_cell.proofs.desks.RangeDesk.recover_held.Goals as goal
@@ -23,7 +24,9 @@ copied-requires g c =
       there = subst (AllByRecursion (λ (x : SlotLeaf). x.leaf.0 < length (leaves_in g.N.Names.setting.zones)))
           (sym serve) c.requires.holding.there;
       held = c.requires.holding.held;
-      just = c.requires.holding.just;
+      kept = subst (AllByRecursion (λ (x : SlotLeaf). kept_rows c.args.range x.slot
+          (leaf_history c.args.know.now.seen x.leaf) ≡ left_rows c.args.self.now.replay.history)) (sym serve)
+          c.requires.holding.kept;
     }
 
 pub open_there-requires : goal.open_there-requires
@@ -64,7 +67,7 @@ give_back-requires g c =
     record {
       held = c.requires.held;
       holds = subst (λ (r : Range). 0 < times_range r mid.purse.holds) c.requires.range holding.held;
-      rows = subst (λ (r : Range). HaveJust mid.seen r history) c.requires.range holding.just;
+      turns = subst (λ (r : Range). HaveJust mid.seen r history) c.requires.range holding.just;
     }
 
 pub returns-clause-ended : goal.returns-clause-ended

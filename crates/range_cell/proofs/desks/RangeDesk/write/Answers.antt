@@ -1,11 +1,12 @@
-use Rattle.std.proofs.Common.{◌≡◌, ◌<◌, ◌≤◌, ℕ, Some, List, length, rules, sym, ap, subst, ◌∙◌}
+use Rattle.std.proofs.Common.{◌≡◌, ◌<◌, ℕ, Some, List, length, rules, sym, ap, subst, ◌∙◌}
 use Rattle.std.specs.Prelude.{option_map}
 use Rattle.history_book.specs.Seats.{hand_of, times_range}
 use Rattle.history_book.specs.declared.views.Kept.{Kept}
 use Rattle.mon_topo.specs.HeldHistories.{IsAtHome}
-use Rattle.range_cell.specs.Rest.{AreUnopened, IsRangeAtRest, IsRangeHeld}
-use Rattle.mon_topo.specs.RangeHistories.{IsLegal, acknowledged_rows, opened_slots, serving}
+use Rattle.range_cell.specs.Rest.{HaveJust, IsRangeAtRest, IsRangeHeld}
+use Rattle.mon_topo.specs.RangeHistories.{IsLegal}
 use Rattle.mon_value.specs.Histories.{range_history}
+use Rattle.mon_value.specs.Turns.{Adds}
 use Rattle.mon_value.specs.declared.histories.RangeEntry.{RangeEntry}
 use Rattle.mon_value.specs.declared.positions.Range.{Range}
 use Rattle.mon_value.specs.declared.positions.SlotLeaf.{SlotLeaf}
@@ -47,8 +48,8 @@ write_held-requires g c =
     ap (λ (h : List RangeEntry). lock_answer setting.points h row) same_history
     ∙ ap (λ (n : ℕ). lock_answer n history row) (sym c.requires.limit)
     ∙ sym c.in-Ok-Slots.ensures.told ∙ is in
-    let may : IsToldByRange setting history_then row (told.Slots replicas) =
-    subst (IsToldByRange setting history_then row) tells (taken_true setting own history_then row legal) in
+    let may : IsToldByRange setting history_then (Adds row) (told.Slots replicas) =
+    subst (IsToldByRange setting history_then (Adds row)) tells (taken_true setting own history_then row legal) in
     let number : (hand_of then.purse).own ≡ Some (pass_of know) =
     ap (option_map (λ (kept : Kept). kept.number)) begun.met.own ∙ c.requires.number in
     let pass_is : pass_of then ≡ pass_of know = ap (number_or 0) number in
@@ -60,17 +61,18 @@ write_held-requires g c =
       range = c.requires.range ∙ sym c.begin.ensures.range;
       room = c.in-Ok-Slots.ensures.room;
       serve = may.0;
-      begins = subst (λ (r : Range). IsBeginning setting r row (pass_of then) (acknowledged_rows history_then) replicas then)
+      begins = subst (λ (r : Range). IsBeginning setting r (Adds row) (pass_of then) replicas then)
           (sym c.requires.range)
-          (subst (λ (xs : List SlotLeaf). IsBeginning setting own row (pass_of then) (acknowledged_rows history_then) xs then)
+          (subst (λ (xs : List SlotLeaf). IsBeginning setting own (Adds row) (pass_of then) xs then)
           (sym may.0)
-          (is_beginning setting own history_then then c.begin.ensures.sound.held here begun.whole begun.rows row
+          (is_beginning setting own history_then then c.begin.ensures.sound.held here begun.whole begun.turns (Adds row)
           (pass_of then) (number ∙ ap (λ (n : ℕ). Some n) (sym pass_is)) holds
           (subst (λ (r : Range). IsAtHome setting.held setting.zones r row)
           c.requires.range c.requires.home) may.1));
-      fresh = subst (λ (r : Range). AreUnopened then.seen r (length (opened_slots history_then))) (sym c.requires.range)
-          begun.rows.fresh;
-      few = may.2;
+      turns = subst (λ (r : Range). HaveJust then.seen r history_then) (sym c.requires.range) begun.turns;
+      legal = subst (λ (r : Range). IsLegal setting.held setting.zones setting.points r history_then)
+          (sym c.requires.range) legal;
+      takes = may.1;
     }
 
 pub returns-in-Ok-Slots-clause-rest : goal.returns-in-Ok-Slots-clause-rest
@@ -102,8 +104,8 @@ returns-in-Ok-Slots-clause-written g c =
     let tells : lock_answer c.args.limit history_then row ≡ told.Slots replicas =
     ap (λ (h : List RangeEntry). lock_answer c.args.limit h row) c.begin.ensures.history
     ∙ sym c.in-Ok-Slots.ensures.told ∙ is in
-    let may : IsToldByRange setting history_then row (told.Slots replicas) =
-    subst (IsToldByRange setting history_then row)
+    let may : IsToldByRange setting history_then (Adds row) (told.Slots replicas) =
+    subst (IsToldByRange setting history_then (Adds row))
     (ap (λ (n : ℕ). lock_answer n history_then row) (sym c.requires.limit) ∙ tells)
     (taken_true setting own history_then row legal) in
     let number : (hand_of then.purse).own ≡ Some (pass_of know) =
@@ -112,7 +114,7 @@ returns-in-Ok-Slots-clause-written g c =
     (tells ∙ ap (λ (xs : List SlotLeaf). told.Slots xs) may.0)
     (subst (λ (r : Range). HasBegun leaves r history_then know then) (sym c.requires.range) begun)
     c.write_held.result
-    (subst (λ (n : ℕ). HasEnded leaves range row history_then n then c.write_held.new.know c.write_held.result)
+    (subst (λ (n : ℕ). HasEnded leaves range (Adds row) history_then n then c.write_held.new.know c.write_held.result)
     (ap (number_or 0) number) c.write_held.ensures.ended)
 
 pub returns-in-Ok-OldPoint-clause-rest : goal.returns-in-Ok-OldPoint-clause-rest

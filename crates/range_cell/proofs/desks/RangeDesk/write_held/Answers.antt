@@ -1,12 +1,13 @@
-use Rattle.std.proofs.Common.{◌≡◌, ◌<◌, List, [], length, sym, ap, subst, ◌∙◌}
+use Rattle.std.proofs.Common.{◌≡◌, ◌<◌, List, [], sym, ap, subst, ◌∙◌}
 use Rattle.history_book.specs.Seats.{times_range}
-use Rattle.mon_topo.specs.RangeHistories.{acknowledged_rows, serving}
+use Rattle.mon_topo.specs.RangeHistories.{serving}
 use Rattle.mon_value.specs.Histories.{range_history}
+use Rattle.mon_value.specs.Turns.{Adds}
 use Rattle.mon_value.specs.declared.positions.Range.{Range}
 use Rattle.mon_value.specs.declared.positions.SlotLeaf.{SlotLeaf}
 use Rattle.mon_value.specs.declared.rows.Row.{Row}
 use Rattle.owners.specs.Puts.{pass_of}
-use Rattle.range_cell.proofs.BeginLemmas.{withdrawn_rows}
+use Rattle.range_cell.proofs.BeginLemmas.{withdrawn_turns}
 use Rattle.range_cell.specs.Calls.{HasMetRange, others_of}
 use Rattle.range_cell.specs.Rest.{HaveJust}
 use Rattle.range_cell.specs.Stages.{IsConcluding, IsThroughAt, IsWithdrawing}
@@ -15,11 +16,7 @@ use Rattle.range_cell.proofs.desks.RangeDesk.write_held.Goals as goal
 
 pub enter_leaves-requires : goal.enter_leaves-requires
 enter_leaves-requires g c = record {
-  begins = record {
-    pass = pass_of c.args.know.now;
-    rows = acknowledged_rows c.args.self.now.replay.history;
-    begins = c.requires.begins;
-  };
+  begins = record { pass = pass_of c.args.know.now; begins = c.requires.begins };
 }
 
 pub conclude-requires : goal.conclude-requires
@@ -30,7 +27,6 @@ conclude-requires g c =
     let entering = c.in-Ok.entering in
     let range = c.args.range in
     let history = c.args.self.now.replay.history in
-    let rows = acknowledged_rows history in
     let pass = pass_of know in
     record {
       held = c.requires.held;
@@ -38,18 +34,18 @@ conclude-requires g c =
       machine = went.range;
       room = c.requires.room;
       key = went.key ∙ ap (λ (r : Row). r.key) (sym went.row);
-      through = subst (λ (r : Row). IsConcluding setting range r history c.enter_leaves.new.know entering.machine.stage)
-          (sym went.row)
+      through = subst (λ (r : Row). IsConcluding setting range (Adds r) history c.enter_leaves.new.know
+          entering.machine.stage) (sym went.row)
           (record {
             pass = pass;
             begun = know;
-            through = subst (λ (replicas : List SlotLeaf). IsThroughAt range c.args.row.now pass rows know replicas
+            through = subst (λ (replicas : List SlotLeaf). IsThroughAt range (Adds c.args.row.now) pass know replicas
                 c.enter_leaves.new.know entering.machine.stage) c.requires.serve
-                (went.through pass rows c.requires.begins);
-            fresh = c.requires.fresh;
-            lies = c.requires.begins.home.1;
-            source = c.requires.begins.source;
-            few = c.requires.few;
+                (went.through pass c.requires.begins);
+            just = c.requires.turns;
+            legal = c.requires.legal;
+            home = c.requires.begins.home;
+            takes = c.requires.takes;
           });
     }
 
@@ -61,30 +57,29 @@ returns-in-Ok-clause-ended g c =
     let entering = c.in-Ok.entering in
     let range = c.args.range in
     let history = c.args.self.now.replay.history in
-    let rows = acknowledged_rows history in
     let pass = pass_of know in
-    subst (λ (r : Row). HasEnded leaves range r history pass know c.conclude.new.know c.conclude.result) went.row
+    subst (λ (r : Row). HasEnded leaves range (Adds r) history pass know c.conclude.new.know c.conclude.result) went.row
     (c.conclude.ensures.ended pass know
-    (subst (λ (r : Row). IsThroughAt range r pass rows know (serving history) c.enter_leaves.new.know
+    (subst (λ (r : Row). IsThroughAt range (Adds r) pass know (serving history) c.enter_leaves.new.know
     entering.machine.stage) (sym went.row)
-    (subst (λ (replicas : List SlotLeaf). IsThroughAt range c.args.row.now pass rows know replicas
+    (subst (λ (replicas : List SlotLeaf). IsThroughAt range (Adds c.args.row.now) pass know replicas
     c.enter_leaves.new.know entering.machine.stage) c.requires.serve
-    (went.through pass rows c.requires.begins))))
+    (went.through pass c.requires.begins))))
 
 pub give_back-requires : goal.give_back-requires
 give_back-requires g c =
     let know = c.args.know.now in
     let history = c.args.self.now.replay.history in
     let pass = pass_of know in
-    let w = c.in-Err.ensures.withdrawn pass (acknowledged_rows history) c.requires.begins in
+    let w = c.in-Err.ensures.withdrawn pass c.requires.begins in
     let gone = c.enter_leaves.new.know in
     record {
       held = c.requires.held;
       holds = subst (λ (r : Range). 0 < times_range r gone.purse.holds) c.requires.range w.held;
-      rows = subst (λ (r : Range). HaveJust gone.seen r history) c.requires.range
-          (withdrawn_rows c.args.range pass history know gone
-          (subst (λ (replicas : List SlotLeaf). IsWithdrawing c.args.range pass (acknowledged_rows history) know replicas
-          gone []) c.requires.serve w) c.requires.fresh);
+      turns = subst (λ (r : Range). HaveJust gone.seen r history) c.requires.range
+          (withdrawn_turns c.args.range pass history know gone
+          (subst (λ (replicas : List SlotLeaf). IsWithdrawing c.args.range pass know replicas gone []) c.requires.serve w)
+          c.requires.turns);
     }
 
 pub returns-in-Err-clause-ended : goal.returns-in-Err-clause-ended
@@ -95,9 +90,8 @@ returns-in-Err-clause-ended g c =
     let gone = c.enter_leaves.new.know in
     record {
       mid = gone;
-      withdrawn = subst (λ (replicas : List SlotLeaf). IsWithdrawing c.args.range pass (acknowledged_rows history) know
-          replicas gone []) c.requires.serve
-          (c.in-Err.ensures.withdrawn pass (acknowledged_rows history) c.requires.begins);
+      withdrawn = subst (λ (replicas : List SlotLeaf). IsWithdrawing c.args.range pass know replicas gone [])
+          c.requires.serve (c.in-Err.ensures.withdrawn pass c.requires.begins);
       back = record {
         met = subst (λ (r : Range). HasMetRange g.N.BookName.book.leaves r (others_of r gone) gone c.give_back.new.know)
             (sym c.requires.range) c.give_back.ensures.met;
