@@ -1,19 +1,20 @@
-"""Scripts that are made by chance, with blocks, leaves that go down and standing queries, and which of their answers may
-come.
+"""Scripts that are made by chance, with blocks, leaves that go down, trims and standing queries, and which of their
+answers may come.
 
 The lines of a block run beside each other. Of the rows that a feed of the block brings to a range, a query there has
-seen those of a front, and all that stood before the block. A pour of two files is two feeds that go on at once,
-wherever it stands. How rows, switches and recoveries come out is worked out by `replicas.py`: what is printed of them
-may come if some order of their steps brings it about, and all states in which such orders end are kept until what is
-printed later tells which of them it is. What is printed outside of blocks is worked out from these states and the
-points alone. At the end all leaves come up, and all that was accepted is asked for."""
+seen those of a front, and all that stood before the block, but for those that some of the block's trims hide. A pour of
+two files is two feeds that go on at once, wherever it stands. How rows, trims, switches, recoveries and retirements
+come out is worked out by `replicas.py`: what is printed of them may come if some order of their steps brings it about,
+and all states in which such orders end are kept until what is printed later tells which of them it is. What is printed
+outside of blocks is worked out from these states alone. At the end all leaves come up, and all that was accepted and is
+not hidden is asked for."""
 
 import json
 import re
 from dataclasses import dataclass
 
 import sql
-from replicas import Beside, Setting
+from replicas import Beside, Setting, standing
 
 SUMS = sql.ALL
 QUESTIONS = ("query", "check", "explain")
@@ -50,10 +51,10 @@ class Script:
     """A script over points of some series in one or four zones, each series of which one feed of a block brings."""
 
     def __init__(self, chance):
-        # Whether leaves go down, and whether queries stand.
-        self.has_switches, self.has_ticks = chance.random() < 0.6, chance.random() < 0.4
+        # Whether leaves go down, whether queries stand, and whether ranges are trimmed.
+        self.has_switches, self.has_ticks, self.has_trims = (chance.random() < part for part in (0.6, 0.4, 0.5))
         self.zones = [{**zone, "leaves": [*zone["leaves"], f"{zone['name']}c"]} for zone in map(sql.zone, range(4))]
-        if chance.random() < (0.7 if self.has_switches else 0.4):
+        if chance.random() < (0.7 if self.has_switches or self.has_trims else 0.4):
             self.zones = [{**self.zones[0], "locations": [f"c{number}" for number in range(4)]}]
         self.limit = chance.randint(5, 60) if chance.random() < 0.15 else 1_000_000
         self.setting = Setting(self.zones)
@@ -61,11 +62,12 @@ class Script:
             (f"u{chance.randrange(4)}", f"job{chance.randrange(10)}", f"c{chance.randrange(4)}", str(task))
             for task in range(chance.randint(1, 12))
         ]
-        self.files, self.parts = {}, []
+        self.files, self.parts, self.bounds = {}, [], [0]
         self.end = 0
         if self.has_ticks:
             self.parts += [(False, [self.a_standing(chance)]) for _ in range(chance.randint(0, 3))]
-        for _ in range(chance.randint(3, 9) if self.has_switches or self.has_ticks else chance.randint(1, 4)):
+        is_long = self.has_switches or self.has_ticks or self.has_trims
+        for _ in range(chance.randint(3, 9) if is_long else chance.randint(1, 4)):
             if self.has_switches and chance.random() < 0.3:
                 self.add_loss(chance)
             else:
@@ -96,6 +98,7 @@ class Script:
 
     def a_line(self, chance, is_block, begun, part):
         kinds = {"feed": 5, "pour": 2, "ask": 4, "switch": 6 * self.has_switches, "recover": 4 * self.has_switches}
+        kinds |= {"trim": 4 * self.has_trims, "retire": 2 * self.has_trims}
         if not is_block:
             kinds |= {"follow": 3, "standing": 3 * self.has_ticks, "tick": 10 * self.has_ticks}
         kind = chance.choices(list(kinds), list(kinds.values()))[0]
@@ -117,6 +120,17 @@ class Script:
             leaves, ranges = self.setting.zones[chance.choice([0, 0, -1])]
             leaf = chance.choice([*leaves, leaves[-1], leaves[-1], leaves[-1]])
             return Line("recover", (self.setting.ranges[chance.choice(ranges)], self.setting.leaves[leaf]))
+        if kind == "trim":
+            _, ranges = self.setting.zones[chance.choice([0, 0, -1])]
+            ends = [end for records in self.files.values() for end, _, _ in records] or [begun]
+            moments = [begun, self.end, chance.choice(ends), chance.choice(ends) + 1, *self.bounds[-2:]]
+            self.bounds.append(chance.choice(moments) if chance.random() < 0.95 else FAR)
+            return Line("trim", (self.setting.ranges[chance.choice(ranges)], self.bounds[-1]))
+        if kind == "retire":
+            _, ranges = self.setting.zones[chance.choice([0, 0, -1])]
+            leaves, _ = self.setting.zones[chance.choice([0, 0, 0, -1])]
+            place, leaf = chance.choice(ranges), chance.choice(leaves)
+            return Line("retire", (self.setting.ranges[place], self.setting.leaves[leaf]))
         if kind == "standing":
             return self.a_standing(chance)
         moments = 3 * [self.end, self.end, self.end - 30, begun] + [begun // 2, FAR]
@@ -144,7 +158,7 @@ class Script:
             for fields in own
             if chance.random() < 0.5
         ]
-        if self.has_switches:
+        if self.has_switches or self.has_trims:
             # So that all orders can be gone through.
             room = MOST_ROWS - sum(len(self.files[name]) for name in names)
             kept = sorted(chance.sample(range(len(records)), min(len(records), chance.randint(0, room))))
@@ -193,8 +207,8 @@ class Course:
     def __init__(self, script):
         self.script, self.setting, self.limit = script, script.setting, script.limit
         self.states = {self.setting.begin()}
-        # Of each series its points, as ends and values.
-        self.points = {}
+        # Of each series the end of its newest point, hidden or not.
+        self.lasts = {}
         self.standing, self.last = [], None
 
     def range_of(self, fields):
@@ -233,9 +247,11 @@ class Course:
         return state, outcome + "\n", []
 
     def operation(self, line):
-        """What a line does that switches a leaf or recovers a range."""
-        if line.word == "recover":
-            return "recover", self.setting.ranges.index(line.given[0]), self.setting.leaves.index(line.given[1])
+        """What a line does that switches a leaf, or that recovers, trims or retires a range."""
+        if line.word == "trim":
+            return "trim", self.setting.ranges.index(line.given[0]), line.given[1]
+        if line.word in ("recover", "retire"):
+            return line.word, self.setting.ranges.index(line.given[0]), self.setting.leaves.index(line.given[1])
         return "switch", self.setting.leaves.index(line.given[0]), line.word == "down"
 
     def feeds(self, names, state):
@@ -253,7 +269,7 @@ class Course:
             if end <= last:
                 refused.append(f"row {number}: OldPoint {last}")
                 continue
-            state, outcome = self.setting.alone(state, ("write", self.range_of(fields)))
+            state, outcome = self.setting.alone(state, ("write", self.range_of(fields), (fields, end, value)))
             if outcome:
                 refused.append(f"row {number}: {outcome}")
             else:
@@ -263,21 +279,21 @@ class Course:
         return state, "".join(f"{line}\n" for line in lines), accepted
 
     def last_of(self, fields):
-        return self.points[fields][-1][0] if fields in self.points else -1
+        return self.lasts.get(fields, -1)
 
     def accept(self, accepted):
-        for end, value, fields in accepted:
-            self.points.setdefault(fields, []).append((end, value))
+        for end, _, fields in accepted:
+            self.lasts[fields] = end
 
     # ---- queries
 
     def ask(self, word, moment, text, state):
-        """What a query prints over all that was accepted."""
+        """What a query prints over all that was accepted and is not hidden."""
         operations = TEXTS[text][1]
         sizes = {place: [0, 0] for place in range(len(self.setting.ranges))}
-        rows = {}
-        for fields, values in self.found_at(moment, text).items():
-            rows[fields] = sum(values)
+        found = found_at(moment, text, state)
+        rows = sums(found)
+        for fields, values in found.items():
             sizes[self.range_of(fields)][0] += len(values)
             sizes[self.range_of(fields)][1] += 1
         sent = self.setting.look(state, sizes, self.limit)
@@ -289,11 +305,6 @@ class Course:
         told = [f"leaf {name} read {sent[leaf]}" if leaf in sent else f"leaf {name} unread 0" for leaf, name in names]
         return table(rows, moment) + "".join(f"{line}\n" for line in operations + told)
 
-    def found_at(self, moment, text):
-        """The values in the reach of a query of each series that has some."""
-        found = {fields: in_reach(points, moment, TEXTS[text][0]) for fields, points in self.points.items()}
-        return {fields: values for fields, values in found.items() if values}
-
     def follow(self, moment, period, count, text, state):
         """What a query prints that is followed: its table at each moment over the same points."""
         asked = self.ask("query", moment, text, state)
@@ -301,10 +312,10 @@ class Course:
             return asked
         printed = ""
         for at in range(moment, moment + count * period, period):
-            found = self.found_at(at, text)
+            found = found_at(at, text, state)
             if load(found) > self.limit:
                 return f"refused: StepLimit {self.limit}\n"
-            printed += f"at {at}:\n{table({fields: sum(values) for fields, values in found.items()}, at)}"
+            printed += f"at {at}:\n{table(sums(found), at)}"
         return printed
 
     # ---- standing queries
@@ -370,9 +381,14 @@ class Course:
                 asked.append((line, printed))
             else:
                 works.append([(self.operation(line), printed[0])])
-        beside = Beside(self.setting, works)
-        ends = beside.ends(self.states)
-        if not ends or not all(self.may_be_asked(line, printed, brought, beside.passed) for line, printed in asked):
+        trims = [of for [(of, why), *_] in filter(None, works) if of[0] == "trim" and not why.startswith("refused")]
+        ends = set()
+        for stood, starts in self.alike().items():
+            beside = Beside(self.setting, works)
+            found, fronts = beside.ends(starts), self.fronts_of(brought, stood, trims)
+            if all(self.may_be_asked(line, printed, fronts, beside.passed) for line, printed in asked):
+                ends |= found
+        if not ends:
             return None
         self.states = ends
         for accepted in brought:
@@ -392,18 +408,24 @@ class Course:
                 if why != f"OldPoint {last}":
                     return None, accepted
                 continue
-            work.append((("write", self.range_of(fields)), why))
+            work.append((("write", self.range_of(fields), (fields, end, value)), why))
             if not why:
                 accepted.append((end, value, fields))
                 lasts[fields] = end
         return (None if refused else work), accepted
 
-    def may_be_asked(self, line, printed, brought, passed):
+    def alike(self):
+        """The states in which the same points stand, by the points of each range."""
+        alike = {}
+        for state in self.states:
+            alike.setdefault(tuple(points for _, points in state.ranges), set()).add(state)
+        return alike
+
+    def may_be_asked(self, line, printed, fronts, passed):
         """Whether a query in a block may print this: its table is that of all that stood before, and of each feed and
-        range a front; or it is refused for what some state of the block has."""
+        range a front, but for what some trims hide; or it is refused for what some state of the block has."""
         moment, text = line.given
         span, operations = TEXTS[text]
-        fronts = self.fronts_of(brought)
         if printed[0].startswith("refused: NoReplica "):
             return self.may_lack(printed[0], passed)
         if printed[0].startswith("refused: "):
@@ -417,39 +439,32 @@ class Course:
         told = printed[len(rows) + 2 :]
         return told[: len(operations)] == operations and self.may_have_sent(told[len(operations) :], rows, passed)
 
-    def fronts_of(self, brought):
-        """Of each range and feed the rows that it brings, and each range's series that none brings."""
-        fronts, still = [], [fields for fields in self.points]
+    def fronts_of(self, brought, stood, trims):
+        """Of each range and feed the points that may be seen while its rows come and trims hide some, with their
+        series; and the same of each range's series that no feed brings."""
+        fronts, left = [], [set(points) for points in stood]
         for accepted in brought:
             for place in {self.range_of(fields) for _, _, fields in accepted}:
-                rows = [row for row in accepted if self.range_of(row[2]) == place]
-                fronts.append(rows)
-                still = [fields for fields in still if fields not in {row[2] for row in rows}]
-        return [*fronts, *([(None, None, fields)] for fields in still)]
-
-    def found_in(self, rows, count, moment, span):
-        """The points in reach of each series of such rows, where the first of these were seen."""
-        points = {fields: list(self.points.get(fields, [])) for _, _, fields in rows}
-        for end, value, fields in rows[:count]:
-            if end is not None:
-                points[fields].append((end, value))
-        found = {fields: in_reach(of, moment, span) for fields, of in points.items()}
-        return {fields: values for fields, values in found.items() if values}
+                rows = [(fields, end, value) for end, value, fields in accepted if self.range_of(fields) == place]
+                own = {fields for fields, _, _ in rows}
+                old = tuple(point for point in stood[place] if point[0] in own)
+                left[place] -= set(old)
+                fronts.append((own, views(old, rows, [before for _, of, before in trims if of == place])))
+        for place, points in enumerate(left):
+            bounds = [before for _, of, before in trims if of == place]
+            fronts.append(({point[0] for point in points}, views(tuple(sorted(points)), [], bounds)))
+        return fronts
 
     def most_load(self, fronts, moment, span):
-        return sum(load(self.found_in(rows, len(rows), moment, span)) for rows in fronts)
+        return sum(max(load(in_reach(points, moment, span)) for points in seen) for _, seen in fronts)
 
     def least_load(self, fronts, moment, span, wanted):
         """The least load with which these rows may be found, above any limit where they may not."""
         total, left = 0, set(wanted)
-        for rows in fronts:
-            loads, own = [], {fields for _, _, fields in rows}
-            for count in range(len(rows) + 1):
-                found = self.found_in(rows, count, moment, span)
-                sums = {fields: sum(values) for fields, values in found.items()}
-                if sums == {fields: wanted[fields] for fields in own if fields in wanted}:
-                    loads.append(load(found))
-            total += min(loads, default=float("inf"))
+        for own, seen in fronts:
+            rows = {fields: wanted[fields] for fields in own if fields in wanted}
+            found = [in_reach(points, moment, span) for points in seen]
+            total += min((load(of) for of in found if sums(of) == rows), default=float("inf"))
             left -= own
         return float("inf") if left else total
 
@@ -482,8 +497,39 @@ class Course:
         return sent == len(rows)
 
 
+def views(stood, rows, bounds):
+    """The points that may be there while rows come, one behind the other, and trims hide what they find."""
+    left, known = [(0, 0, stood)], set()
+    while left:
+        node = left.pop()
+        if node in known:
+            continue
+        known.add(node)
+        count, trimmed, points = node
+        if count < len(rows):
+            left.append((count + 1, trimmed, (*points, rows[count])))
+        for number, before in enumerate(bounds):
+            if not trimmed & 1 << number:
+                left.append((count, trimmed | 1 << number, standing(points, before)))
+    return {points for _, _, points in known}
+
+
+def found_at(moment, text, state):
+    """The values in the reach of a query of each series that has some."""
+    return in_reach([point for _, points in state.ranges for point in points], moment, TEXTS[text][0])
+
+
 def in_reach(points, moment, span):
-    return [value for end, value in points if moment - span < end <= moment]
+    """The values in a reach of each series that has some."""
+    found = {}
+    for fields, end, value in points:
+        if moment - span < end <= moment:
+            found.setdefault(fields, []).append(value)
+    return found
+
+
+def sums(found):
+    return {fields: sum(values) for fields, values in found.items()}
 
 
 def load(found):

@@ -1,11 +1,11 @@
 """What leaves and ranges come to while lines run beside each other, worked out step by step from the rules alone.
 
 A state is a value: of each leaf how long its history is, whether it is down and whether it has held a row; of each
-range its replicas, slot by slot, with whether they serve, and whether a row was acknowledged there. A line's work is
-a list of operations, and each operation goes step by step: a row asks the leaf of each replica for room and then
-enters each, a recovery asks its sources, then its leaf, and enters it, and a switch is one step. A range is held from
-the first step of a row or a recovery to its end. `ends` gives all states in which lines beside each other may end, if
-each operation comes out as it is said to have."""
+range its replicas, slot by slot, with whether they serve, and the points that were acknowledged there and that no trim
+hides. A line's work is a list of operations, and each operation goes step by step: a row or a trim asks the leaf of
+each replica for room and then enters each, a recovery asks its sources, then its leaf, and enters it, and a switch and
+a retirement are one step. A range is held from the first step of a row, a trim or a recovery to its end. `ends` gives
+all states in which lines beside each other may end, if each operation comes out as it is said to have."""
 
 from typing import NamedTuple
 
@@ -17,6 +17,11 @@ class TooMany(Exception):
     """More orders would have to be looked at than are."""
 
 
+def standing(points, before):
+    """The points that a trim below a bound leaves."""
+    return tuple(point for point in points if point[1] >= before)
+
+
 class LeafState(NamedTuple):
     length: int
     down: bool
@@ -25,7 +30,8 @@ class LeafState(NamedTuple):
 
 class State(NamedTuple):
     leaves: tuple
-    # Of each range its slots, as pairs of a leaf and whether the replica serves, and whether it has a row.
+    # Of each range its slots, as pairs of a leaf and whether the replica serves, and its points in their order, as
+    # series, ends and values.
     ranges: tuple
 
     def serving(self, place):
@@ -36,8 +42,12 @@ class State(NamedTuple):
         changed = LeafState(length, down, held)
         return self._replace(leaves=self.leaves[:leaf] + (changed,) + self.leaves[leaf + 1 :])
 
-    def with_range(self, place, slots, has_rows):
-        return self._replace(ranges=self.ranges[:place] + ((slots, has_rows),) + self.ranges[place + 1 :])
+    def with_range(self, place, slots, points):
+        return self._replace(ranges=self.ranges[:place] + ((slots, points),) + self.ranges[place + 1 :])
+
+    def without(self, place, leaves):
+        """The slots of a range of which those on some leaves serve no more."""
+        return tuple((leaf, serves and leaf not in leaves) for leaf, serves in self.ranges[place][0])
 
 
 class Setting:
@@ -57,7 +67,7 @@ class Setting:
         """The state before any line."""
         lengths = [sum(leaf in replicas for replicas in self.replicas) for leaf in range(len(self.leaves))]
         leaves = tuple(LeafState(length, False, False) for length in lengths)
-        return State(leaves, tuple((tuple((leaf, True) for leaf in of), False) for of in self.replicas))
+        return State(leaves, tuple((tuple((leaf, True) for leaf in of), ()) for of in self.replicas))
 
     def founds(self, founds):
         return "".join(f" {self.leaves[leaf]}@{cut}" for leaf, cut in founds)
@@ -66,35 +76,50 @@ class Setting:
 
     def step(self, state, operation, phase):
         word, *what = operation
-        return {"write": self.write, "recover": self.recover, "switch": self.switch}[word](state, phase, *what)
+        return getattr(self, word)(state, phase, *what)
 
-    def write(self, state, phase, place):
-        """A row asks each leaf for room, and then enters each that had some."""
+    def write(self, state, phase, place, point):
+        state, phase, missed = self.turn(state, phase, place, True)
+        if missed is None or len(missed) == len(state.serving(place)):
+            return state, phase, None if missed is None else self.unavailable(place, missed)
+        points = tuple(sorted((*state.ranges[place][1], point)))
+        return state.with_range(place, state.without(place, missed), points), None, ""
+
+    def trim(self, state, phase, place, before):
+        state, phase, missed = self.turn(state, phase, place, False)
+        count = len(state.serving(place))
+        if missed is None or len(missed) == count:
+            return state, phase, None if missed is None else "refused: " + self.unavailable(place, missed)
+        state = state.with_range(place, state.without(place, missed), standing(state.ranges[place][1], before))
+        return state, None, f"trim {self.ranges[place]}: took {count - len(missed)}, missed {len(missed)}"
+
+    def unavailable(self, place, missed):
+        return f"Unavailable {self.ranges[place]}:{self.founds(missed.items())}"
+
+    def turn(self, state, phase, place, is_row):
+        """A row or a trim asks each leaf for room, and then enters each that had some: the state then, the next phase
+        or none, and behind the last one the leaves that missed it, with their lengths."""
         leaves = state.serving(place)
         at, founds = phase or (0, ())
         entered = at - len(leaves)
         leaf = leaves[entered if entered >= 0 else at]
-        length, down, _ = state.leaves[leaf]
+        length, down, held = state.leaves[leaf]
         if entered < 0:
             founds += (length if down else None,)
         elif down:
             founds = founds[:entered] + (length,) + founds[entered + 1 :]
         else:
-            state = state.with_leaf(leaf, length + 1, False, True)
+            state = state.with_leaf(leaf, length + 1, False, held or is_row)
         at += 1
         while len(leaves) <= at < 2 * len(leaves) and founds[at - len(leaves)] is not None:
             at += 1
         if at < 2 * len(leaves):
             return state, (at, founds), None
-        missed = {leaf: cut for leaf, cut in zip(leaves, founds) if cut is not None}
-        if len(missed) == len(leaves):
-            return state, None, f"Unavailable {self.ranges[place]}:{self.founds(missed.items())}"
-        slots = tuple((leaf, serves and leaf not in missed) for leaf, serves in state.ranges[place][0])
-        return state.with_range(place, slots, True), None, ""
+        return state, None, {leaf: cut for leaf, cut in zip(leaves, founds) if cut is not None}
 
     def recover(self, state, phase, place, leaf):
         """A recovery asks the leaves of the replicas that serve until one is up, then its own leaf, and enters that."""
-        slots, has_rows = state.ranges[place]
+        slots, points = state.ranges[place]
         sources = state.serving(place)
         if not phase:
             if leaf in sources:
@@ -116,9 +141,19 @@ class Setting:
             return state, None, f"refused: TargetDown {length}"
         if at == len(sources):
             return state, (at + 1, founds), None
-        state = state.with_leaf(leaf, length + 1, False, held or has_rows)
-        state = state.with_range(place, (*slots, (leaf, True)), has_rows)
+        state = state.with_leaf(leaf, length + 1, False, held or len(points) > 0)
+        state = state.with_range(place, (*slots, (leaf, True)), points)
         return state, None, f"recover {self.ranges[place]} {self.leaves[leaf]}: slot {len(slots)}"
+
+    def retire(self, state, phase, place, leaf):
+        slots, points = state.ranges[place]
+        if leaf not in state.serving(place):
+            return state, None, "refused: NotServing"
+        slot = slots.index((leaf, True))
+        if len(state.serving(place)) == 1:
+            return state, None, f"refused: LastServing {slot}"
+        state = state.with_range(place, state.without(place, [leaf]), points)
+        return state, None, f"retire {self.ranges[place]} {self.leaves[leaf]}: slot {slot}"
 
     def switch(self, state, phase, leaf, goes_down):
         length, down, held = state.leaves[leaf]
@@ -128,15 +163,15 @@ class Setting:
         return state, None, f"{'down' if goes_down else 'up'} {self.leaves[leaf]}: done"
 
     def touched(self, state, operation, phase):
-        """The leaf that the next step looks at."""
-        word, place, *leaf = operation
-        if word == "switch":
-            return place
+        """The leaf that the next step looks at, if it looks at one."""
+        word, place, what = operation
+        if word in ("switch", "retire"):
+            return place if word == "switch" else None
         leaves = state.serving(place)
         at = phase[0] if phase else 0
         if at < len(leaves):
             return leaves[at]
-        return leaf[0] if leaf else leaves[at - len(leaves)]
+        return what if word == "recover" else leaves[at - len(leaves)]
 
     def alone(self, state, operation):
         """An operation from its first step to its end: the state then, and its outcome."""
@@ -202,7 +237,8 @@ class Beside:
         self.switched = {one[1] for work in operations for one in work if one[0] == "switch"}
         places = [{one[1] for one in work if one[0] != "switch"} for work in operations]
         self.shared = {place for of in places for place in of if sum(place in other for other in places) > 1}
-        self.recovered = {one[1] for work in operations for one in work if one[0] == "recover"}
+        # The ranges to which more comes than rows.
+        self.changed = {one[1] for work in operations for one in work if one[0] not in ("switch", "write")}
         # All states that were come through.
         self.passed = set()
 
@@ -276,4 +312,4 @@ class Beside:
         """Whether it may count which of several lines goes first at a range."""
         if place not in self.shared:
             return False
-        return place in self.recovered or any(leaf in self.switched for leaf in state.serving(place))
+        return place in self.changed or any(leaf in self.switched for leaf in state.serving(place))

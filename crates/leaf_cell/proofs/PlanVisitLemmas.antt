@@ -1,26 +1,23 @@
 -- What a caller is told of a leaf is what its reader found there.
-use Rattle.std.proofs.Common.{◌≡◌, ◌∙◌, ◌+◌, ℕ, ℤ, Bool, true, false, List, [], length, refl, sym, ap, subst, Some}
-use Rattle.std.proofs.Common.{None, Ok, Err}
-use Rattle.std.specs.Prelude.{Option, Result, IfOk, OnErr, is_some}
+use Rattle.std.proofs.Common.{◌≡◌, ◌∙◌, ◌+◌, ℕ, ℤ, List, sym, ap, subst, Some}
+use Rattle.std.proofs.Common.{Ok, Err}
+use Rattle.std.specs.Prelude.{Option, Result, IfOk}
 use Rattle.know.specs.Knowledge.{Knowledge, stopped_count}
 use Rattle.know.specs.declared.answers.Found.{Found}
 use Rattle.know.specs.declared.answers.Found.TheVariants as found
 use Rattle.leaf_cell.specs.PlanVisits.{FindsVisit, HasFoundSo, IsAnswerOf, IsToldOf, TellsVisit, sent_by}
 use Rattle.leaf_cell.specs.Visits.{HasReadUp, HasVisited}
 use Rattle.leaf_cell.specs.declared.plan_reader.VisitFault.{VisitFault}
-use Rattle.leaf_cell.specs.declared.plan_reader.VisitFault.TheVariants as fault
 use Rattle.leaf_cell.specs.declared.plan_reader.Visited.{Visited}
-use Rattle.leaf_cell.specs.declared.plan_reader.Visited.TheVariants as visited
 use Rattle.leaf_eval.specs.Visits.{IsVisit}
 use Rattle.leaf_eval.specs.declared.visits.Visit.{Visit}
 use Rattle.leaf_eval.specs.declared.visits.Visit.TheVariants as visit
-use Rattle.mon_value.specs.LeafHistories.{is_down}
 use Rattle.mon_value.specs.declared.histories.Entry.{Entry}
 use Rattle.mon_value.specs.declared.positions.Leaf.{Leaf}
 use Rattle.mon_value.specs.declared.positions.RangeSlot.{RangeSlot}
 use Rattle.mon_value.specs.declared.rows.SeriesKey.{SeriesKey}
 use Rattle.typed_trees.specs.declared.plans.Plan.{Plan}
-use Rattle.owners.specs.Calls.{HasFoundDown, HasLooked}
+use Rattle.owners.specs.Calls.{HasFoundDown}
 
 module _ (plan : Plan) (moment : ℤ) (limit : ℕ) (slots : List RangeSlot) (buckets_of : SeriesKey → List ℕ) (leaf : Leaf)
     (before after : Knowledge) where

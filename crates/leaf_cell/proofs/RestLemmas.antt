@@ -1,5 +1,5 @@
 -- A leaf is at rest again once its caller went, and what was added to its history is raised.
-use Rattle.std.proofs.Common.{◌≡◌, ℕ, ◌+◌, ◌-◌, Bool, true, ◌||◌, List, [], ◌∷◌, ◌++◌, append-nil, cond}
+use Rattle.std.proofs.Common.{◌≡◌, ℕ, ℤ, ◌+◌, ◌-◌, Bool, true, ◌||◌, List, [], ◌∷◌, ◌++◌, append-nil, cond}
 use Rattle.std.proofs.Common.{refl, sym, ap, subst, ◌∙◌}
 use Rattle.history_book.proofs.ListLemmas.{added_here}
 use Rattle.history_book.specs.declared.rooms.RoomMove.{RoomMove}
@@ -102,12 +102,13 @@ module _ (setting : Setting) (raise : RaiseIdentity) (n : ℕ) where
         (rests_read reserved (store.with_settled reserved) gone (rests_gone move.Make reserved gone refl gone_is)
         (record { schemas = refl; buckets = refl; history = refl; promised = refl }))
 
-    -- an entry without rows was added
-    pub rests_switched : (e : Entry) → is_switch e ≡ true → brought_rows e ≡ [] → (after : store.LeafView)
+    -- an entry without rows was added, and the caller went with a room more or less
+    pub rests_without_rows : (rooms : RoomMove) (e : Entry) → brought_rows e ≡ []
+        → (store.leaf_with_entry state e).promised ≡ promised_after rooms state.promised → (after : store.LeafView)
         → (gone : owners.LeafView) → after ≡ store.leaf_with_entry state e
-        → gone ≡ parted move.Keep (owners.leaf_owner owner.leaf now.hints (after_append (one.Leaf e) now.book))
+        → gone ≡ parted rooms (owners.leaf_owner owner.leaf now.hints (after_append (one.Leaf e) now.book))
         → IsAtRest setting raise n after gone
-    rests_switched e switches brings after gone after_is gone_is =
+    rests_without_rows rooms e brings spends after gone after_is gone_is =
         let own : now.book.history ≡ of.Leaf owner.leaf = ap (λ (o : Owner). o.history) came.book ∙ came.own in
         let buckets : history_buckets setting.buckets_of state.history
         ≡ history_buckets setting.buckets_of (state.history ++ e ∷ []) = no_more_buckets setting.buckets_of state.history e
@@ -121,10 +122,26 @@ module _ (setting : Setting) (raise : RaiseIdentity) (n : ℕ) where
               (λ i. leaf_history (with_book_entry (own i) (one.Leaf e) now.book.seen) owner.leaf)
               ∙ added_here owner.leaf.0 e now.book.seen.leaves
               ∙ ap (λ h. h ++ e ∷ []) (came.whole ∙ rest.history);
-          promised = ap (λ (b : Bool). cond {A = ℕ} b state.promised (state.promised - 1)) switches ∙ promised_now;
+          promised = spends ∙ ap (promised_after rooms) promised_now;
           raised = subst (HasRaised now.hints) buckets (record { root = raised_now.root; zone = raised_now.zone });
           goes_by = alike state (store.leaf_with_entry state e) refl refl rest.goes_by;
         }))
+
+    -- the leaf was switched
+    pub rests_switched : (e : Entry) → is_switch e ≡ true → brought_rows e ≡ [] → (after : store.LeafView)
+        → (gone : owners.LeafView) → after ≡ store.leaf_with_entry state e
+        → gone ≡ parted move.Keep (owners.leaf_owner owner.leaf now.hints (after_append (one.Leaf e) now.book))
+        → IsAtRest setting raise n after gone
+    rests_switched e switches brings = rests_without_rows move.Keep e brings
+        (ap (λ (b : Bool). cond {A = ℕ} b state.promised (state.promised - 1)) switches)
+
+    -- it hid rows, for which nothing is raised
+    pub rests_trimmed : (pass : ℕ) (range : Range) (slot : Slot) (before : ℤ) → (after : store.LeafView)
+        → (gone : owners.LeafView) → after ≡ store.leaf_with_entry state (entry.Trim pass range slot before)
+        → gone ≡ parted move.TakeBack (owners.leaf_owner owner.leaf now.hints
+        (after_append (one.Leaf (entry.Trim pass range slot before)) now.book)) → IsAtRest setting raise n after gone
+    rests_trimmed pass range slot before =
+        rests_without_rows move.TakeBack (entry.Trim pass range slot before) refl refl
 
     -- it put a row, whose buckets were raised before
     module _ (pass : ℕ) (range : Range) (slot : Slot) (row : Row) (known : hints.Owner)

@@ -11,7 +11,7 @@ ghost use Rattle.mon_value.specs.declared.histories.Entry.TheVariants as entry;
 ghost use Rattle.owners.specs.Calls.{HasLooked, HasPut, HasReserved};
 ghost use Rattle.owners.specs.Copies.{HasCopied};
 ghost use Rattle.owners.specs.Openings.{HasOpened, MayOpen};
-ghost use Rattle.owners.specs.Puts.{MayPut, pass_of};
+ghost use Rattle.owners.specs.Puts.{MayPut, MayTrim, pass_of};
 
 use crate::controls::{Control, ControlFault};
 use crate::desks::LeafDesk;
@@ -74,7 +74,26 @@ impl<N: Names> LeafCell<N> {
         ensures refused { OnErr result (HasLooked (leaf_numbered self.now) know.old.purse.rooms know.old know.new) }
     {
         let (mut desk, key) = self.lock.lock(rt);
-        let found = desk.reserve(tables, know, range, slot, row);
+        let found = desk.reserve(tables, know, range, slot, Some(row));
+        self.lock.release(key, desk);
+        found
+    }
+
+    /// Asks for room for a bound that hides rows of a replica, as `reserve` does for a row.
+    pub fn reserve_trim<R: Wait>(
+        &self,
+        rt: &R,
+        tables: &Tables<N>,
+        know: &mut Know<N>,
+        range: Range,
+        slot: Slot,
+    ) -> Result<Found, OutOfMemory>
+        requires opened { is_opened range slot (leaf_history know.old.seen (leaf_numbered self.now)) ≡ true }
+        ensures reserved { IfOk result (λ found. HasReserved (leaf_numbered self.now) found know.old know.new) }
+        ensures refused { OnErr result (HasLooked (leaf_numbered self.now) know.old.purse.rooms know.old know.new) }
+    {
+        let (mut desk, key) = self.lock.lock(rt);
+        let found = desk.reserve(tables, know, range, slot, None);
         self.lock.release(key, desk);
         found
     }
@@ -96,6 +115,27 @@ impl<N: Names> LeafCell<N> {
     {
         let (mut desk, key) = self.lock.lock(rt);
         let found = desk.put(tables, know, range, slot, row);
+        self.lock.release(key, desk);
+        found
+    }
+
+    /// Hides the rows of a replica that end before a bound, where room was made for that, or gives the room back where
+    /// the leaf is down. No bit is raised, and it is never refused for want of memory.
+    pub fn trim<R: Wait>(
+        &self,
+        rt: &R,
+        tables: &Tables<N>,
+        know: &mut Know<N>,
+        range: Range,
+        slot: Slot,
+        before: i64,
+    ) -> Found
+        requires may { MayTrim N.setting know.old (leaf_numbered self.now) range slot }
+        ensures trimmed { HasPut (leaf_numbered self.now) (entry.Trim (pass_of know.old) range slot before) result
+            know.old know.new }
+    {
+        let (mut desk, key) = self.lock.lock(rt);
+        let found = desk.trim(tables, know, range, slot, before);
         self.lock.release(key, desk);
         found
     }

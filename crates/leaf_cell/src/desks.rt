@@ -27,6 +27,7 @@ ghost use Rattle.owners.specs.Receiving.{HasGone};
 
 use crate::raising::raise_at;
 use crate::readers::LeafReader;
+use crate::trims::reserve_turn;
 use history_book::{NewEntry, RoomMove};
 use know::{Copied, Found, Know, Names, Tables};
 use leaf_store::{Entry, LeafState};
@@ -44,14 +45,14 @@ pub(crate) struct LeafDesk<N: Names> {
 }
 
 impl<N: Names> LeafDesk<N> {
-    /// Asks for room for a row.
+    /// Asks for room for a row, or for a bound that hides rows where none is given.
     pub(crate) fn reserve(
         &mut self,
         tables: &Tables<N>,
         know: &mut Know<N>,
         range: Range,
         slot: Slot,
-        row: &Row,
+        row: Option<&Row>,
     ) -> Result<Found, OutOfMemory>
         requires rest { IsAtRest N.setting N.raise self.old.owner.leaf.0 self.old.state self.old.owner }
         requires opened { is_opened range slot (leaf_history know.old.seen self.old.owner.leaf) ≡ true }
@@ -64,7 +65,7 @@ impl<N: Names> LeafDesk<N> {
             self.owner.part(tables, know, RoomMove::Keep);
             return Ok(Found::Down(length));
         }
-        if self.state.reserve(range, slot, row).is_err() {
+        if reserve_turn(&mut self.state, range, slot, row).is_err() {
             self.owner.part(tables, know, RoomMove::Keep);
             return Err(AllocError);
         }

@@ -10,6 +10,7 @@ mod openings;
 mod plan_reader;
 mod raising;
 mod readers;
+mod trims;
 
 pub use cells::LeafCell;
 pub use controls::{Control, ControlFault};

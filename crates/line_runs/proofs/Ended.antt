@@ -1,5 +1,5 @@
 -- How a question ends, by how its query did.
-use Rattle.std.proofs.Common.{◌≡◌, ◌∙◌, ℕ, ℤ, List, Ok, Err, sym, ap, subst}
+use Rattle.std.proofs.Common.{◌≡◌, ◌∙◌, ℕ, ℤ, List, [], Ok, Err, sym, ap, subst}
 use Rattle.std.specs.Prelude.{IfOk, Result, sum_by}
 use Rattle.history_book.specs.Numbers.{times_among}
 use Rattle.know.specs.Knowledge.{Knowledge}
@@ -99,9 +99,9 @@ module _ (store : Setting) (config : Config) (before : Knowledge)
       → {F : Type 0} (result : Result LineRan F)
       → IfOk result (IsRefusedFor config.topology fault)
       → IfOk result (λ ran. (content : LineFiles)
-      → LineWrote config (ran_line form content ran.trace) ran.text before after)
+      → LineWrote config (ran_line form content ran.trace []) ran.text before after)
   refused_ran form after fault suits first goes queried (Ok ran) refused = λ content.
-      subst (λ (r : LineRan). LineWrote config (ran_line form content r.trace) r.text before after)
+      subst (λ (r : LineRan). LineWrote config (ran_line form content r.trace []) r.text before after)
       (sym refused.ran_is)
       (refused_wrote config form content before after (owns_behind after goes) (why.Question refused.told)
       (suits refused.told)
@@ -148,16 +148,16 @@ module _ (store : Setting) (config : Config) (before : Knowledge)
         goes.fronts same.fronts (more held)
 
     wrote : (what : How) → IsHeld → (content : LineFiles) (ran : LineRan) → IsPrinted config what moment text mid answer.trace ran
-        → LineWrote config (ran_line (question what moment text) content ran.trace) ran.text before after
+        → LineWrote config (ran_line (question what moment text) content ran.trace []) ran.text before after
     wrote what held content ran printed =
         let trace : LineTrace = came.Asked moment answer.trace in
         let printed_then : ran.text ≡ line_text config after.seen (asked_line what moment text trace) =
         printed.prints
         ∙ ap (λ t. line_text config mid.seen (asked_line what moment text t)) printed.trace_is
         ∙ sym (prints_alike config mid.seen after.seen moment answer.trace (same_rows held) what text) in
-        subst (λ t. LineWrote config (ran_line (question what moment text) content t) ran.text before after)
+        subst (λ t. LineWrote config (ran_line (question what moment text) content t []) ran.text before after)
         (sym printed.trace_is)
-        (subst (λ w. LineWrote config (ran_line (question what moment text) content trace) w before after)
+        (subst (λ w. LineWrote config (ran_line (question what moment text) content trace []) w before after)
         (sym printed_then)
         (asked_wrote config what moment text content before after (owns_then mid after held goes same) answer.trace
         (look held)))
@@ -165,6 +165,6 @@ module _ (store : Setting) (config : Config) (before : Knowledge)
     pub answered_ran : (what : How) {F : Type 0} (result : Result LineRan F)
         → IfOk result (IsPrinted config what moment text mid answer.trace) → IfOk result (λ ran. IsHeld)
         → IfOk result (λ ran. (content : LineFiles)
-        → LineWrote config (ran_line (question what moment text) content ran.trace) ran.text before after)
+        → LineWrote config (ran_line (question what moment text) content ran.trace []) ran.text before after)
     answered_ran what (Ok ran) printed held = λ content. wrote what held content ran printed
     answered_ran what (Err failed) printed held = tt

@@ -15,9 +15,7 @@ use Rattle.mon_topo.specs.RangeHistories.{acked_row, acknowledged_rows}
 use Rattle.mon_value.proofs.SameLemmas.{same_series-Decides}
 use Rattle.mon_value.specs.Same.{same_series}
 use Rattle.mon_value.specs.LeafHistories.{EndsBefore, IsSource}
-use Rattle.mon_value.specs.declared.histories.Entry.TheVariants as entry
 use Rattle.mon_value.specs.declared.histories.RangeEntry.{RangeEntry}
-use Rattle.mon_value.specs.declared.histories.RangeEntry.TheVariants as range_entry
 use Rattle.mon_value.specs.declared.rows.Row.{Row}
 use Rattle.run_theory.proofs.Callers.{both_all}
 use Rattle.run_traces.specs.LineClaims.{book_row}

@@ -155,7 +155,7 @@ module _ (config : Config) where
     }
 
     finds : Finds config last.seen (lengths first) (lengths last) (pass_of first)
-        (ran_line (form.Feed name) content (line (pass_of first)))
+        (ran_line (form.Feed name) content (line (pass_of first)) [])
     finds = record {
       forth = seen_below first last done.still.fronts;
       suits = tt;
@@ -165,7 +165,7 @@ module _ (config : Config) where
     }
 
     wrote_as_first : (text : List ℕ) → text ≡ feed_text config.topology name (length rows) refusals
-        → LineWrote config (ran_line (form.Feed name) content (line (pass_of first))) text first last
+        → LineWrote config (ran_line (form.Feed name) content (line (pass_of first)) []) text first last
     wrote_as_first text printed = record {
       keeps = place_kept rows first last before behind done;
       made = done.made;
@@ -178,7 +178,7 @@ module _ (config : Config) where
     -- what a feed owes
     pub feed_wrote : (pass : ℕ) (trace : LineTrace) (text : List ℕ) → pass ≡ pass_of first
         → trace ≡ came.Fed pass rows refusals → text ≡ feed_text config.topology name (length rows) refusals
-        → LineWrote config (ran_line (form.Feed name) content trace) text first last
+        → LineWrote config (ran_line (form.Feed name) content trace []) text first last
     feed_wrote pass trace text number is printed =
-        subst (λ (t : LineTrace). LineWrote config (ran_line (form.Feed name) content t) text first last)
+        subst (λ (t : LineTrace). LineWrote config (ran_line (form.Feed name) content t []) text first last)
         (sym (is ∙ ap line number)) (wrote_as_first text printed)

@@ -99,7 +99,7 @@ module _ (config : Config) (moments : Moments) (text : List ℕ) (content : Line
 
     followed_finds : (told : List ℕ) → AreTables typed (source_of mid.seen trace) (all_moments moments) limit told
         → Finds config after.seen (seen_of before.seen) (seen_of after.seen) (pass_of before)
-        (ran_line what content (came.Followed moments.first trace))
+        (ran_line what content (came.Followed moments.first trace) [])
     followed_finds told are = record {
       forth = forth before.seen after.seen owns.fronts;
       suits = refl;
@@ -116,13 +116,13 @@ module _ (config : Config) (moments : Moments) (text : List ℕ) (content : Line
     }
 
     prints : (told : List ℕ) → AreTables typed (source_of mid.seen trace) (all_moments moments) limit told
-        → told ≡ line_text config after.seen (ran_line what content (came.Followed moments.first trace))
+        → told ≡ line_text config after.seen (ran_line what content (came.Followed moments.first trace) [])
     prints told are =
         are.text_is ∙ ap (λ (some : List Row). flat_map (table_then typed some) (all_moments moments)) (sym same)
         ∙ sym (ap (followed_text config after.seen (all_moments moments) trace) type_is)
 
     told_wrote : (told : List ℕ) → AreTables typed (source_of mid.seen trace) (all_moments moments) limit told
-        → LineWrote config (ran_line what content (came.Followed moments.first trace)) told before after
+        → LineWrote config (ran_line what content (came.Followed moments.first trace) []) told before after
     told_wrote told are = record {
       keeps = keeps config what content before after owns;
       made = λ history. [];
@@ -162,21 +162,21 @@ module _ (config : Config) (moments : Moments) (text : List ℕ) (content : Line
     }
 
     form_wrote : is_incremental typed.tree ≡ false
-        → LineWrote config (ran_line what content (came.Refused why.NotIncremental))
-        (line_text config after.seen (ran_line what content (came.Refused why.NotIncremental))) before after
+        → LineWrote config (ran_line what content (came.Refused why.NotIncremental) [])
+        (line_text config after.seen (ran_line what content (came.Refused why.NotIncremental) [])) before after
     form_wrote none = refused_wrote config what content before after owns why.NotIncremental tt
         (record { cause = form_cause none; cuts = λ leaf there. tt })
 
     load_wrote : IsAboveOnce typed (source_of mid.seen trace) (all_moments moments) limit
-        → LineWrote config (ran_line what content (came.Refused (why.Question (unanswered.StepLimit limit trace))))
+        → LineWrote config (ran_line what content (came.Refused (why.Question (unanswered.StepLimit limit trace))) [])
         (line_text config after.seen (ran_line what content (came.Refused (why.Question (unanswered.StepLimit limit
-        trace))))) before after
+        trace))) [])) before after
     load_wrote above = refused_wrote config what content before after owns
         (why.Question (unanswered.StepLimit limit trace)) tt
         (record { cause = load_cause above; cuts = cuts })
 
   abbrev IsWritten : LineRan → Type 0
-  IsWritten ran = LineWrote config (ran_line what content ran.trace) ran.text before after
+  IsWritten ran = LineWrote config (ran_line what content ran.trace []) ran.text before after
 
   written_by : (result : Result (List ℕ) NotFollowed) → IsFollowedBy config text (source_of mid.seen trace)
       (all_moments moments) (refused_as result) → IsWritten (follow_ran config moments.first trace result)
@@ -213,7 +213,7 @@ module _ (store : Setting) (config : Config) (before : Knowledge)
       → IfOk result (IsFollowRan config moments text mid answer.trace)
       → IfOk result (λ ran. AreHeld store.held store.zones store.points after.seen)
       → IfOk result (λ ran. (content : LineFiles)
-      → LineWrote config (ran_line (form.Follow moments text) content ran.trace) ran.text before after)
+      → LineWrote config (ran_line (form.Follow moments text) content ran.trace []) ran.text before after)
   followed_ran (Ok ran) is held = λ content.
       follow_wrote config moments text content before mid after (owns_then store config before was mid after held goes same)
       answer.trace

@@ -1,10 +1,8 @@
 -- What a line owes that touches nothing, and one that asks.
-use Rattle.std.proofs.Common.{◌≡◌, ℕ, List, [], Ok, Err, length, refl, sym, subst, arith, append-nil}
-use Rattle.std.specs.Prelude.{IfOk, Result}
+use Rattle.std.proofs.Common.{◌≡◌, ℕ, [], length, refl, sym, subst, arith, append-nil}
 use Rattle.std.specs.List.{AllByRecursion}
 use Rattle.know.specs.Knowledge.{Knowledge}
 use Rattle.line_runs.specs.LineWrites.{KeepsItsPlace, LineWrote, ran_line}
-use Rattle.line_runs.specs.declared.lines.LineRan.{LineRan}
 use Rattle.mon_config.specs.declared.config.Config.{Config}
 use Rattle.mon_store.specs.Writes.{own_entries}
 use Rattle.mon_topo.proofs.FrontLemmas.{begins_itself}
@@ -46,7 +44,7 @@ reached know history = length (entries know.seen history)
 
 -- a line that does nothing
 pub done_wrote : (config : Config) (what : LineForm) (content : LineFiles) (know : Knowledge)
-    → Suits what came.Done → LineWrote config (ran_line what content came.Done) (done_text what) know know
+    → Suits what came.Done → LineWrote config (ran_line what content came.Done []) (done_text what) know know
 done_wrote config what content know suits = record {
   keeps = still_kept know;
   made = λ history. [];
@@ -66,7 +64,7 @@ done_wrote config what content know suits = record {
 pub still_refused : (config : Config) (what : LineForm) (content : LineFiles) (know : Knowledge) (fault : LineFault)
     → Suits what (came.Refused fault) → ((leaf : Leaf) → refusal_cuts leaf what fault ≡ [])
     → HasCause config know.seen (marked (reached know)) (marked (reached know)) what fault
-    → LineWrote config (ran_line what content (came.Refused fault)) (refused_line config.topology fault) know know
+    → LineWrote config (ran_line what content (came.Refused fault) []) (refused_line config.topology fault) know know
 still_refused config what content know fault suits none cause = record {
   keeps = still_kept know;
   made = λ history. [];

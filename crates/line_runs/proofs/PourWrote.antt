@@ -1,5 +1,5 @@
 -- From what became of the rows that two files offered to what a pour owes.
-use Rattle.std.proofs.Common.{◌≡◌, ◌∙◌, ℕ, List, refl, sym, ap, subst}
+use Rattle.std.proofs.Common.{◌≡◌, ◌∙◌, ℕ, List, [], refl, sym, ap, subst}
 use Rattle.ingest_queue.specs.Ends.{IsEndOf}
 use Rattle.ingest_queue.specs.Offers.{rows_written}
 use Rattle.ingest_queue.specs.Weaves.{IsWeave}
@@ -81,7 +81,7 @@ module _ (config : Config) where
     }
 
     finds : Finds config last.seen (lengths first) (lengths last) (pass_of first)
-        (ran_line (form.Pour one other) content (line (pass_of first)))
+        (ran_line (form.Pour one other) content (line (pass_of first)) [])
     finds = record {
       forth = seen_below first last done.still.fronts;
       suits = tt;
@@ -102,7 +102,7 @@ module _ (config : Config) where
     }
 
     wrote_as_first : (text : List ℕ) → text ≡ pour_text config.topology one other ends
-        → LineWrote config (ran_line (form.Pour one other) content (line (pass_of first))) text first last
+        → LineWrote config (ran_line (form.Pour one other) content (line (pass_of first)) []) text first last
     wrote_as_first text printed = record {
       keeps = place_kept config ends.accepted first last before behind done;
       made = done.made;
@@ -115,7 +115,7 @@ module _ (config : Config) where
     -- what a pour owes
     pub pour_wrote : (pass : ℕ) (trace : LineTrace) (text : List ℕ) → pass ≡ pass_of first
         → trace ≡ came.Poured pass ends → text ≡ pour_text config.topology one other ends
-        → LineWrote config (ran_line (form.Pour one other) content trace) text first last
+        → LineWrote config (ran_line (form.Pour one other) content trace []) text first last
     pour_wrote pass trace text number is printed =
-        subst (λ (t : LineTrace). LineWrote config (ran_line (form.Pour one other) content t) text first last)
+        subst (λ (t : LineTrace). LineWrote config (ran_line (form.Pour one other) content t []) text first last)
         (sym (is ∙ ap line number)) (wrote_as_first text printed)

@@ -1,12 +1,12 @@
 -- What a line owes that opened a range's replica on a leaf, and one that opened none.
-use Rattle.std.proofs.Common.{◌≡◌, ◌∙◌, ◌+◌, ◌<◌, ◌&&◌, ◌++◌, ◌∷◌, ℕ, zero, suc, nat_eq, Bool, true, false, cond}
-use Rattle.std.proofs.Common.{List, [], drop, filter, length, map, slice_get, Some, None, Ok, Err, refl, sym, ap}
-use Rattle.std.proofs.Common.{subst, arith}
+use Rattle.std.proofs.Common.{◌≡◌, ◌∙◌, ◌+◌, ◌&&◌, ◌++◌, ◌∷◌, ℕ, nat_eq, Bool, true, false, cond}
+use Rattle.std.proofs.Common.{List, [], length, slice_get, Some, None, Ok, Err, refl, sym, ap}
+use Rattle.std.proofs.Common.{subst}
 use Rattle.std.specs.Prelude.{Contains, IfErr, IfOk, OnErr, Result, sum_by}
 use Rattle.std.specs.List.{AllByRecursion}
 use Rattle.std.proofs.lemmas.Bool.{false≢true, and_from, eq-eqb}
 use Rattle.std.proofs.lemmas.Option.{same_Some}
-use Rattle.history_book.specs.Histories.{AreFronts, entries, is_under, same_history}
+use Rattle.history_book.specs.Histories.{AreFronts, same_history}
 use Rattle.history_book.specs.Numbers.{times_among}
 use Rattle.history_book.specs.declared.views.BookEntry.{BookEntry}
 use Rattle.history_book.specs.declared.views.BookEntry.TheVariants as one
@@ -21,9 +21,8 @@ use Rattle.mon_script.specs.declared.forms.LineForm.{LineForm}
 use Rattle.mon_script.specs.declared.forms.LineForm.TheVariants as form
 use Rattle.mon_store.specs.Recoveries.{IsMoved, IsNotRecovered, IsNotRecoveredAs, IsRecovered, IsUnrecovered}
 use Rattle.mon_store.specs.Recoveries.{WereFoundDown, opened}
-use Rattle.mon_store.specs.Writes.{WasFoundSo, new_entries, only_in}
-use Rattle.mon_topo.proofs.FrontLemmas.{begins_length}
-use Rattle.mon_topo.specs.RangeHistories.{left_rows, serving, is_avoided}
+use Rattle.mon_store.specs.Writes.{only_in}
+use Rattle.mon_topo.specs.RangeHistories.{left_rows, serving}
 use Rattle.mon_value.specs.Histories.{leaf_history, range_history, same_leaf, same_range, same_slot}
 use Rattle.mon_value.specs.LeafHistories.{same_replica}
 use Rattle.mon_value.specs.declared.histories.Entry.TheVariants as entry
@@ -33,11 +32,9 @@ use Rattle.mon_value.specs.declared.positions.FoundDown.{FoundDown}
 use Rattle.mon_value.specs.declared.positions.Leaf.{Leaf}
 use Rattle.mon_value.specs.declared.positions.Range.{Range}
 use Rattle.mon_value.specs.declared.positions.Slot.{Slot}
-use Rattle.mon_value.specs.declared.positions.SlotLeaf.{SlotLeaf}
 use Rattle.mon_value.specs.declared.rows.Row.{Row}
 use Rattle.owners.specs.Puts.{pass_of}
-use Rattle.query_traces.specs.Founds.{IsFoundBetween}
-use Rattle.query_traces.specs.Traces.{IsBetween, found_leaves, lengths_of}
+use Rattle.query_traces.specs.Traces.{lengths_of}
 use Rattle.range_cell.specs.declared.answers.RecoverFault.{RecoverFault}
 use Rattle.range_cell.specs.declared.answers.RecoverFault.TheVariants as unopened
 use Rattle.run_traces.specs.LineCauses.{HasNoSource, IsDenied}
@@ -50,17 +47,17 @@ use Rattle.run_traces.specs.declared.traces.RecoveryFault.{RecoveryFault}
 use Rattle.run_traces.specs.declared.traces.RecoveryFault.TheVariants as closed
 use Rattle.run_traces.specs.declared.traces.LineTrace.TheVariants as came
 use Rattle.run_traces.specs.declared.line_files.LineFiles.{LineFiles}
-use Rattle.run_traces.proofs.ListFacts.{both_all, no_item}
-use Rattle.run_traces.proofs.Switched.{leaf_there, range_there}
+use Rattle.run_traces.proofs.ListFacts.{both_all}
 use Rattle.running_query.specs.Ends.{WasFoundDown}
 use Rattle.write_core.specs.Recovering.{denial_of}
 use Rattle.write_core.specs.declared.copies.Denial.{Denial}
 use Rattle.write_core.specs.declared.copies.Denial.TheVariants as denial
 use Rattle.line_runs.proofs.Causes.{HasItsCause, LiesBetween}
 use Rattle.line_runs.proofs.Causes.{founds_between}
-use Rattle.line_runs.proofs.FeedCauses.{all_avoided, contained}
 use Rattle.line_runs.proofs.FeedWrote.{Holds}
+use Rattle.line_runs.proofs.Found.{all_found, found_then, none_up, range_lies, those}
 use Rattle.line_runs.proofs.Growing.{forth, grown, seen_of}
+use Rattle.line_runs.proofs.NewEntries.{new_in_range, new_on_leaf}
 use Rattle.line_runs.proofs.SwitchWrote.{only_passes}
 use Rattle.line_runs.proofs.Wrote.{OwnsAsMuch, refused_wrote}
 use Rattle.query_traces.proofs.LeafLemmas.{same_leaves}
@@ -87,50 +84,6 @@ unopened_suits (form.Follow moments text) recovery is fault = absurd cc
 unopened_suits (form.Control control) recovery is fault = subst IsAsked (sym is) tt
 unopened_suits (form.Standing line) recovery is fault = absurd cc
 unopened_suits (form.Block mark) recovery is fault = absurd cc
-
--- ---- where a new entry stands
-
-module _ {X : Type 0} where
-  kept_at : (p : X → Bool) (x y : X) (xs more : List X) (b : Bool) → p x ≡ b
-      → (filter p xs ≡ y ∷ more → (j : ℕ) × (slice_get xs j ≡ Some y))
-      → cond b (x ∷ filter p xs) (filter p xs) ≡ y ∷ more → (j : ℕ) × (slice_get (x ∷ xs) j ≡ Some y)
-  kept_at p x y xs more true passes rest is = let same : x ≡ y = cc in (0, ap Some same)
-  kept_at p x y xs more false passes rest is = let at = rest is in (suc at.0, at.1)
-
-  -- the first that passes stands in a list
-  first_kept : (p : X → Bool) (y : X) (xs more : List X) → filter p xs ≡ y ∷ more
-      → (j : ℕ) × (slice_get xs j ≡ Some y)
-  first_kept p y [] more is = absurd cc
-  first_kept p y (x ∷ xs) more is = kept_at p x y xs more (p x) refl (first_kept p y xs more) is
-
-  behind : (n j k : ℕ) (xs : List X) (x : X) → k ≡ n + j → slice_get (drop n xs) j ≡ Some x
-      → slice_get xs k ≡ Some x
-  behind zero j k xs x same there =
-      let at : j ≡ k = omega arith in subst (λ w. slice_get xs w ≡ Some x) at there
-  behind (suc n) j k [] x same there = absurd (no_item j x there)
-  behind (suc n) j zero (y ∷ xs) x same there = absurd (omega arith)
-  behind (suc n) j (suc k) (y ∷ xs) x same there = behind n j k xs x (omega arith) there
-
-  in_list : (xs : List X) (k : ℕ) (x : X) → slice_get xs k ≡ Some x → k < length xs
-  in_list [] k x there = absurd (no_item k x there)
-  in_list (y ∷ xs) zero x there = omega arith
-  in_list (y ∷ xs) (suc k) x there = let l = in_list xs k x there in omega arith
-
--- what is new in a history stands there, behind all that had been seen
-new_stands : (before after : Knowledge) (h : History) (e : BookEntry) (more : List BookEntry)
-    → new_entries before after h ≡ e ∷ more
-    → StandsBetween (seen_of before.seen h) (seen_of after.seen h) (entries after.seen h) e
-new_stands before after h e more is =
-    let at = first_kept (is_under (pass_of before)) e (drop (length (entries before.seen h)) (entries after.seen h)) more
-    is in
-    let there = behind (length (entries before.seen h)) at.0 (length (entries before.seen h) + at.0)
-    (entries after.seen h) e refl at.1 in
-    record {
-      place = length (entries before.seen h) + at.0;
-      since = omega arith;
-      until = in_list (entries after.seen h) (length (entries before.seen h) + at.0) e there;
-      there = there;
-    }
 
 -- ---- a replica that was opened
 
@@ -193,29 +146,15 @@ module _ (config : Config) (what : LineForm) (recovery : Recovery) (asked : reco
 
     held : StandsBetween (seen_of before.seen (of.Leaf leaf)) (seen_of after.seen (of.Leaf leaf))
         (leaf_history after.seen leaf) (entry.Opened (pass_of before) range slot rows)
-    held =
-        let stands = new_stands before after (of.Leaf leaf) on_leaf [] (recovered.new (of.Leaf leaf) ∙ leaf_made) in
-        record {
-          place = stands.place;
-          since = stands.since;
-          until = stands.until;
-          there = leaf_there (entry.Opened (pass_of before) range slot rows) (leaf_history after.seen leaf) stands.place
-              stands.there;
-        }
+    held = new_on_leaf before after leaf (entry.Opened (pass_of before) range slot rows) 0
+        (ap (λ new. slice_get new 0) (recovered.new (of.Leaf leaf) ∙ leaf_made))
 
     told : StandsBetween (seen_of before.seen (of.Range range)) (seen_of after.seen (of.Range range))
         (range_history after.seen range) (range_entry.Opened (pass_of before) slot leaf)
-    told =
-        let stands = new_stands before after (of.Range range) in_range [] (recovered.new (of.Range range) ∙ range_made) in
-        record {
-          place = stands.place;
-          since = stands.since;
-          until = stands.until;
-          there = range_there (range_entry.Opened (pass_of before) slot leaf) (range_history after.seen range)
-              stands.place stands.there;
-        }
+    told = new_in_range before after range (range_entry.Opened (pass_of before) slot leaf) 0
+        (ap (λ new. slice_get new 0) (recovered.new (of.Range range) ∙ range_made))
 
-    pub recovered_wrote : LineWrote config (ran_line what content (came.Controlled (did.Recovered slot)))
+    pub recovered_wrote : LineWrote config (ran_line what content (came.Controlled (did.Recovered slot)) [])
         (recovery_text config.topology (Some recovery) slot) before after
     recovered_wrote = record {
       keeps = moved_lost recovered.moved;
@@ -246,13 +185,6 @@ module _ (config : Config) (what : LineForm) (recovery : Recovery) (asked : reco
       lost = λ n. ap (sum_by (times_among n)) unopened_is.moved.lost;
     }
 
-    range_lies : (history : List RangeEntry) → WasFoundSo config range history before after
-        → IsBetween (length (range_history before.seen range)) (length (range_history after.seen range)) (length history)
-    range_lies history found = record {
-      from = begins_length history (range_history before.seen range) found.from;
-      to = begins_length (range_history after.seen range) history found.to;
-    }
-
     denied : (told : Denial) → IsNotRecoveredAs config range leaf before after
         (λ history. denial_of history leaf ≡ Some told)
         → IsDenied config after.seen (lengths_of before.seen) (lengths_of after.seen) what told
@@ -260,22 +192,9 @@ module _ (config : Config) (what : LineForm) (recovery : Recovery) (asked : reco
       recovery = recovery;
       asked = asked;
       found = length so.history;
-      between = range_lies so.history so.found;
+      between = range_lies before after config range so.history so.found;
       denied = ap (λ w. denial_of w leaf) so.found.to ∙ so.cause;
     }
-
-    found_then : (other : Leaf) (cut : ℕ) → WasFoundDown before after other cut
-        → IsFoundBetween (lengths_of before.seen) (lengths_of after.seen) after.seen
-        (record { leaf = other; cut = cut })
-    found_then other cut found =
-        record { between = record { from = found.from; to = found.down.seen_by_then }; down = found.down }
-
-    all_found : (founds : List FoundDown)
-        → ((found : FoundDown) → Contains founds found → WasFoundDown before after found.leaf found.cut)
-        → AllByRecursion (IsFoundBetween (lengths_of before.seen) (lengths_of after.seen) after.seen) founds
-    all_found founds all =
-        contained (IsFoundBetween (lengths_of before.seen) (lengths_of after.seen) after.seen) founds
-        (λ found there. found_then found.leaf found.cut (all found there))
 
     source : (founds : List FoundDown) → IsNotRecoveredAs config range leaf before after
         (λ history. (denial_of history leaf ≡ None) × WereFoundDown before after (serving history) founds)
@@ -283,17 +202,8 @@ module _ (config : Config) (what : LineForm) (recovery : Recovery) (asked : reco
     source founds so = record {
       recovery = recovery;
       asked = asked;
-      none_up = record {
-        were_found = all_found founds so.cause.1.down;
-        found = length so.history;
-        between = range_lies so.history so.found;
-        all_down = subst (λ (h : List RangeEntry). AllByRecursion (λ replica.
-            is_avoided (found_leaves founds) replica ≡ true) (serving h)) (sym so.found.to)
-            (subst (λ (leaves : List Leaf). AllByRecursion (λ replica. is_avoided leaves replica ≡ true)
-            (serving so.history)) (sym so.cause.1.leaves) (all_avoided (serving so.history)));
-      };
-      those = so.cause.1.leaves
-          ∙ ap (λ (h : List RangeEntry). map (λ (replica : SlotLeaf). replica.leaf) (serving h)) (sym so.found.to);
+      none_up = none_up before after config range so.history so.found founds so.cause.1.leaves so.cause.1.down;
+      those = those before after config range so.history so.found founds so.cause.1.leaves so.cause.1.down;
       free = ap (λ w. denial_of w leaf) so.found.to ∙ so.cause.0;
     }
 
@@ -301,7 +211,7 @@ module _ (config : Config) (what : LineForm) (recovery : Recovery) (asked : reco
         → AllByRecursion (LiesBetween before.seen after.seen other) (cond b (cut ∷ []) [])
     target_cuts cut found other true same = (
       subst (λ (l : Leaf). LiesBetween before.seen after.seen l cut) (sym (same_leaves other leaf same))
-          (found_then leaf cut found).between,
+          (found_then before after leaf cut found).between,
       tt,
     )
     target_cuts cut found other false same = tt
@@ -324,7 +234,7 @@ module _ (config : Config) (what : LineForm) (recovery : Recovery) (asked : reco
         subst Caused (same_Some (closed.SourceDown founds) told is) (record {
           cause = source founds so;
           cuts = λ other there.
-              founds_between before.seen after.seen other founds (all_found founds so.cause.1.down);
+              founds_between before.seen after.seen other founds (all_found before after founds so.cause.1.down);
         })
     caused (unopened.TargetDown cut) so told is =
         subst Caused (same_Some (closed.TargetDown cut) told is) (record {
@@ -332,7 +242,7 @@ module _ (config : Config) (what : LineForm) (recovery : Recovery) (asked : reco
             recovery = recovery;
             asked = asked;
             found = length so.history;
-            between = range_lies so.history so.found;
+            between = range_lies before after config range so.history so.found;
             free = ap (λ w. denial_of w leaf) so.found.to ∙ so.cause.0;
             source = record {
               source = so.cause.2.source;
@@ -342,7 +252,7 @@ module _ (config : Config) (what : LineForm) (recovery : Recovery) (asked : reco
               between = record { from = so.cause.2.up.from; to = so.cause.2.up.seen_by_then };
               up = so.cause.2.up.up;
             };
-            down = found_then leaf cut so.cause.1;
+            down = found_then before after leaf cut so.cause.1;
           };
           cuts = λ other there.
               subst (λ o. AllByRecursion (LiesBetween before.seen after.seen other) (cut_at other o cut)) (sym on)
@@ -352,8 +262,8 @@ module _ (config : Config) (what : LineForm) (recovery : Recovery) (asked : reco
 
     pub unopened_wrote : (fault : RecoverFault) → IsNotRecovered config range leaf before after fault
         → (told : RecoveryFault) → recover_told fault ≡ Some told
-        → LineWrote config (ran_line what content (came.Refused (recovery_told told)))
-        (line_text config after.seen (ran_line what content (came.Refused (recovery_told told)))) before after
+        → LineWrote config (ran_line what content (came.Refused (recovery_told told)) [])
+        (line_text config after.seen (ran_line what content (came.Refused (recovery_told told)) [])) before after
     unopened_wrote fault so told is =
         refused_wrote config what content before after owns (recovery_told told)
         (unopened_suits what recovery asked told) (caused fault so told is)
@@ -363,12 +273,12 @@ module _ (config : Config) (what : LineForm) (recovery : Recovery) (asked : reco
   pub recovery_by : (result : Result Slot RecoverFault) → IfOk result (IsRecovered config range leaf before after)
       → IfErr result (IsNotRecovered config range leaf before after) → OnErr result (IsUnrecovered before after)
       → (line : LineRan) → IsRecoveryRan config.topology recovery result line
-      → LineWrote config (ran_line what content line.trace) line.text before after
+      → LineWrote config (ran_line what content line.trace []) line.text before after
   recovery_by (Ok slot) done refused unwritten line told =
-      subst (λ (l : LineRan). LineWrote config (ran_line what content l.trace) l.text before after) (sym told)
+      subst (λ (l : LineRan). LineWrote config (ran_line what content l.trace []) l.text before after) (sym told)
       (recovered_wrote slot done)
   recovery_by (Err fault) done refused unwritten line told =
-      subst (λ (l : LineRan). LineWrote config (ran_line what content l.trace) l.text before after) (sym told.ran_is)
+      subst (λ (l : LineRan). LineWrote config (ran_line what content l.trace []) l.text before after) (sym told.ran_is)
       (unopened_wrote unwritten fault refused told.told told.told_is)
 
 -- whatever stands in the line's content
@@ -381,7 +291,7 @@ pub recovery_wrote : {F : Type 0} (config : Config) (what : LineForm) (recovery 
     → OnErr result (IsUnrecovered before after)
     → (ran : Result LineRan F) → IfOk ran (IsRecoveryRan config.topology recovery result)
     → IfOk ran (λ line. (content : LineFiles)
-    → LineWrote config (ran_line what content line.trace) line.text before after)
+    → LineWrote config (ran_line what content line.trace []) line.text before after)
 recovery_wrote config what recovery asked on before after was is result done refused unwritten (Ok line) told =
     λ content. recovery_by config what recovery asked on content before after was is result done refused unwritten line
     told

@@ -1,5 +1,5 @@
 -- What lines owe by which a query is to stand, and ticks whose moment isn't taken.
-use Rattle.std.proofs.Common.{◌≡◌, ℕ, ℤ, Bool, true, false, cond, List, Option, Some, None, Result, Ok, Err}
+use Rattle.std.proofs.Common.{◌≡◌, ℕ, ℤ, Bool, true, false, cond, List, [], Option, Some, None, Result, Ok, Err}
 use Rattle.std.proofs.Common.{refl}
 use Rattle.std.proofs.Common.{sym}
 use Rattle.know.specs.Knowledge.{Knowledge}
@@ -72,7 +72,7 @@ module _ (config : Config) (state : StandingState) (name : List ℕ) (period : �
       (λ e. absurd cc))
 
   by_told : (told : Option StandingFault) → fault_told ≡ told → LineWrote config
-      (ran_line the_form content (standing_ran config.topology name told).trace)
+      (ran_line the_form content (standing_ran config.topology name told).trace [])
       (standing_ran config.topology name told).text know know
   by_told None is = done_wrote config the_form content know tt
   by_told (Some fault) is = still_refused config the_form content know (why.Standing fault) tt (λ leaf. refl)
@@ -80,7 +80,7 @@ module _ (config : Config) (state : StandingState) (name : List ℕ) (period : �
 
   -- a line by which a query is to stand
   pub standing_wrote : LineWrote config
-      (ran_line the_form content (standing_ran config.topology name fault_told).trace)
+      (ran_line the_form content (standing_ran config.topology name fault_told).trace [])
       (standing_ran config.topology name fault_told).text know know
   standing_wrote = by_told fault_told refl
 
@@ -100,7 +100,7 @@ module _ (config : Config) (state : StandingState) (name : List ℕ) (period : �
 -- a tick whose moment isn't taken
 pub undue_wrote : (config : Config) (moment : ℤ) (content : LineFiles) (know : Knowledge) (fault : DueFault)
     → LineWrote config
-    (ran_line (form.Standing (line.Tick moment)) content (refused_for config.topology (why.Due fault)).trace)
+    (ran_line (form.Standing (line.Tick moment)) content (refused_for config.topology (why.Due fault)).trace [])
     (refused_for config.topology (why.Due fault)).text know know
 undue_wrote config moment content know fault =
     still_refused config (form.Standing (line.Tick moment)) content know (why.Due fault) tt (λ leaf. refl) tt

@@ -90,7 +90,7 @@ pub only_passes : (test : BookEntry → Bool) (e : BookEntry) (b : Bool) → (b 
 only_passes test e true passes = (passes refl, tt)
 only_passes test e false passes = tt
 
-only_few : (e : BookEntry) (b : Bool) → length (cond b (e ∷ []) []) ≤ 1
+pub only_few : (e : BookEntry) (b : Bool) → length (cond b (e ∷ []) []) ≤ 1
 only_few e true = omega arith
 only_few e false = omega arith
 
@@ -174,7 +174,7 @@ module _ (config : Config) (what : LineForm) (switch : Switch) (asked : switch_o
       lost = λ n. ap (sum_by (times_among n)) switched.still.lost;
     }
 
-    pub switched_wrote : LineWrote config (ran_line what content (came.Controlled (did.Switched cut)))
+    pub switched_wrote : LineWrote config (ran_line what content (came.Controlled (did.Switched cut)) [])
         (switch_text config.topology (Some switch)) before after
     switched_wrote = record {
       keeps = switched_keeps;
@@ -298,8 +298,8 @@ module _ (config : Config) (what : LineForm) (switch : Switch) (asked : switch_o
       cause_by true way_is told = down_cause (is_down history) way_is refl told
       cause_by false way_is told = up_cause (is_down history) way_is refl told
 
-      pub unswitched_wrote : LineWrote config (ran_line what content (came.Refused (control_told fault)))
-          (line_text config after.seen (ran_line what content (came.Refused (control_told fault)))) before after
+      pub unswitched_wrote : LineWrote config (ran_line what content (came.Refused (control_told fault)) [])
+          (line_text config after.seen (ran_line what content (came.Refused (control_told fault)) [])) before after
       unswitched_wrote = refused_wrote config what content before after owns (control_told fault)
           (refusal_suits what switch asked fault)
           (cause_by switch.down refl refused.fault_is)
@@ -308,7 +308,7 @@ module _ (config : Config) (what : LineForm) (switch : Switch) (asked : switch_o
 
   pub wrote_by : (result : Result ℕ ControlFault) → IfOk result (IsSwitched leaf (way switch.down) before after)
       → IfErr result (IsNotSwitched leaf (way switch.down) before after) → OnErr result (IsUnwritten before after)
-      → LineWrote config (ran_line what content (switch_ran config.topology switch result).trace)
+      → LineWrote config (ran_line what content (switch_ran config.topology switch result).trace [])
       (switch_ran config.topology switch result).text before after
   wrote_by (Ok cut) done refused unwritten = switched_wrote cut done
   wrote_by (Err fault) done refused unwritten = unswitched_wrote unwritten fault refused
@@ -321,9 +321,9 @@ pub switch_wrote : {F : Type 0} (config : Config) (what : LineForm) (switch : Sw
     → OnErr result (IsUnwritten before after)
     → (ran : Result LineRan F) → IfOk ran (λ line. line ≡ switch_ran config.topology switch result)
     → IfOk ran (λ line. (content : LineFiles)
-    → LineWrote config (ran_line what content line.trace) line.text before after)
+    → LineWrote config (ran_line what content line.trace []) line.text before after)
 switch_wrote config what switch asked on before after was is result done refused unwritten (Ok line) told = λ content.
-    subst (λ (l : LineRan). LineWrote config (ran_line what content l.trace) l.text before after) (sym told)
+    subst (λ (l : LineRan). LineWrote config (ran_line what content l.trace []) l.text before after) (sym told)
     (wrote_by config what switch asked on content before after was is result done refused unwritten)
 switch_wrote config what switch asked on before after was is result done refused unwritten (Err failed) told = tt
 

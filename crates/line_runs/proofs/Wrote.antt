@@ -121,7 +121,7 @@ module _ (config : Config) (form : LineForm) (content : LineFiles) (before after
 
   -- it was refused for a fault with its cause
   refused_finds : (told : LineFault) → Suits form (came.Refused told) → HasItsCause config form before after told
-      → Finds config after.seen from to (pass_of before) (ran_line form content (came.Refused told))
+      → Finds config after.seen from to (pass_of before) (ran_line form content (came.Refused told) [])
   refused_finds told suits found = record {
     forth = forth before.seen after.seen owns.fronts;
     suits = suits;
@@ -131,8 +131,8 @@ module _ (config : Config) (form : LineForm) (content : LineFiles) (before after
   }
 
   pub refused_wrote : (told : LineFault) → Suits form (came.Refused told) → HasItsCause config form before after told
-      → LineWrote config (ran_line form content (came.Refused told))
-      (line_text config after.seen (ran_line form content (came.Refused told))) before after
+      → LineWrote config (ran_line form content (came.Refused told) [])
+      (line_text config after.seen (ran_line form content (came.Refused told) [])) before after
   refused_wrote told suits found = record {
     keeps = keeps;
     made = λ history. [];
@@ -147,7 +147,7 @@ module _ (config : Config) (form : LineForm) (content : LineFiles) (before after
 module _ (config : Config) (what : How) (moment : ℤ) (text : List ℕ) (content : LineFiles) (before after : Knowledge)
     (owns : OwnsAsMuch before after) where
   abbrev pub the_line : LineTrace → RanLine
-  the_line trace = ran_line (question what moment text) content trace
+  the_line trace = ran_line (question what moment text) content trace []
 
   abbrev since : History → ℕ
   since = seen_of before.seen

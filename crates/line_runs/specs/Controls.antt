@@ -1,4 +1,4 @@
--- What a line comes to that takes a leaf down or up, or opens a range's replica on a leaf.
+-- What a line comes to that takes a leaf down or up, opens or retires a range's replica on a leaf, or trims a range.
 use Rattle.std.specs.Prelude.{◌≡◌, ℕ, Bool, true, false, List, Option, Some, None, Result, Ok, Err}
 use Rattle.leaf_cell.specs.declared.controls.Control.{Control}
 use Rattle.leaf_cell.specs.declared.controls.Control.TheVariants as going
@@ -7,11 +7,17 @@ use Rattle.leaf_cell.specs.declared.controls.ControlFault.TheVariants as unswitc
 use Rattle.line_runs.specs.Questions.{refused_for}
 use Rattle.line_runs.specs.declared.lines.LineRan.{LineRan}
 use Rattle.mon_topo.specs.declared.zones.ZoneSpec.{ZoneSpec}
+use Rattle.mon_value.specs.declared.histories.Ack.{Ack}
 use Rattle.mon_value.specs.declared.positions.Slot.{Slot}
 use Rattle.range_cell.specs.declared.answers.RecoverFault.{RecoverFault}
 use Rattle.range_cell.specs.declared.answers.RecoverFault.TheVariants as unopened
-use Rattle.run_traces.specs.LineAsks.{Recovery, Switch}
+use Rattle.range_cell.specs.declared.answers.RetireFault.{RetireFault}
+use Rattle.range_cell.specs.declared.answers.RetireFault.TheVariants as unretired
+use Rattle.range_cell.specs.declared.answers.TrimFault.{TrimFault}
+use Rattle.range_cell.specs.declared.answers.TrimFault.TheVariants as untrimmed
+use Rattle.run_traces.specs.LineAsks.{Bound, Recovery, Switch, Withdrawal}
 use Rattle.run_traces.specs.LineSwitches.{recovery_text, switch_text}
+use Rattle.run_traces.specs.LineTrims.{retire_text, trim_text}
 use Rattle.run_traces.specs.declared.traces.ControlDone.TheVariants as did
 use Rattle.run_traces.specs.declared.traces.ControlFault.TheVariants as undone
 use Rattle.run_traces.specs.declared.traces.LineFault.{LineFault}
@@ -19,8 +25,12 @@ use Rattle.run_traces.specs.declared.traces.LineFault.TheVariants as why
 use Rattle.run_traces.specs.declared.traces.LineTrace.TheVariants as came
 use Rattle.run_traces.specs.declared.traces.RecoveryFault.{RecoveryFault}
 use Rattle.run_traces.specs.declared.traces.RecoveryFault.TheVariants as closed
+use Rattle.run_traces.specs.declared.traces.RetireRefusal.{RetireRefusal}
+use Rattle.run_traces.specs.declared.traces.RetireRefusal.TheVariants as serving
 use Rattle.run_traces.specs.declared.traces.SwitchFault.{SwitchFault}
 use Rattle.run_traces.specs.declared.traces.SwitchFault.TheVariants as kept
+use Rattle.run_traces.specs.declared.traces.TrimRefusal.{TrimRefusal}
+use Rattle.run_traces.specs.declared.traces.TrimRefusal.TheVariants as unavailable
 
 -- ---- switches
 
@@ -72,3 +82,45 @@ pub record IsNotOpenedFor (zones : List ZoneSpec) (fault : RecoverFault) (ran : 
 abbrev pub IsRecoveryRan : List ZoneSpec → Recovery → Result Slot RecoverFault → LineRan → Type 0
 IsRecoveryRan zones recovery (Ok slot) ran = ran ≡ recovery_ran zones recovery slot
 IsRecoveryRan zones recovery (Err fault) ran = IsNotOpenedFor zones fault ran
+
+-- ---- trims
+
+-- why a range isn't trimmed, unless memory ran out
+abbrev pub trim_told : TrimFault → Option TrimRefusal
+trim_told (untrimmed.Unavailable range founds) = Some (unavailable.Unavailable range founds)
+trim_told untrimmed.OutOfMemory = None
+
+abbrev pub untrimmed_told : TrimRefusal → LineFault
+untrimmed_told fault = why.Control (undone.Trim fault)
+
+-- a range that was trimmed
+abbrev pub trim_ran : List ZoneSpec → Bound → Ack → LineRan
+trim_ran zones bound ack =
+    record { trace = came.Controlled (did.Trimmed ack); text = trim_text zones (Some bound) ack }
+
+-- a refusal
+pub record IsNotTrimmedFor (zones : List ZoneSpec) (fault : TrimFault) (ran : LineRan) : Type 0 where
+  pub told : TrimRefusal
+  pub told_is : trim_told fault ≡ Some told
+  pub ran_is : ran ≡ refused_for zones (untrimmed_told told)
+
+-- by the answer
+abbrev pub IsTrimRan : List ZoneSpec → Bound → Result Ack TrimFault → LineRan → Type 0
+IsTrimRan zones bound (Ok ack) ran = ran ≡ trim_ran zones bound ack
+IsTrimRan zones bound (Err fault) ran = IsNotTrimmedFor zones fault ran
+
+-- ---- retirements
+
+-- why a replica isn't retired
+abbrev pub retire_told : RetireFault → RetireRefusal
+retire_told unretired.NotServing = serving.NotServing
+retire_told (unretired.LastServing slot) = serving.LastServing slot
+
+abbrev pub unretired_told : RetireFault → LineFault
+unretired_told fault = why.Control (undone.Retirement (retire_told fault))
+
+-- a slot that was retired, or a refusal
+abbrev pub retire_ran : List ZoneSpec → Withdrawal → Result Slot RetireFault → LineRan
+retire_ran zones withdrawal (Ok slot) =
+    record { trace = came.Controlled (did.Retired slot); text = retire_text zones (Some withdrawal) slot }
+retire_ran zones withdrawal (Err fault) = refused_for zones (unretired_told fault)

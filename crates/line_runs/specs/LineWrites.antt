@@ -5,19 +5,21 @@ use Rattle.history_book.specs.Seats.{hand_of, times_lost}
 use Rattle.history_book.specs.declared.views.BookEntry.{BookEntry}
 use Rattle.history_book.specs.declared.views.History.{History}
 use Rattle.know.specs.Knowledge.{Knowledge}
+use Rattle.line_runs.specs.declared.lines.LineRan.{LineRan}
 use Rattle.mon_config.specs.declared.config.Config.{Config}
 use Rattle.mon_store.specs.Writes.{own_entries}
 use Rattle.owners.specs.Puts.{pass_of}
 use Rattle.run_traces.specs.LineClaims.{Finds, HaveGrown, Makes}
 use Rattle.run_traces.specs.LineTexts.{line_text}
-use Rattle.run_traces.specs.RanLines.{RanLine}
+use Rattle.run_traces.specs.RanLines.{OwnPlace, RanLine}
 use Rattle.run_traces.specs.declared.line_files.LineFiles.{LineFiles}
 use Rattle.run_traces.specs.declared.traces.LineTrace.{LineTrace}
 use Rattle.mon_script.specs.declared.forms.LineForm.{LineForm}
 
--- a line that ran: what it says, what its files hold, and what it came to
-abbrev pub ran_line : LineForm → LineFiles → LineTrace → RanLine
-ran_line what content trace = record { what = what; content = content; trace = trace }
+-- a line that ran: what it says, what its files hold, what it came to, and the places of those entries of its own that
+-- aren't told by what it came to
+abbrev pub ran_line : LineForm → LineFiles → LineTrace → List OwnPlace → RanLine
+ran_line what content trace own = record { what = what; content = content; trace = trace; own = own }
 
 -- The caller's number, the numbers that it met, those that it can hand out and those that nobody can are as before, and
 -- all that it had seen is seen
@@ -39,3 +41,9 @@ pub record LineWrote (config : Config) (line : RanLine) (text : List ℕ) (befor
   pub found : Finds config after.seen (λ history. length (entries before.seen history))
       (λ history. length (entries after.seen history)) (pass_of before) line
   pub prints : text ≡ line_text config after.seen line
+
+-- A line ran so, with the places of its own entries: those of a trim and of a retirement
+pub record LineRanSo (config : Config) (what : LineForm) (content : LineFiles) (ran : LineRan) (before after : Knowledge)
+    : Type 0 where
+  pub own : List OwnPlace
+  pub wrote : LineWrote config (ran_line what content ran.trace own) ran.text before after

@@ -41,7 +41,7 @@ question what moment text = form.Ask (asking what moment text)
 
 -- and what it came to
 abbrev pub asked_line : How → ℤ → List ℕ → LineTrace → RanLine
-asked_line what moment text trace = ran_line (question what moment text) no_files trace
+asked_line what moment text trace = ran_line (question what moment text) no_files trace []
 
 -- ---- answers
 

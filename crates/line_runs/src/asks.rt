@@ -1,5 +1,5 @@
 // Asking a query.
-ghost use Rattle.std.specs.Prelude.{◌≡◌, ◌≤ℤ◌, pos, ℕ, List, IfOk};
+ghost use Rattle.std.specs.Prelude.{◌≡◌, ◌≤ℤ◌, pos, ℕ, List, [], IfOk};
 ghost use Rattle.history_book.specs.Histories.{AreFronts};
 ghost use Rattle.line_runs.specs.LineWrites.{LineWrote, ran_line};
 ghost use Rattle.line_runs.specs.Questions.{IsAnswerTo, IsPrinted, asked_line, question};
@@ -34,7 +34,7 @@ pub(crate) fn ask_question<N: Names, R: Wait>(
 ) -> Result<LineRan, OutOfMemory>
     requires moment { pos 0 ≤ℤ asked.now.moment }
     ensures wrote { IfOk result (λ ran. (content : LineFiles) → LineWrote store.now
-        (ran_line (LineForm.Ask asked.now) content ran.trace) ran.text p.old p.new) }
+        (ran_line (LineForm.Ask asked.now) content ran.trace []) ran.text p.old p.new) }
     ensures fronts { AreFronts p.old.seen p.new.seen }
 {
     ask(rt, alloc, store, p, asked.how, asked.moment, &asked.text)
@@ -52,7 +52,7 @@ pub(crate) fn ask<N: Names, R: Wait>(
 ) -> Result<LineRan, OutOfMemory>
     requires moment { pos 0 ≤ℤ moment }
     ensures wrote { IfOk result (λ ran. (content : LineFiles) → LineWrote store.now
-        (ran_line (question what moment text.now) content ran.trace) ran.text p.old p.new) }
+        (ran_line (question what moment text.now) content ran.trace []) ran.text p.old p.new) }
     ensures fronts { AreFronts p.old.seen p.new.seen }
 {
     traces_stay();

@@ -1,9 +1,9 @@
-// Taking leaves down and up, and opening ranges' replicas on leaves.
-ghost use Rattle.std.specs.Prelude.{◌≡◌, ◌<◌, ℕ, List, length, IfOk, string_bytes};
+// Controls: taking leaves down and up, and opening ranges' replicas on leaves.
+ghost use Rattle.std.specs.Prelude.{◌≡◌, ◌<◌, ℕ, List, [], length, IfOk, string_bytes};
 ghost use Rattle.history_book.specs.Histories.{AreFronts};
 ghost use Rattle.line_runs.specs.Controls.{IsNotOpenedFor, IsRecoveryRan};
 ghost use Rattle.line_runs.specs.Controls as spec;
-ghost use Rattle.line_runs.specs.LineWrites.{LineWrote, ran_line};
+ghost use Rattle.line_runs.specs.LineWrites.{LineRanSo, LineWrote, ran_line};
 ghost use Rattle.mon_script.specs.Controls.{IsLawfulControl, control_refusal_text};
 ghost use Rattle.mon_topo.specs.RangeHistories.{IsInZoneOf};
 ghost use Rattle.mon_topo.specs.Zones.{leaves_in};
@@ -13,6 +13,8 @@ ghost use Rattle.run_traces.specs.LineSwitches.{control_fault_text, recovery_fau
 
 use crate::lines::LineRan;
 use crate::refusals::refused_for;
+use crate::retirements::{retire, retire_text};
+use crate::trims::{trim, trim_text};
 use know::Names;
 use leaf_cell::ControlFault as LeafFault;
 use mon_script::{
@@ -35,14 +37,16 @@ pub(crate) fn run_control<N: Names, R: Wait>(
     what: ControlForm,
 ) -> Result<LineRan, OutOfMemory>
     requires lawful { IsLawfulControl store.now.topology what }
-    ensures wrote { IfOk result (λ ran. (content : LineFiles) → LineWrote store.now
-        (ran_line (LineForm.Control what) content ran.trace) ran.text p.old p.new) }
+    ensures wrote { IfOk result (λ ran. (content : LineFiles) → LineRanSo store.now (LineForm.Control what) content ran
+        p.old p.new) }
     ensures fronts { AreFronts p.old.seen p.new.seen }
 {
     match what {
         ControlForm::Down(leaf) => take_down(rt, alloc, store, p, leaf),
         ControlForm::Up(leaf) => take_up(rt, alloc, store, p, leaf),
         ControlForm::Recover(range, leaf) => recover(rt, alloc, store, p, range, leaf),
+        ControlForm::Trim(range, before) => trim(rt, alloc, store, p, range, before),
+        ControlForm::Retire(range, leaf) => retire(rt, alloc, store, p, range, leaf),
     }
 }
 
@@ -56,7 +60,7 @@ fn take_down<N: Names, R: Wait>(
 ) -> Result<LineRan, OutOfMemory>
     requires there { leaf.0 < length (leaves_in store.now.topology) }
     ensures wrote { IfOk result (λ ran. (content : LineFiles) → LineWrote store.now
-        (ran_line (LineForm.Control (ControlForm.Down leaf)) content ran.trace) ran.text p.old p.new) }
+        (ran_line (LineForm.Control (ControlForm.Down leaf)) content ran.trace []) ran.text p.old p.new) }
     ensures fronts { AreFronts p.old.seen p.new.seen }
 {
     store.is_set_up();
@@ -76,7 +80,7 @@ fn take_up<N: Names, R: Wait>(
 ) -> Result<LineRan, OutOfMemory>
     requires there { leaf.0 < length (leaves_in store.now.topology) }
     ensures wrote { IfOk result (λ ran. (content : LineFiles) → LineWrote store.now
-        (ran_line (LineForm.Control (ControlForm.Up leaf)) content ran.trace) ran.text p.old p.new) }
+        (ran_line (LineForm.Control (ControlForm.Up leaf)) content ran.trace []) ran.text p.old p.new) }
     ensures fronts { AreFronts p.old.seen p.new.seen }
 {
     store.is_set_up();
@@ -134,7 +138,7 @@ fn recover<N: Names, R: Wait>(
 ) -> Result<LineRan, OutOfMemory>
     requires zoned { IsInZoneOf store.now.topology range leaf }
     ensures wrote { IfOk result (λ ran. (content : LineFiles) → LineWrote store.now
-        (ran_line (LineForm.Control (ControlForm.Recover range leaf)) content ran.trace) ran.text p.old p.new) }
+        (ran_line (LineForm.Control (ControlForm.Recover range leaf)) content ran.trace []) ran.text p.old p.new) }
     ensures fronts { AreFronts p.old.seen p.new.seen }
 {
     store.is_set_up();
@@ -209,6 +213,8 @@ pub(crate) fn control_text(
     match fault {
         ControlFault::Switch(fault) => switch_text(alloc, *fault),
         ControlFault::Recovery(fault) => recovery_text(alloc, topology, fault),
+        ControlFault::Trim(fault) => trim_text(alloc, topology, fault),
+        ControlFault::Retirement(fault) => retire_text(alloc, *fault),
     }
 }
 
@@ -243,7 +249,8 @@ fn recovery_text(
     }
 }
 
-fn refusal_text(alloc: Global, why: ControlRefusal) -> Result<String, OutOfMemory>
+/// Why something was not done that takes no list of leaves, as it is printed.
+pub(crate) fn refusal_text(alloc: Global, why: ControlRefusal) -> Result<String, OutOfMemory>
     ensures text { IfOk result (λ text. string_bytes text ≡ control_refusal_text why) }
 {
     format!(in alloc; "{why}")

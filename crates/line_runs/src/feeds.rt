@@ -33,7 +33,7 @@ pub(crate) fn feed<N: Names, R: Wait>(
     content: &LineFiles,
 ) -> Result<LineRan, OutOfMemory>
     ensures wrote { IfOk result (λ ran. LineWrote store.now
-        (ran_line (LineForm.Feed name.now) content.now ran.trace) ran.text p.old p.new) }
+        (ran_line (LineForm.Feed name.now) content.now ran.trace []) ran.text p.old p.new) }
     ensures fronts { AreFronts p.old.seen p.new.seen }
 {
     store.is_set_up();

@@ -1,5 +1,5 @@
 // Following a query from one moment to later ones.
-ghost use Rattle.std.specs.Prelude.{◌≡◌, ◌≤ℤ◌, pos, Err, IfOk};
+ghost use Rattle.std.specs.Prelude.{◌≡◌, ◌≤ℤ◌, pos, [], Err, IfOk};
 ghost use Rattle.history_book.specs.Histories.{AreFronts};
 ghost use Rattle.line_runs.specs.Following as spec;
 ghost use Rattle.line_runs.specs.Following.{IsFollowRan, IsFollowedBy};
@@ -40,7 +40,7 @@ pub fn follow<N: Names, R: Wait>(
 ) -> Result<LineRan, OutOfMemory>
     requires moments { AreLawfulMoments moments }
     ensures wrote { IfOk result (λ ran. (content : LineFiles) → LineWrote store.now
-        (ran_line (LineForm.Follow moments text.now) content ran.trace) ran.text p.old p.new) }
+        (ran_line (LineForm.Follow moments text.now) content ran.trace []) ran.text p.old p.new) }
     ensures fronts { AreFronts p.old.seen p.new.seen }
 {
     traces_stay();

@@ -12,8 +12,10 @@ mod follows;
 mod lines;
 mod pours;
 mod refusals;
+mod retirements;
 mod standing_lines;
 mod store_writers;
+mod trims;
 
 pub use follows::follow;
 pub use lines::{LineRan, run_line, run_query};

@@ -1,7 +1,7 @@
 // A line of a script.
-ghost use Rattle.std.specs.Prelude.{◌≡◌, ◌≤ℤ◌, pos, IfOk};
+ghost use Rattle.std.specs.Prelude.{◌≡◌, ◌≤ℤ◌, pos, [], IfOk};
 ghost use Rattle.history_book.specs.Histories.{AreFronts};
-ghost use Rattle.line_runs.specs.LineWrites.{LineWrote, ran_line};
+ghost use Rattle.line_runs.specs.LineWrites.{LineRanSo, LineWrote, ran_line};
 ghost use Rattle.mon_script.specs.Lawful.{IsLawfulForm};
 ghost use Rattle.mon_script.specs.Blocks.{mark_of};
 ghost use Rattle.mon_script.specs.declared.places.Mark.TheVariants.{Acts};
@@ -29,7 +29,7 @@ pub struct LineRan {
 }
 
 /// Runs a line under its caller that may stand in a block, with what the files hold that it names. Where memory runs out,
-/// rows of a feed or a pour may have been written, and a leaf may have been switched or recovered.
+/// rows of a feed or a pour may have been written, and a control may have been done.
 pub fn run_line<N: Names, R: Threads + Wait + Sync>(
     rt: &R,
     alloc: Global,
@@ -40,8 +40,7 @@ pub fn run_line<N: Names, R: Threads + Wait + Sync>(
 ) -> Result<LineRan, OutOfMemory>
     requires lawful { IsLawfulForm store.now.topology what.now }
     requires acts { mark_of what.now ≡ Acts }
-    ensures wrote { IfOk result (λ ran. LineWrote store.now (ran_line what.now content.now ran.trace) ran.text
-        p.old p.new) }
+    ensures wrote { IfOk result (λ ran. LineRanSo store.now what.now content.now ran p.old p.new) }
     ensures fronts { AreFronts p.old.seen p.new.seen }
 {
     match what {
@@ -67,7 +66,7 @@ pub fn run_query<N: Names, R: Wait>(
 ) -> Result<LineRan, OutOfMemory>
     requires moment { pos 0 ≤ℤ moment }
     ensures wrote { IfOk result (λ ran. LineWrote store.now
-        (ran_line (query_form moment text.now) no_files ran.trace) ran.text p.old p.new) }
+        (ran_line (query_form moment text.now) no_files ran.trace []) ran.text p.old p.new) }
     ensures fronts { AreFronts p.old.seen p.new.seen }
 {
     ask(rt, alloc, store, p, How::Query, moment, text)

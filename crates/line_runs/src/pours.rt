@@ -1,5 +1,5 @@
 // Pouring the records of two files.
-ghost use Rattle.std.specs.Prelude.{◌≡◌, IfOk};
+ghost use Rattle.std.specs.Prelude.{◌≡◌, [], IfOk};
 ghost use Rattle.history_book.specs.Histories.{AreFronts};
 ghost use Rattle.line_runs.specs.Feeding.{WerePoured};
 ghost use Rattle.line_runs.specs.LineWrites.{LineWrote, ran_line};
@@ -43,7 +43,7 @@ pub(crate) fn pour<N: Names, R: Threads + Wait + Sync>(
     content: &LineFiles,
 ) -> Result<LineRan, OutOfMemory>
     ensures wrote { IfOk result (λ ran. LineWrote store.now
-        (ran_line (LineForm.Pour first.now second.now) content.now ran.trace) ran.text p.old p.new) }
+        (ran_line (LineForm.Pour first.now second.now) content.now ran.trace []) ran.text p.old p.new) }
     ensures fronts { AreFronts p.old.seen p.new.seen }
 {
     store.is_set_up();

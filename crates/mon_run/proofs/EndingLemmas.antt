@@ -1,6 +1,6 @@
 -- How the lines of a script end over a store, and what they then tell.
 use Rattle.std.proofs.Common.{◌≡◌, ◌∙◌, ◌⊎◌, ◌||◌, inl, inr, ℕ, Bool, true, false, cond}
-use Rattle.std.proofs.Common.{Option, Some, None, IfSome, List, [], ◌∷◌, ◌++◌, length, take, Result, Ok, Err}
+use Rattle.std.proofs.Common.{Option, Some, None, IfSome, List, [], ◌∷◌, ◌++◌, drop, length, take, Result, Ok, Err}
 use Rattle.std.proofs.Common.{refl, sym, ap, subst, append-nil, arith}
 use Rattle.std.proofs.lemmas.List.{length-map}
 use Rattle.std.proofs.lemmas.List.FromFn.{length-range_with_len}
@@ -24,18 +24,19 @@ use Rattle.mon_run.specs.Plans.{script_plan, store_plan}
 use Rattle.mon_run.specs.Steps.{Plan, end_status, plan, plan_behind}
 use Rattle.mon_run.specs.declared.stop.Stop.{Stop}
 use Rattle.mon_run.specs.declared.stop.Stop.TheVariants as stop
-use Rattle.mon_run.specs.within.Lines.{LinesHalt, LinesRan, ScriptEnds, TextEnds}
+use Rattle.mon_run.specs.within.Lines.{LinesHalt, LinesRan, LinesStopped, ScriptEnds, TextEnds, placed_by}
 use Rattle.mon_run.specs.within.Stops.{Closes, Done, Ends, Stops, script_stop}
 use Rattle.mon_run.proofs.EndLemmas.{refused_script}
 use Rattle.part_runs.proofs.GrownLemmas.{fronts_grown, grown_fronts, grown_none}
 use Rattle.mon_run.proofs.PartLemmas.{behind_all}
+use Rattle.mon_run.proofs.PlainPlans.{plain_plan}
 use Rattle.mon_run.proofs.StepLemmas.{did_by, did_none}
 use Rattle.run_theory.specs.Parts.{Part}
 use Rattle.run_traces.specs.Headline.{RunHolds, ScriptHolds}
 use Rattle.run_traces.specs.LineClaims.{AllRan, HaveGrown}
 use Rattle.run_traces.specs.LineDues.{AreDue, asked_parts, is_refused, lines_status}
 use Rattle.run_traces.specs.LineTexts.{line_text}
-use Rattle.run_traces.specs.RanLines.{RanLine, parts_of, ran_lines}
+use Rattle.run_traces.specs.RanLines.{OwnPlace, RanLine, parts_of, ran_lines}
 use Rattle.run_traces.specs.declared.traces.LineTrace.{LineTrace}
 use Rattle.run_traces.specs.declared.line_files.LineFiles.{LineFiles}
 use Rattle.standing.specs.DueLists.{standing_state}
@@ -72,7 +73,7 @@ first_ranges zones = length-map (range_with_len 0 (length (ranges_in zones))) (f
 
 refused_ran : (lines : List ScriptLine) (contents : List LineFiles) (traces : List LineTrace)
     → length contents ≡ length lines → length traces ≡ length lines
-    → list_any (λ (line : RanLine). is_refused line.trace) (ran_lines lines contents traces) ≡ list_any is_refused
+    → list_any (λ (line : RanLine). is_refused line.trace) (ran_lines lines contents traces []) ≡ list_any is_refused
     traces
 refused_ran [] contents [] held same = refl
 refused_ran [] contents (trace ∷ traces) held same = absurd cc
@@ -88,7 +89,7 @@ status_by false = refl
 
 status_is : (lines : List ScriptLine) (contents : List LineFiles) (traces : List LineTrace) (refused : Bool)
     → length contents ≡ length lines → length traces ≡ length lines → refused ≡ list_any is_refused traces
-    → end_status refused ≡ lines_status (ran_lines lines contents traces)
+    → end_status refused ≡ lines_status (ran_lines lines contents traces [])
 status_is lines contents traces refused held same is =
     status_by refused ∙ ap (λ (b : Bool). cond b 7 0) (is ∙ sym (refused_ran lines contents traces held same))
 
@@ -110,13 +111,14 @@ module _ (config : Config) (lines : List ScriptLine) (ended : Histories) (before
   traces_are traces ends = sym (ends ∙ ap (λ (front : List LineTrace). front ++ traces) fresh)
 
   -- the headline holds of the lines that ran
-  holds : (reads : Files) (known : Histories) (traces : List LineTrace) → traces ≡ after.ends → AreFronts known ended
-      → HaveGrown (first config) known
+  holds : (reads : Files) (known : Histories) (traces : List LineTrace) (places : List (List OwnPlace))
+      → traces ≡ after.ends → AreFronts known ended → HaveGrown (first config) known
       → ((parts : List (Part RanLine)) → AllRan config (first config) parts
-      → AllRan config known (parts ++ asked_parts (parts_of (lines_by config reads lines traces))))
+      → AllRan config known (parts ++ asked_parts (parts_of (placed_by reads places lines traces))))
       → ScriptHolds config (contents_of (forms_of lines) reads) known lines traces
-  holds reads known traces same front grown ran = record {
-    run = hold config known ended (asked_parts (parts_of (lines_by config reads lines traces)))
+  holds reads known traces places same front grown ran = record {
+    places = places;
+    run = hold config known ended (asked_parts (parts_of (placed_by reads places lines traces)))
         (fronts_grown (first config) known grown) front sound (ran [] (begun config));
     dues = subst (AreDue config.schemas (standing_state [] None) lines) (sym same) dues;
   }
@@ -129,8 +131,9 @@ module _ (config : Config) (lines : List ScriptLine) (ended : Histories) (before
         ∙ ran.have.held [] []
         ∙ append-nil ran.contents
 
-    lines_are : lines_by config ran.given lines ran.traces ≡ ran_lines lines ran.contents ran.traces
-    lines_are = ap (λ (contents : List LineFiles). ran_lines lines contents ran.traces) contents_are
+    lines_are : (places : List (List OwnPlace))
+        → placed_by ran.given places lines ran.traces ≡ ran_lines lines ran.contents ran.traces places
+    lines_are places = ap (λ (contents : List LineFiles). ran_lines lines contents ran.traces places) contents_are
 
     all_held : length ran.contents ≡ length lines
     all_held = ran.have.count ∙ length-map lines (λ (line : ScriptLine). line.what)
@@ -138,7 +141,10 @@ module _ (config : Config) (lines : List ScriptLine) (ended : Histories) (before
     whole_plan : (status : ℕ) → lines_plan config ran.given ended status lines ran.traces
         ≡ plan_behind (ran.did ended (grown_none ended)).steps (plan [] status)
     whole_plan status =
-        (λ i. parts_plan (line_text config ended) (parts_of (lines_are i))
+        plain_plan config ended lines (contents_of (forms_of lines) ran.given) ran.traces ran.places
+        (left_plan status (drop (length ran.traces) lines)
+        (reads_behind (forms_of (take (length ran.traces) lines)) ran.given))
+        ∙ (λ i. parts_plan (line_text config ended) (parts_of (lines_are ran.places i))
         (left_plan status (behind_all ran.traces lines ran.count i)
         (reads_behind (forms_of (take (length ran.traces) lines)) ran.given)))
         ∙ (ran.did ended (grown_none ended)).same (plan [] status)
@@ -154,7 +160,7 @@ module _ (config : Config) (lines : List ScriptLine) (ended : Histories) (before
         (record {
           status = status_is lines ran.contents ran.traces refused all_held ran.count
               (is ∙ ap (list_any is_refused) (sym same))
-              ∙ ap lines_status (sym lines_are)
+              ∙ ap lines_status (sym (lines_are []))
               ∙ sym (ap (λ (p : Plan). p.status) whole);
           did = did_by (sym (ap (λ (p : Plan). p.steps) whole ∙ append-nil steps))
               (ran.did ended (grown_none ended)).did;
@@ -175,11 +181,23 @@ module _ (config : Config) (lines : List ScriptLine) (ended : Histories) (before
             whole = inr refl;
             few = omega (arith, ran.count);
             held = sound;
-            holds = holds ran.given ended ran.traces (traces_are ran.traces ran.ends) (same_fronts ended) ran.grown
+            holds = holds ran.given ended ran.traces ran.places (traces_are ran.traces ran.ends) (same_fronts ended)
+                ran.grown
                 (λ parts all. subst (λ (one : List RanLine). AllRan config ended (parts ++ asked_parts (parts_of one)))
-                (sym lines_are) (ran.ran parts all));
+                (sym (lines_are ran.places)) (ran.ran parts all));
           });
     }
+
+  -- where lines stop they stop in a plan that asks for no places
+  stopped_by : {stopped : Stop} (stops : LinesStopped config lines stopped (first config) ended before after)
+      → HaveGrown stops.known ended → (status : ℕ)
+      → Stops (lines_plan config stops.reads ended status lines stops.traces) stopped before after
+  stopped_by {stopped} stops grown status =
+      subst (λ (p : Plan). Stops p stopped before after)
+      (sym (plain_plan config ended lines (contents_of (forms_of lines) stops.reads) stops.traces stops.places
+      (left_plan status (drop (length stops.traces) lines)
+      (reads_behind (forms_of (take (length stops.traces) lines)) stops.reads))))
+      (stops.stops ended grown status)
 
   -- a line stopped the run
   pub script_halted : (stopped : Stop) → length ended.leaves ≡ length (first config).leaves
@@ -196,7 +214,7 @@ module _ (config : Config) (lines : List ScriptLine) (ended : Histories) (before
           halts = record {
             stops = subst (λ (traces : List LineTrace). Stops (store_plan config stops.reads (Some ended) lines traces)
                 stopped before after) (traces_are stops.traces stops.ends)
-                (stops.stops ended (grown_fronts stops.known ended stops.front (leaves ∙ sym stops.grown.leaves)
+                (stopped_by stops (grown_fronts stops.known ended stops.front (leaves ∙ sym stops.grown.leaves)
                 (ranges ∙ sym stops.grown.ranges)) (lines_status (lines_by config stops.reads lines stops.traces)));
             causes = halts.causes;
           };
@@ -209,8 +227,8 @@ module _ (config : Config) (lines : List ScriptLine) (ended : Histories) (before
               whole = early_as ended stopped stops.known stops.whole;
               few = stops.few;
               held = sound;
-              holds = holds stops.reads stops.known stops.traces (traces_are stops.traces stops.ends) stops.front
-                  stops.grown stops.ran;
+              holds = holds stops.reads stops.known stops.traces stops.places (traces_are stops.traces stops.ends)
+                  stops.front stops.grown stops.ran;
             });
       }
 

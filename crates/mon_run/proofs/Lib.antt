@@ -8,6 +8,7 @@ mod LineLemmas
 mod MadeLemmas
 mod NumberLemmas
 mod PartLemmas
+mod PlainPlans
 mod ReadLemmas
 mod ReadingLemmas
 mod RunLemmas

@@ -10,12 +10,12 @@ use Rattle.mon_script.specs.declared.script.ScriptLine.{ScriptLine}
 use Rattle.mon_value.specs.declared.histories.Histories.{Histories}
 use Rattle.mon_run.specs.Endings.{Progress}
 use Rattle.mon_run.specs.Outside.{Files}
-use Rattle.mon_run.specs.Plans.{contents_of, forms_of, left_plan, lines_by, lines_plan, part_plan, parts_plan}
+use Rattle.mon_run.specs.Plans.{contents_of, forms_of, left_plan, part_plan, parts_plan}
 use Rattle.mon_run.specs.Plans.{reads_behind, sought}
 use Rattle.mon_run.specs.Steps.{Plan, plan_behind}
 use Rattle.mon_run.specs.declared.stop.Stop.{Stop}
 use Rattle.mon_run.specs.within.Lines.{HaveGiven, LinesHalt, LinesRan, LinesRanTo, LinesStopped, PartCut, PartDone}
-use Rattle.mon_run.specs.within.Lines.{PartWent, StandApart, StoppedEarly}
+use Rattle.mon_run.specs.within.Lines.{PartWent, StandApart, StoppedEarly, placed_by, placed_plan}
 use Rattle.mon_run.specs.within.Stops.{Counts, Ran, Stops}
 use Rattle.mon_run.proofs.EndLemmas.{causes_earlier}
 use Rattle.part_runs.proofs.GrownLemmas.{grown_none, grown_then}
@@ -27,7 +27,7 @@ use Rattle.run_theory.specs.Parts.{Part}
 use Rattle.run_traces.specs.LineClaims.{AllRan}
 use Rattle.run_traces.specs.LineDues.{asked_part, asked_parts}
 use Rattle.run_traces.specs.LineTexts.{line_text}
-use Rattle.run_traces.specs.RanLines.{RanLine, parts_of, ran_lines}
+use Rattle.run_traces.specs.RanLines.{OwnPlace, RanLine, parts_of, ran_lines}
 use Rattle.run_traces.specs.declared.traces.LineTrace.{LineTrace}
 use Rattle.run_traces.specs.declared.line_files.LineFiles.{LineFiles}
 
@@ -62,8 +62,10 @@ pub none_ran : (config : Config) (known : Histories) (p : Progress) → LinesRan
 none_ran config known p = record {
   contents = [];
   traces = [];
+  places = [];
   ends = sym (append-nil p.ends);
   count = refl;
+  placed = refl;
   given = [];
   gave = sym (append-nil p.folder.gave);
   have = have_none;
@@ -80,10 +82,13 @@ module _ {config : Config} {lines more : List ScriptLine} {from mid known : Hist
     more_ran first second = record {
       contents = first.contents ++ second.contents;
       traces = first.traces ++ second.traces;
+      places = first.places ++ second.places;
       ends = second.ends ∙ ap (λ (ends : List LineTrace). ends ++ second.traces) first.ends
           ∙ append_assoc before.ends first.traces second.traces;
       count = length-append first.traces second.traces
           ∙ (λ i. first.count i + second.count i) ∙ sym (length-append lines more);
+      placed = length-append first.places second.places
+          ∙ (λ i. first.placed i + second.placed i) ∙ sym (length-append lines more);
       given = first.given ++ second.given;
       gave = second.gave ∙ ap (λ (reads : Files). reads ++ second.given) first.gave
           ∙ append_assoc before.folder.gave first.given second.given;
@@ -109,14 +114,15 @@ module _ {config : Config} {lines more : List ScriptLine} {from mid known : Hist
     }
       where
         one : List RanLine
-        one = ran_lines lines first.contents first.traces
+        one = ran_lines lines first.contents first.traces first.places
 
         other : List RanLine
-        other = ran_lines more second.contents second.traces
+        other = ran_lines more second.contents second.traces second.places
 
-        both : ran_lines (lines ++ more) (first.contents ++ second.contents) (first.traces ++ second.traces) ≡ one ++ other
-        both = ran_both lines more first.contents second.contents first.traces second.traces
-            (held_count lines first.have) first.count
+        both : ran_lines (lines ++ more) (first.contents ++ second.contents) (first.traces ++ second.traces)
+            (first.places ++ second.places) ≡ one ++ other
+        both = ran_both lines more first.contents second.contents first.traces second.traces first.places second.places
+            (held_count lines first.have) first.count first.placed
 
         apart : StandApart (one ++ other)
         apart rest =
@@ -131,6 +137,7 @@ module _ {config : Config} {lines more : List ScriptLine} {from mid known : Hist
         → LinesStopped config (lines ++ more) stopped from known before after
     stopped_behind stopped first second = record {
       traces = first.traces ++ second.traces;
+      places = first.places ++ second.places;
       ends = second.ends ∙ ap (λ (ends : List LineTrace). ends ++ second.traces) first.ends
           ∙ append_assoc before.ends first.traces second.traces;
       few = subst (λ (n : ℕ). n ≤ length (lines ++ more)) (sym (length-append first.traces second.traces))
@@ -150,7 +157,7 @@ module _ {config : Config} {lines more : List ScriptLine} {from mid known : Hist
           (second.ran (parts ++ asked_parts (parts_of one)) (first.ran parts ran))));
       stops = λ later grown status.
           let went = first.did later (grown_then second.grown grown) in
-          let rest : Plan = lines_plan config second.reads later status more second.traces in
+          let rest : Plan = placed_plan config second.reads second.places later status more second.traces in
           let left : Plan = left_plan status (drop (length second.traces) more)
           (reads_behind (forms_of (take (length second.traces) more)) second.reads) in
           subst (λ (p : Plan). Stops p stopped before after)
@@ -166,18 +173,20 @@ module _ {config : Config} {lines more : List ScriptLine} {from mid known : Hist
         reads = first.given ++ second.reads
 
         one : List RanLine
-        one = ran_lines lines first.contents first.traces
+        one = ran_lines lines first.contents first.traces first.places
 
         other : List RanLine
-        other = lines_by config second.reads more second.traces
+        other = placed_by second.reads second.places more second.traces
 
-        both : lines_by config reads (lines ++ more) (first.traces ++ second.traces) ≡ one ++ other
+        both : placed_by reads (first.places ++ second.places) (lines ++ more) (first.traces ++ second.traces)
+            ≡ one ++ other
         both =
-            ap (λ (contents : List LineFiles). ran_lines (lines ++ more) contents (first.traces ++ second.traces))
+            ap (λ (contents : List LineFiles). ran_lines (lines ++ more) contents (first.traces ++ second.traces)
+            (first.places ++ second.places))
             (ap (λ (forms : List LineForm). contents_of forms reads) (forms_both lines more)
             ∙ first.have.held (forms_of more) second.reads)
             ∙ ran_both lines more first.contents (contents_of (forms_of more) second.reads) first.traces second.traces
-            (held_count lines first.have) first.count
+            first.places second.places (held_count lines first.have) first.count first.placed
 
         reads_left : reads_behind (forms_of (take (length (first.traces ++ second.traces)) (lines ++ more))) reads
             ≡ reads_behind (forms_of (take (length second.traces) more)) second.reads
@@ -192,14 +201,14 @@ module _ {config : Config} {lines more : List ScriptLine} {from mid known : Hist
 -- ---- a part as lines
 
 module _ {config : Config} {part : Part RanLine} {traces : List LineTrace} {from known : Histories}
-    {before after : Progress} (lines : List ScriptLine) (contents : List LineFiles) (given : Files)
-    (have : HaveGiven (forms_of lines) contents given) (count : length traces ≡ length lines)
-    (is : IsPart (ran_lines lines contents traces) part) where
+    {before after : Progress} (lines : List ScriptLine) (contents : List LineFiles) (places : List (List OwnPlace))
+    (given : Files) (have : HaveGiven (forms_of lines) contents given) (count : length traces ≡ length lines)
+    (placed : length places ≡ length lines) (is : IsPart (ran_lines lines contents traces places) part) where
   part_ran : PartDone config part traces from known before after → (parts : Parts) → AllRan config from parts
-      → AllRan config known (parts ++ asked_parts (parts_of (ran_lines lines contents traces)))
+      → AllRan config known (parts ++ asked_parts (parts_of (ran_lines lines contents traces places)))
   part_ran done parts ran =
       subst (λ (all : Parts). AllRan config known (parts ++ asked_parts all))
-      (sym (part_whole (ran_lines lines contents traces) part is))
+      (sym (part_whole (ran_lines lines contents traces places) part is))
       (subst (λ (all : Parts). AllRan config known (parts ++ all)) (sym (append-nil (asked_part part)))
       (done.ran parts ran))
 
@@ -208,12 +217,14 @@ module _ {config : Config} {part : Part RanLine} {traces : List LineTrace} {from
   lines_went went gave = record {
     contents = contents;
     traces = traces;
+    places = places;
     ends = went.done.ends;
     count = count;
+    placed = placed;
     given = given;
     gave = gave;
     have = have;
-    apart = part_apart (ran_lines lines contents traces) part is;
+    apart = part_apart (ran_lines lines contents traces places) part is;
     grown = went.done.grown;
     ran = part_ran went.done;
     did = λ later grown.
@@ -222,7 +233,7 @@ module _ {config : Config} {part : Part RanLine} {traces : List LineTrace} {from
           steps = did.steps;
           same = λ rest.
               ap (λ (all : Parts). parts_plan (line_text config later) all rest)
-              (part_whole (ran_lines lines contents traces) part is)
+              (part_whole (ran_lines lines contents traces places) part is)
               ∙ did.same rest;
           did = did.did;
         };
@@ -234,6 +245,7 @@ module _ {config : Config} {part : Part RanLine} {traces : List LineTrace} {from
       → LinesStopped config (lines ++ left) stopped from known before after
   lines_cut left stopped fronts cut gave = record {
     traces = traces;
+    places = places;
     ends = cut.done.ends;
     few = omega (arith, count, length-append lines left);
     reads = given;
@@ -251,17 +263,18 @@ module _ {config : Config} {part : Part RanLine} {traces : List LineTrace} {from
         subst (λ (p : Plan). Stops p stopped before after)
         (sym (ap (λ (all : List RanLine). parts_plan (line_text config later) (parts_of all) rest) first
         ∙ ap (λ (all : Parts). parts_plan (line_text config later) all rest)
-        (part_whole (ran_lines lines contents traces) part is)))
+        (part_whole (ran_lines lines contents traces places) part is)))
         (cut.stops later grown rest);
   }
     where
-      first : lines_by config given (lines ++ left) traces ≡ ran_lines lines contents traces
+      first : placed_by given places (lines ++ left) traces ≡ ran_lines lines contents traces places
       first =
-          ap (λ (held : List LineFiles). ran_lines (lines ++ left) held traces)
+          ap (λ (held : List LineFiles). ran_lines (lines ++ left) held traces places)
           (ap (λ (forms : List LineForm). contents_of forms given) (forms_both lines left)
           ∙ ap (contents_of (forms_of lines ++ forms_of left)) (sym (append-nil given))
           ∙ have.held (forms_of left) [])
-          ∙ ran_first lines left contents (contents_of (forms_of left) []) traces (held_count lines have) count
+          ∙ ran_first lines left contents (contents_of (forms_of left) []) traces places (held_count lines have) count
+          placed
 
 -- a run stopped before its next part came to something
 pub lines_early : (config : Config) (line : ScriptLine) (behind : List ScriptLine) (forms : List LineForm)
@@ -271,6 +284,7 @@ pub lines_early : (config : Config) (line : ScriptLine) (behind : List ScriptLin
     → LinesStopped config (line ∷ behind) stopped from ended before after
 lines_early config line behind forms from ended stopped {before} {after} next early = record {
   traces = [];
+  places = [];
   ends = early.ends ∙ sym (append-nil before.ends);
   few = omega arith;
   reads = early.halts.reads;
@@ -289,8 +303,8 @@ lines_early config line behind forms from ended stopped {before} {after} next ea
       early.halts.halts.stops;
 }
   where
-    none : lines_by config early.halts.reads (line ∷ behind) [] ≡ []
-    none = ran_none (line ∷ behind) (contents_of (forms_of (line ∷ behind)) early.halts.reads)
+    none : placed_by early.halts.reads [] (line ∷ behind) [] ≡ []
+    none = ran_none (line ∷ behind) (contents_of (forms_of (line ∷ behind)) early.halts.reads) []
 
 -- ---- the loop over parts
 

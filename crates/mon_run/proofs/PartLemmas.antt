@@ -13,75 +13,93 @@ use Rattle.mon_run.specs.Steps.{End, Plan, Print, Step}
 use Rattle.mon_run.specs.within.Lines.{StandApart, block_traces, prints}
 use Rattle.mon_run.proofs.BlockLemmas.{Acts}
 use Rattle.run_theory.specs.Parts.{Alone, Beside, Part}
-use Rattle.run_traces.specs.RanLines.{RanLine, acts_by, block_behind, part_at, parts_from, parts_of, ran_lines}
+use Rattle.run_traces.specs.RanLines.{OwnPlace, RanLine, acts_by, block_behind, part_at, parts_from, parts_of, ran_lines}
 use Rattle.run_traces.specs.declared.traces.LineTrace.{LineTrace}
 use Rattle.run_traces.specs.declared.traces.LineTrace.TheVariants as came
 use Rattle.run_traces.specs.declared.line_files.LineFiles.{LineFiles}
 
 -- ---- lines that ran
 
-abbrev ran_line : ScriptLine → LineFiles → LineTrace → List RanLine → List RanLine
-ran_line line content trace ran = record { what = line.what; content = content; trace = trace } ∷ ran
+abbrev ran_line : ScriptLine → LineFiles → LineTrace → List OwnPlace → List RanLine → List RanLine
+ran_line line content trace own ran = record { what = line.what; content = content; trace = trace; own = own } ∷ ran
 
 pub ran_both : (lines more : List ScriptLine) (contents others : List LineFiles) (traces behind : List LineTrace)
-    → length contents ≡ length lines → length traces ≡ length lines
-    → ran_lines (lines ++ more) (contents ++ others) (traces ++ behind)
-    ≡ ran_lines lines contents traces ++ ran_lines more others behind
-ran_both [] more [] others [] behind held same = refl
-ran_both [] more (content ∷ contents) others traces behind held same = absurd cc
-ran_both [] more [] others (trace ∷ traces) behind held same = absurd cc
-ran_both (line ∷ lines) more [] others traces behind held same = absurd cc
-ran_both (line ∷ lines) more (content ∷ contents) others [] behind held same = absurd cc
-ran_both (line ∷ lines) more (content ∷ contents) others (trace ∷ traces) behind held same =
-    ap (ran_line line content trace)
-    (ran_both lines more contents others traces behind (omega (arith, held)) (omega (arith, same)))
+    (places further : List (List OwnPlace)) → length contents ≡ length lines → length traces ≡ length lines
+    → length places ≡ length lines
+    → ran_lines (lines ++ more) (contents ++ others) (traces ++ behind) (places ++ further)
+    ≡ ran_lines lines contents traces places ++ ran_lines more others behind further
+ran_both [] more [] others [] behind [] further held same placed = refl
+ran_both [] more (content ∷ contents) others traces behind places further held same placed = absurd cc
+ran_both [] more [] others (trace ∷ traces) behind places further held same placed = absurd cc
+ran_both [] more [] others [] behind (own ∷ places) further held same placed = absurd cc
+ran_both (line ∷ lines) more [] others traces behind places further held same placed = absurd cc
+ran_both (line ∷ lines) more (content ∷ contents) others [] behind places further held same placed = absurd cc
+ran_both (line ∷ lines) more (content ∷ contents) others (trace ∷ traces) behind [] further held same placed =
+    absurd cc
+ran_both (line ∷ lines) more (content ∷ contents) others (trace ∷ traces) behind (own ∷ places) further held same
+    placed =
+    ap (ran_line line content trace own)
+    (ran_both lines more contents others traces behind places further (omega (arith, held)) (omega (arith, same))
+    (omega (arith, placed)))
 
-pub ran_none : (lines : List ScriptLine) (contents : List LineFiles) → ran_lines lines contents [] ≡ []
-ran_none [] contents = refl
-ran_none (line ∷ lines) [] = refl
-ran_none (line ∷ lines) (content ∷ contents) = refl
+pub ran_none : (lines : List ScriptLine) (contents : List LineFiles) (places : List (List OwnPlace))
+    → ran_lines lines contents [] places ≡ []
+ran_none [] contents places = refl
+ran_none (line ∷ lines) [] places = refl
+ran_none (line ∷ lines) (content ∷ contents) places = refl
 
 pub ran_first : (lines more : List ScriptLine) (contents others : List LineFiles) (traces : List LineTrace)
-    → length contents ≡ length lines → length traces ≡ length lines
-    → ran_lines (lines ++ more) (contents ++ others) traces ≡ ran_lines lines contents traces
-ran_first lines more contents others traces held same =
-    ap (ran_lines (lines ++ more) (contents ++ others)) (sym (append-nil traces))
-    ∙ ran_both lines more contents others traces [] held same
-    ∙ ap (λ (ran : List RanLine). ran_lines lines contents traces ++ ran) (ran_none more others)
-    ∙ append-nil (ran_lines lines contents traces)
+    (places : List (List OwnPlace)) → length contents ≡ length lines → length traces ≡ length lines
+    → length places ≡ length lines
+    → ran_lines (lines ++ more) (contents ++ others) traces places ≡ ran_lines lines contents traces places
+ran_first lines more contents others traces places held same placed =
+    (λ i. ran_lines (lines ++ more) (contents ++ others) (sym (append-nil traces) i) (sym (append-nil places) i))
+    ∙ ran_both lines more contents others traces [] places [] held same placed
+    ∙ ap (λ (ran : List RanLine). ran_lines lines contents traces places ++ ran) (ran_none more others [])
+    ∙ append-nil (ran_lines lines contents traces places)
 
 -- what they say, what their files held, and what they came to
 pub ran_forms : (lines : List ScriptLine) (contents : List LineFiles) (traces : List LineTrace)
-    → length contents ≡ length lines → length traces ≡ length lines
-    → map (λ (line : RanLine). line.what) (ran_lines lines contents traces) ≡ forms_of lines
-ran_forms [] contents traces held same = refl
-ran_forms (line ∷ lines) [] traces held same = absurd cc
-ran_forms (line ∷ lines) (content ∷ contents) [] held same = absurd cc
-ran_forms (line ∷ lines) (content ∷ contents) (trace ∷ traces) held same =
+    (places : List (List OwnPlace)) → length contents ≡ length lines → length traces ≡ length lines
+    → map (λ (line : RanLine). line.what) (ran_lines lines contents traces places) ≡ forms_of lines
+ran_forms [] contents traces places held same = refl
+ran_forms (line ∷ lines) [] traces places held same = absurd cc
+ran_forms (line ∷ lines) (content ∷ contents) [] places held same = absurd cc
+ran_forms (line ∷ lines) (content ∷ contents) (trace ∷ traces) [] held same =
     ap (λ (forms : List LineForm). line.what ∷ forms)
-    (ran_forms lines contents traces (omega (arith, held)) (omega (arith, same)))
+    (ran_forms lines contents traces [] (omega (arith, held)) (omega (arith, same)))
+ran_forms (line ∷ lines) (content ∷ contents) (trace ∷ traces) (own ∷ places) held same =
+    ap (λ (forms : List LineForm). line.what ∷ forms)
+    (ran_forms lines contents traces places (omega (arith, held)) (omega (arith, same)))
 
 pub ran_contents : (lines : List ScriptLine) (contents : List LineFiles) (traces : List LineTrace)
-    → length contents ≡ length lines → length traces ≡ length lines
-    → map (λ (line : RanLine). line.content) (ran_lines lines contents traces) ≡ contents
-ran_contents [] [] traces held same = refl
-ran_contents [] (content ∷ contents) traces held same = absurd cc
-ran_contents (line ∷ lines) [] traces held same = absurd cc
-ran_contents (line ∷ lines) (content ∷ contents) [] held same = absurd cc
-ran_contents (line ∷ lines) (content ∷ contents) (trace ∷ traces) held same =
+    (places : List (List OwnPlace)) → length contents ≡ length lines → length traces ≡ length lines
+    → map (λ (line : RanLine). line.content) (ran_lines lines contents traces places) ≡ contents
+ran_contents [] [] traces places held same = refl
+ran_contents [] (content ∷ contents) traces places held same = absurd cc
+ran_contents (line ∷ lines) [] traces places held same = absurd cc
+ran_contents (line ∷ lines) (content ∷ contents) [] places held same = absurd cc
+ran_contents (line ∷ lines) (content ∷ contents) (trace ∷ traces) [] held same =
     ap (λ (rest : List LineFiles). content ∷ rest)
-    (ran_contents lines contents traces (omega (arith, held)) (omega (arith, same)))
+    (ran_contents lines contents traces [] (omega (arith, held)) (omega (arith, same)))
+ran_contents (line ∷ lines) (content ∷ contents) (trace ∷ traces) (own ∷ places) held same =
+    ap (λ (rest : List LineFiles). content ∷ rest)
+    (ran_contents lines contents traces places (omega (arith, held)) (omega (arith, same)))
 
 pub ran_ends : (lines : List ScriptLine) (contents : List LineFiles) (traces : List LineTrace)
-    → length contents ≡ length lines → length traces ≡ length lines
-    → map (λ (line : RanLine). End line.trace) (ran_lines lines contents traces) ≡ map (λ trace. End trace) traces
-ran_ends [] contents [] held same = refl
-ran_ends [] contents (trace ∷ traces) held same = absurd cc
-ran_ends (line ∷ lines) [] traces held same = absurd cc
-ran_ends (line ∷ lines) (content ∷ contents) [] held same = absurd cc
-ran_ends (line ∷ lines) (content ∷ contents) (trace ∷ traces) held same =
+    (places : List (List OwnPlace)) → length contents ≡ length lines → length traces ≡ length lines
+    → map (λ (line : RanLine). End line.trace) (ran_lines lines contents traces places)
+    ≡ map (λ trace. End trace) traces
+ran_ends [] contents [] places held same = refl
+ran_ends [] contents (trace ∷ traces) places held same = absurd cc
+ran_ends (line ∷ lines) [] traces places held same = absurd cc
+ran_ends (line ∷ lines) (content ∷ contents) [] places held same = absurd cc
+ran_ends (line ∷ lines) (content ∷ contents) (trace ∷ traces) [] held same =
     ap (λ (steps : List Step). End trace ∷ steps)
-    (ran_ends lines contents traces (omega (arith, held)) (omega (arith, same)))
+    (ran_ends lines contents traces [] (omega (arith, held)) (omega (arith, same)))
+ran_ends (line ∷ lines) (content ∷ contents) (trace ∷ traces) (own ∷ places) held same =
+    ap (λ (steps : List Step). End trace ∷ steps)
+    (ran_ends lines contents traces places (omega (arith, held)) (omega (arith, same)))
 
 pub behind_both : {X : Type 0} (traces : List LineTrace) (lines more : List X) (others : List LineTrace)
     → length traces ≡ length lines → drop (length (traces ++ others)) (lines ++ more) ≡ drop (length others) more
@@ -184,11 +202,15 @@ block_part begin end lines opens closes acts = λ more.
     ∙ closes_by lines end more (mark_of end.what) closes
 
 pub all_act : (lines : List ScriptLine) (contents : List LineFiles) (traces : List LineTrace)
-    → AllByRecursion Acts lines → AllByRecursion ActsThere (ran_lines lines contents traces)
-all_act [] contents traces acts = tt
-all_act (line ∷ lines) [] traces acts = tt
-all_act (line ∷ lines) (content ∷ contents) [] acts = tt
-all_act (line ∷ lines) (content ∷ contents) (trace ∷ traces) acts = (acts.0, all_act lines contents traces acts.1)
+    (places : List (List OwnPlace)) → AllByRecursion Acts lines
+    → AllByRecursion ActsThere (ran_lines lines contents traces places)
+all_act [] contents traces places acts = tt
+all_act (line ∷ lines) [] traces places acts = tt
+all_act (line ∷ lines) (content ∷ contents) [] places acts = tt
+all_act (line ∷ lines) (content ∷ contents) (trace ∷ traces) [] acts =
+    (acts.0, all_act lines contents traces [] acts.1)
+all_act (line ∷ lines) (content ∷ contents) (trace ∷ traces) (own ∷ places) acts =
+    (acts.0, all_act lines contents traces places acts.1)
 
 -- ---- plans
 
@@ -255,15 +277,16 @@ ends_both (trace ∷ traces) others = ap (λ (steps : List Step). End trace ∷ 
 
 -- where its lines print these texts
 pub block_ends : (text : RanLine → List ℕ) (lines : List ScriptLine) (contents : List LineFiles)
-    (traces : List LineTrace) (texts : List (List ℕ)) → length contents ≡ length lines → length traces ≡ length lines
-    → map text (ran_lines lines contents traces) ≡ texts
-    → block_steps text (ran_lines lines contents traces)
+    (traces : List LineTrace) (places : List (List OwnPlace)) (texts : List (List ℕ))
+    → length contents ≡ length lines → length traces ≡ length lines
+    → map text (ran_lines lines contents traces places) ≡ texts
+    → block_steps text (ran_lines lines contents traces places)
     ≡ map (λ trace. End trace) (block_traces traces) ++ prints texts
-block_ends text lines contents traces texts held same is =
-    let ran : List RanLine = ran_lines lines contents traces in
+block_ends text lines contents traces places texts held same is =
+    let ran : List RanLine = ran_lines lines contents traces places in
     let ends : List Step = map (λ trace. End trace) traces in
     ap (λ (front : List Step). End came.Done ∷ (front ++ End came.Done ∷ map (λ line. Print (text line)) ran))
-    (ran_ends lines contents traces held same)
+    (ran_ends lines contents traces places held same)
     ∙ ap (λ (back : List Step). End came.Done ∷ (ends ++ End came.Done ∷ back)) (written text ran texts is)
     ∙ ap (λ (steps : List Step). End came.Done ∷ steps) (sym (append_assoc ends (End came.Done ∷ []) (prints texts)))
     ∙ ap (λ (steps : List Step). End came.Done ∷ (steps ++ prints texts)) (sym (ends_both traces (came.Done ∷ [])))

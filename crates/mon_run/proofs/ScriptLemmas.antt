@@ -33,11 +33,11 @@ use Rattle.mon_run.proofs.RunLemmas.{cut_at}
 use Rattle.mon_run.proofs.SinkLemmas.{nothing_written}
 use Rattle.mon_run.proofs.StepLemmas.{did_by, did_none, did_print, did_then, plan_twice, stops_behind}
 use Rattle.part_runs.specs.PartsDone.{PartTells}
-use Rattle.run_theory.specs.Parts.{Alone, Beside, Part, lines_of}
+use Rattle.run_theory.specs.Parts.{Part, lines_of}
 use Rattle.run_traces.specs.LineClaims.{HaveGrown}
 use Rattle.run_traces.specs.LineTexts.{line_text}
 use Rattle.run_traces.specs.LineAsks.{files_of, unnamed}
-use Rattle.run_traces.specs.RanLines.{RanLine, no_files, ran_lines}
+use Rattle.run_traces.specs.RanLines.{OwnPlace, RanLine, no_files, ran_lines}
 use Rattle.run_traces.specs.declared.traces.LineTrace.{LineTrace}
 use Rattle.run_traces.specs.declared.traces.LineTrace.TheVariants as came
 use Rattle.run_traces.specs.declared.line_files.LineFiles.{LineFiles}
@@ -129,12 +129,12 @@ still_gave before given {mid} gave still = still ∙ append-nil mid ∙ gave
 
 -- ---- a line alone
 
-alone_same : (config : Config) (what : LineForm) (content : LineFiles) (trace : LineTrace) (text : List ℕ)
-    (later : Histories) {before after : Progress} (read : FileRead what content before after)
-    → map (line_text config later) (lines_of (alone_in what content trace)) ≡ text ∷ [] → (rest : Plan)
-    → part_plan (line_text config later) (alone_in what content trace) rest
+alone_same : (config : Config) (what : LineForm) (content : LineFiles) (trace : LineTrace) (own : List OwnPlace)
+    (text : List ℕ) (later : Histories) {before after : Progress} (read : FileRead what content before after)
+    → map (line_text config later) (lines_of (alone_in what content trace own)) ≡ text ∷ [] → (rest : Plan)
+    → part_plan (line_text config later) (alone_in what content trace own) rest
     ≡ plan_behind (read.read.steps ++ End trace ∷ []) (plan_behind (prints (text ∷ [])) rest)
-alone_same config what content trace text later read prints_so rest =
+alone_same config what content trace own text later read prints_so rest =
     ap (λ (texts : List (List ℕ)). line_read what content (plan_behind (End trace ∷ prints texts) rest)) prints_so
     ∙ read.read.same (plan_behind (End trace ∷ Print text ∷ []) rest)
     ∙ plan_twice read.read.steps (End trace ∷ Print text ∷ []) rest
@@ -142,14 +142,15 @@ alone_same config what content trace text later read prints_so rest =
     (sym (append_assoc read.read.steps (End trace ∷ []) (Print text ∷ [])))
     ∙ sym (plan_twice (read.read.steps ++ End trace ∷ []) (Print text ∷ []) rest)
 
-module _ {config : Config} {what : LineForm} {content : LineFiles} {trace : LineTrace} {text : List ℕ}
-    {know known : Knowledge} {before read ended : Progress} (has_read : FileRead what content before read)
-    (did : PartTells config (Alone (record { what = what; content = content; trace = trace })) (text ∷ []) know known)
+module _ {config : Config} {what : LineForm} {content : LineFiles} {trace : LineTrace} {own : List OwnPlace}
+    {text : List ℕ} {know known : Knowledge} {before read ended : Progress}
+    (has_read : FileRead what content before read)
+    (did : PartTells config (alone_in what content trace own) (text ∷ []) know known)
     (ends : Did (End trace ∷ []) read ended) (first : read.ends ≡ before.ends) where
   same : (later : Histories) → HaveGrown known.seen later → (rest : Plan)
-      → part_plan (line_text config later) (alone_in what content trace) rest
+      → part_plan (line_text config later) (alone_in what content trace own) rest
       ≡ plan_behind (has_read.read.steps ++ End trace ∷ []) (plan_behind (prints (text ∷ [])) rest)
-  same later grown rest = alone_same config what content trace text later has_read (did.prints later grown) rest
+  same later grown rest = alone_same config what content trace own text later has_read (did.prints later grown) rest
 
   ended_behind : ended.ends ≡ before.ends ++ trace ∷ []
   ended_behind = ends.ends ∙ ap (λ (xs : List LineTrace). xs ++ trace ∷ []) first
@@ -162,6 +163,7 @@ module _ {config : Config} {what : LineForm} {content : LineFiles} {trace : Line
   alone_ran after wrote last = record {
     content = content;
     trace = trace;
+    own = own;
     went = part_went (has_read.read.steps ++ End trace ∷ []) did same has_read.given has_read.have after
         (last ∙ ended_behind) (still_gave before.folder.gave has_read.given gave_there wrote.gave) (did_then has_read.read.did ends)
         (did_print text wrote);
@@ -176,6 +178,7 @@ module _ {config : Config} {what : LineForm} {content : LineFiles} {trace : Line
         told = inr (record {
           content = content;
           trace = trace;
+          own = own;
           cut = part_cut (has_read.read.steps ++ End trace ∷ []) did same has_read.given has_read.have after
               stop.WriteFailed (last ∙ ended_behind) (ap (λ (f : FolderState). f.gave) kept ∙ gave_there)
               (did_then has_read.read.did ends)
@@ -235,43 +238,46 @@ no_reads [] = refl
 no_reads (text ∷ texts) = no_reads texts
 
 block_same : (config : Config) (lines : List ScriptLine) (contents : List LineFiles) (traces : List LineTrace)
-    (texts : List (List ℕ)) (later : Histories) {before after : Progress}
+    (places : List (List OwnPlace)) (texts : List (List ℕ)) (later : Histories) {before after : Progress}
     (read : HaveRead (forms_of lines) contents before after) → length contents ≡ length lines
     → length traces ≡ length lines
-    → map (line_text config later) (lines_of (block_in lines contents traces)) ≡ texts → (rest : Plan)
-    → part_plan (line_text config later) (block_in lines contents traces) rest
+    → map (line_text config later) (lines_of (block_in lines contents traces places)) ≡ texts → (rest : Plan)
+    → part_plan (line_text config later) (block_in lines contents traces places) rest
     ≡ plan_behind (read.read.steps ++ map (λ trace. End trace) (block_traces traces)) (plan_behind (prints texts) rest)
-block_same config lines contents traces texts later read held count prints_so rest =
+block_same config lines contents traces places texts later read held count prints_so rest =
     let ends : List Step = map (λ trace. End trace) (block_traces traces) in
-    (λ i. lines_read (ran_forms lines contents traces held count i) (ran_contents lines contents traces held count i)
-    (plan_behind (block_ends (line_text config later) lines contents traces texts held count prints_so i) rest))
+    (λ i. lines_read (ran_forms lines contents traces places held count i)
+    (ran_contents lines contents traces places held count i)
+    (plan_behind (block_ends (line_text config later) lines contents traces places texts held count prints_so i) rest))
     ∙ read.read.same (plan_behind (ends ++ prints texts) rest)
     ∙ plan_twice read.read.steps (ends ++ prints texts) rest
     ∙ ap (λ (steps : List Step). plan_behind steps rest) (sym (append_assoc read.read.steps ends (prints texts)))
     ∙ sym (plan_twice (read.read.steps ++ ends) (prints texts) rest)
 
-block_have : (lines : List ScriptLine) (contents : List LineFiles) (traces : List LineTrace) (given : Files)
-    → length contents ≡ length lines → length traces ≡ length lines → HaveGiven (forms_of lines) contents given
-    → HaveGiven (part_forms (block_in lines contents traces)) (part_contents (block_in lines contents traces)) given
-block_have lines contents traces given held count have =
-    subst (λ (forms : List LineForm). HaveGiven forms (part_contents (block_in lines contents traces)) given)
-    (sym (ran_forms lines contents traces held count))
+block_have : (lines : List ScriptLine) (contents : List LineFiles) (traces : List LineTrace)
+    (places : List (List OwnPlace)) (given : Files) → length contents ≡ length lines → length traces ≡ length lines
+    → HaveGiven (forms_of lines) contents given
+    → HaveGiven (part_forms (block_in lines contents traces places))
+    (part_contents (block_in lines contents traces places)) given
+block_have lines contents traces places given held count have =
+    subst (λ (forms : List LineForm). HaveGiven forms (part_contents (block_in lines contents traces places)) given)
+    (sym (ran_forms lines contents traces places held count))
     (subst (λ (c : List LineFiles). HaveGiven (forms_of lines) c given)
-    (sym (ran_contents lines contents traces held count)) have)
+    (sym (ran_contents lines contents traces places held count)) have)
 
 module _ (config : Config) (lines : List ScriptLine) (contents : List LineFiles) (traces : List LineTrace)
-    (texts : List (List ℕ)) (know known : Knowledge) (before read ended : Progress)
+    (places : List (List OwnPlace)) (texts : List (List ℕ)) (know known : Knowledge) (before read ended : Progress)
     (has_read : FilesRead lines contents before read) (held : length contents ≡ length lines)
-    (count : length traces ≡ length lines)
-    (did : PartTells config (Beside (ran_lines lines contents traces)) texts know known)
+    (count : length traces ≡ length lines) (placed : length places ≡ length lines)
+    (did : PartTells config (block_in lines contents traces places) texts know known)
     (ends : Did (map (λ trace. End trace) (block_traces traces)) read ended) (first : read.ends ≡ before.ends)
     (noted : ended.ends ≡ read.ends ++ block_traces traces) where
   block_plan : (later : Histories) → HaveGrown known.seen later → (rest : Plan)
-      → part_plan (line_text config later) (block_in lines contents traces) rest
+      → part_plan (line_text config later) (block_in lines contents traces places) rest
       ≡ plan_behind (has_read.read.steps ++ map (λ trace. End trace) (block_traces traces))
       (plan_behind (prints texts) rest)
   block_plan later grown rest =
-      block_same config lines contents traces texts later has_read held count (did.prints later grown) rest
+      block_same config lines contents traces places texts later has_read held count (did.prints later grown) rest
 
   block_noted : ended.ends ≡ before.ends ++ block_traces traces
   block_noted = noted ∙ ap (λ (xs : List LineTrace). xs ++ block_traces traces) first
@@ -286,10 +292,12 @@ module _ (config : Config) (lines : List ScriptLine) (contents : List LineFiles)
   block_ran after wrote last = record {
     contents = contents;
     traces = traces;
+    places = places;
     held = held;
     count = count;
+    placed = placed;
     went = part_went (has_read.read.steps ++ map (λ trace. End trace) (block_traces traces)) did block_plan
-        has_read.given (block_have lines contents traces has_read.given held count has_read.have) after
+        has_read.given (block_have lines contents traces places has_read.given held count has_read.have) after
         (last ∙ block_noted)
         (still_gave before.folder.gave has_read.given block_gave (wrote.gave ∙ ap (λ (more : Files). ended.folder.gave ++ more) (no_reads texts)))
         (did_then has_read.read.did ends) wrote;
@@ -302,10 +310,12 @@ module _ (config : Config) (lines : List ScriptLine) (contents : List LineFiles)
     told = inr (record {
       contents = contents;
       traces = traces;
+      places = places;
       held = held;
       count = count;
+      placed = placed;
       cut = part_cut (has_read.read.steps ++ map (λ trace. End trace) (block_traces traces)) did block_plan
-          has_read.given (block_have lines contents traces has_read.given held count has_read.have) after stopped
+          has_read.given (block_have lines contents traces places has_read.given held count has_read.have) after stopped
           (last ∙ block_noted) (ap (λ (f : FolderState). f.gave) kept ∙ block_gave) (did_then has_read.read.did ends)
           stops.stops;
     });
@@ -337,9 +347,10 @@ pub alone_to : {config : Config} {line : ScriptLine} {behind : List ScriptLine} 
 alone_to {config} {line} left is rest alone = record {
   part = line ∷ [];
   split = ap (λ (more : List ScriptLine). line ∷ more) rest;
-  ran = lines_went (line ∷ []) (alone.content ∷ []) alone.went.done.given alone.went.done.have refl
-      (alone_part (record { what = line.what; content = alone.content; trace = alone.trace }) is.acts) alone.went
-      alone.went.done.gave;
+  ran = lines_went (line ∷ []) (alone.content ∷ []) (alone.own ∷ []) alone.went.done.given alone.went.done.have refl
+      refl
+      (alone_part (record { what = line.what; content = alone.content; trace = alone.trace; own = alone.own }) is.acts)
+      alone.went alone.went.done.gave;
 }
 
 pub alone_halts : {config : Config} {line : ScriptLine} {behind : List ScriptLine} {from known : Histories}
@@ -350,9 +361,9 @@ alone_halts {config} {line} {behind} {from} {known} stopped is halts = record {
   told = elim halts.told [
     | inl early ↦ lines_early config line behind (line.what ∷ []) from known stopped
         (λ status reads. alone_left status line behind reads is.acts) early
-    | inr late ↦ lines_cut (line ∷ []) (late.content ∷ []) late.cut.done.given late.cut.done.have refl
-        (alone_part (record { what = line.what; content = late.content; trace = late.trace }) is.acts) behind stopped
-        (same_fronts known) late.cut late.cut.done.gave
+    | inr late ↦ lines_cut (line ∷ []) (late.content ∷ []) (late.own ∷ []) late.cut.done.given late.cut.done.have refl
+        refl (alone_part (record { what = line.what; content = late.content; trace = late.trace; own = late.own }) is.acts)
+        behind stopped (same_fronts known) late.cut late.cut.done.gave
   ];
   causes = halts.causes;
 }
@@ -361,26 +372,33 @@ alone_halts {config} {line} {behind} {from} {known} stopped is halts = record {
 abbrev pub block_lines : ScriptLine → ScriptLine → List ScriptLine → List ScriptLine
 block_lines line end lines = line ∷ (lines ++ end ∷ [])
 
--- what their files held
+-- what their files held, and the places of their own entries
 abbrev block_contents : List LineFiles → List LineFiles
 block_contents contents = no_files ∷ (contents ++ no_files ∷ [])
+
+abbrev block_places : List (List OwnPlace) → List (List OwnPlace)
+block_places places = [] ∷ (places ++ [] ∷ [])
 
 pub block_whole : (line : ScriptLine) (behind lines left : List ScriptLine) (is : IsBlock line behind lines left)
     → line ∷ behind ≡ block_lines line is.ends.end lines ++ left
 block_whole line behind lines left is = ap (λ (rest : List ScriptLine). line ∷ rest)
     (is.ends.split ∙ sym (append_assoc lines (is.ends.end ∷ []) left))
 
-counted : (end : ScriptLine) (traces : List LineTrace) (lines : List ScriptLine) → length traces ≡ length lines
-    → length (traces ++ came.Done ∷ []) ≡ length (lines ++ end ∷ [])
-counted end [] [] count = refl
-counted end [] (other ∷ lines) count = absurd cc
-counted end (trace ∷ traces) [] count = absurd cc
-counted end (trace ∷ traces) (other ∷ lines) count =
-    ap (λ (n : ℕ). suc n) (counted end traces lines (omega (arith, count)))
+counted : {X : Type 0} (last : X) (end : ScriptLine) (xs : List X) (lines : List ScriptLine)
+    → length xs ≡ length lines → length (xs ++ last ∷ []) ≡ length (lines ++ end ∷ [])
+counted last end [] [] count = refl
+counted last end [] (other ∷ lines) count = absurd cc
+counted last end (x ∷ xs) [] count = absurd cc
+counted last end (x ∷ xs) (other ∷ lines) count =
+    ap (λ (n : ℕ). suc n) (counted last end xs lines (omega (arith, count)))
 
 pub block_count : (line end : ScriptLine) (traces : List LineTrace) (lines : List ScriptLine)
     → length traces ≡ length lines → length (block_traces traces) ≡ length (block_lines line end lines)
-block_count line end traces lines count = ap (λ (n : ℕ). suc n) (counted end traces lines count)
+block_count line end traces lines count = ap (λ (n : ℕ). suc n) (counted came.Done end traces lines count)
+
+block_placed : (line end : ScriptLine) (places : List (List OwnPlace)) (lines : List ScriptLine)
+    → length places ≡ length lines → length (block_places places) ≡ length (block_lines line end lines)
+block_placed line end places lines placed = ap (λ (n : ℕ). suc n) (counted [] end places lines placed)
 
 -- what begins a block, and what ends it, names no file
 opens_none : (what : LineForm) → mark_of what ≡ mark.Opens → files_of what ≡ unnamed
@@ -414,29 +432,32 @@ block_given line behind lines left contents given is have =
     (have_both have (have_idle is.ends.end.what (closes_none is.ends.end.what is.ends.closes)))))
 
 -- what was read for a block is what was read for its lines
-block_lines_have : (lines : List ScriptLine) (contents : List LineFiles) (traces : List LineTrace) (given : Files)
-    → length contents ≡ length lines → length traces ≡ length lines
-    → HaveGiven (part_forms (block_in lines contents traces)) (part_contents (block_in lines contents traces)) given
+block_lines_have : (lines : List ScriptLine) (contents : List LineFiles) (traces : List LineTrace)
+    (places : List (List OwnPlace)) (given : Files) → length contents ≡ length lines → length traces ≡ length lines
+    → HaveGiven (part_forms (block_in lines contents traces places))
+    (part_contents (block_in lines contents traces places)) given
     → HaveGiven (forms_of lines) contents given
-block_lines_have lines contents traces given held count have =
-    subst (λ (forms : List LineForm). HaveGiven forms contents given) (ran_forms lines contents traces held count)
-    (subst (λ (c : List LineFiles). HaveGiven (part_forms (block_in lines contents traces)) c given)
-    (ran_contents lines contents traces held count) have)
+block_lines_have lines contents traces places given held count have =
+    subst (λ (forms : List LineForm). HaveGiven forms contents given)
+    (ran_forms lines contents traces places held count)
+    (subst (λ (c : List LineFiles). HaveGiven (part_forms (block_in lines contents traces places)) c given)
+    (ran_contents lines contents traces places held count) have)
 
 abbrev idle_line : ScriptLine → RanLine
-idle_line line = record { what = line.what; content = no_files; trace = came.Done }
+idle_line line = record { what = line.what; content = no_files; trace = came.Done; own = [] }
 
 block_is : (line : ScriptLine) (behind lines left : List ScriptLine) (contents : List LineFiles)
-    (traces : List LineTrace) (is : IsBlock line behind lines left) → length contents ≡ length lines
-    → length traces ≡ length lines
-    → IsPart (ran_lines (block_lines line is.ends.end lines) (block_contents contents) (block_traces traces))
-    (block_in lines contents traces)
-block_is line behind lines left contents traces is held count =
-    subst (λ (ran : List RanLine). IsPart ran (block_in lines contents traces))
+    (traces : List LineTrace) (places : List (List OwnPlace)) (is : IsBlock line behind lines left)
+    → length contents ≡ length lines → length traces ≡ length lines → length places ≡ length lines
+    → IsPart (ran_lines (block_lines line is.ends.end lines) (block_contents contents) (block_traces traces)
+    (block_places places)) (block_in lines contents traces places)
+block_is line behind lines left contents traces places is held count placed =
+    subst (λ (ran : List RanLine). IsPart ran (block_in lines contents traces places))
     (sym (ap (λ (ran : List RanLine). idle_line line ∷ ran)
-    (ran_both lines (is.ends.end ∷ []) contents (no_files ∷ []) traces (came.Done ∷ []) held count)))
-    (block_part (idle_line line) (idle_line is.ends.end) (ran_lines lines contents traces)
-    is.opens is.ends.closes (all_act lines contents traces is.ends.acts))
+    (ran_both lines (is.ends.end ∷ []) contents (no_files ∷ []) traces (came.Done ∷ []) places ([] ∷ []) held count
+    placed)))
+    (block_part (idle_line line) (idle_line is.ends.end) (ran_lines lines contents traces places)
+    is.opens is.ends.closes (all_act lines contents traces places is.ends.acts))
 
 pub block_to : {config : Config} {line : ScriptLine} {behind : List ScriptLine} {from known : Histories}
     {before after : Progress} (lines left : List ScriptLine) → IsBlock line behind lines left
@@ -447,11 +468,14 @@ block_to {config} {line} {behind} lines left is block =
     record {
       part = block_lines line is.ends.end lines;
       split = block_whole line behind lines left is;
-      ran = lines_went (block_lines line is.ends.end lines) (block_contents block.contents) done.given
+      ran = lines_went (block_lines line is.ends.end lines) (block_contents block.contents) (block_places block.places)
+          done.given
           (block_given line behind lines left block.contents done.given is
-          (block_lines_have lines block.contents block.traces done.given block.held block.count done.have))
+          (block_lines_have lines block.contents block.traces block.places done.given block.held block.count done.have))
           (block_count line is.ends.end block.traces lines block.count)
-          (block_is line behind lines left block.contents block.traces is block.held block.count) block.went done.gave;
+          (block_placed line is.ends.end block.places lines block.placed)
+          (block_is line behind lines left block.contents block.traces block.places is block.held block.count
+          block.placed) block.went done.gave;
     }
 
 pub block_halts : {config : Config} {line : ScriptLine} {behind : List ScriptLine} {from known : Histories}
@@ -465,12 +489,15 @@ block_halts {config} {line} {behind} {from} {known} {before} {after} lines left 
         ∙ block_left status line is.ends.end lines left reads is.opens is.ends.acts is.ends.closes) early
     | inr late ↦ subst (λ (all : List ScriptLine). LinesStopped config all stopped from known before after)
         (sym (block_whole line behind lines left is))
-        (lines_cut (block_lines line is.ends.end lines) (block_contents late.contents) late.cut.done.given
+        (lines_cut (block_lines line is.ends.end lines) (block_contents late.contents) (block_places late.places)
+        late.cut.done.given
         (block_given line behind lines left late.contents late.cut.done.given is
-        (block_lines_have lines late.contents late.traces late.cut.done.given late.held late.count late.cut.done.have))
+        (block_lines_have lines late.contents late.traces late.places late.cut.done.given late.held late.count
+        late.cut.done.have))
         (block_count line is.ends.end late.traces lines late.count)
-        (block_is line behind lines left late.contents late.traces is late.held late.count) left stopped
-        (same_fronts known) late.cut late.cut.done.gave)
+        (block_placed line is.ends.end late.places lines late.placed)
+        (block_is line behind lines left late.contents late.traces late.places is late.held late.count late.placed) left
+        stopped (same_fronts known) late.cut late.cut.done.gave)
   ];
   causes = halts.causes;
 }

@@ -146,9 +146,9 @@ module _ (text : RanLine → List ℕ) where
 -- ---- scripts
 
 module _ (config : Config) (reads : Files) where
-  -- the lines that ran, by what the reads gave
+  -- the lines that ran, by what the reads gave; neither their plan nor their status asks for the places of their entries
   abbrev pub lines_by : List ScriptLine → List LineTrace → List RanLine
-  lines_by lines traces = ran_lines lines (contents_of (forms_of lines) reads) traces
+  lines_by lines traces = ran_lines lines (contents_of (forms_of lines) reads) traces []
 
   -- the lines that ran, and those that are left
   abbrev pub lines_plan : Histories → ℕ → List ScriptLine → List LineTrace → Plan

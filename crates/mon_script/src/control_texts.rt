@@ -1,13 +1,13 @@
-// What is printed of a leaf that was switched, and of a range that was recovered.
+// What is printed of a leaf that was switched, and of a range that was recovered, trimmed or retired from a leaf.
 ghost use Rattle.std.specs.Prelude.{◌≡◌, IfOk, string_bytes};
 ghost use Rattle.mon_script.specs.Controls as spec;
 
 use mon_topo::{Leaf, Range, Slot, Topology, founds_text, leaf_text, range_text};
-use mon_value::{FoundDown, OutOfMemory, Text};
+use mon_value::{Ack, FoundDown, OutOfMemory, Text};
 use std::alloc::Global;
 use std::fmt;
 
-/// Why a leaf is not switched, or a range is not recovered onto a leaf.
+/// Why a leaf is not switched, or a range is not recovered onto a leaf or retired from one.
 #[derive(Clone, Copy, PartialEq, Eq)]
 pub enum ControlRefusal {
     /// The leaf was down already, after so many entries of its history.
@@ -24,6 +24,10 @@ pub enum ControlRefusal {
     SlotsSpent(u64),
     /// The leaf that was to have the replica is down, after so many entries.
     TargetDown(u64),
+    /// The range doesn't serve on the leaf.
+    NotServing,
+    /// The range serves on the leaf, in this slot, and nowhere else.
+    LastServing(Slot),
 }
 
 impl fmt::Display for ControlRefusal {
@@ -41,6 +45,8 @@ impl fmt::Display for ControlRefusal {
             ControlRefusal::ThreeServing => f.write_str("ThreeServing"),
             ControlRefusal::SlotsSpent(count) => write!(f, "SlotsSpent {count}"),
             ControlRefusal::TargetDown(cut) => write!(f, "TargetDown {cut}"),
+            ControlRefusal::NotServing => f.write_str("NotServing"),
+            ControlRefusal::LastServing(slot) => write!(f, "LastServing {}", slot.0),
         }
     }
 }
@@ -93,4 +99,35 @@ pub fn recovered_text(
     let name = leaf_text(topology, leaf);
     let number = slot.0;
     Text::from_string(format!(in alloc; "recover {range} {name}: slot {number}\n")?)
+}
+
+/// What is printed of a range that was trimmed: how many replicas took the bound, and how many missed it.
+pub fn trimmed_text(
+    alloc: Global,
+    topology: &Topology,
+    range: Range,
+    ack: &Ack,
+) -> Result<Text, OutOfMemory>
+    ensures text { IfOk result (λ text. text ≡ spec.trimmed_text topology.now range ack.now) }
+{
+    let range = range_text(alloc, topology, range)?;
+    let took = ack.took.len();
+    let missed = ack.missed.len();
+    Text::from_string(format!(in alloc; "trim {range}: took {took}, missed {missed}\n")?)
+}
+
+/// What is printed of a range that was retired from a leaf, where it had a slot.
+pub fn retired_text(
+    alloc: Global,
+    topology: &Topology,
+    range: Range,
+    leaf: Leaf,
+    slot: Slot,
+) -> Result<Text, OutOfMemory>
+    ensures text { IfOk result (λ text. text ≡ spec.retired_text topology.now range leaf slot) }
+{
+    let range = range_text(alloc, topology, range)?;
+    let name = leaf_text(topology, leaf);
+    let number = slot.0;
+    Text::from_string(format!(in alloc; "retire {range} {name}: slot {number}\n")?)
 }

@@ -1,13 +1,14 @@
-// Lines that take a leaf down or up, or open a range's replica on a leaf.
+// Lines that take a leaf down or up, or that open, trim or retire a range's replicas.
 ghost use Rattle.std.specs.Prelude.{◌≡◌, IfOk};
 ghost use Rattle.mon_script.specs.Controls as spec;
 ghost use Rattle.mon_script.specs.Controls.{IsLawfulControl};
 
 use crate::faults::ScriptKind;
 use crate::lines::cut_at;
+use crate::words::moment_of;
 use mon_topo::{Leaf, Range, Topology, share_zone};
 
-/// What a line says that switches a leaf or recovers a range.
+/// What a line says that switches a leaf, or recovers, trims or retires a range's replicas.
 #[derive(Clone, Copy)]
 pub enum ControlForm {
     /// Take a leaf down.
@@ -16,6 +17,10 @@ pub enum ControlForm {
     Up(Leaf),
     /// Open one replica more of a range on a leaf of its zone.
     Recover(Range, Leaf),
+    /// Hide the rows of a range whose end is below a moment, in seconds from the epoch.
+    Trim(Range, i64),
+    /// Have the replica of a range that serves on a leaf serve no more.
+    Retire(Range, Leaf),
 }
 
 /// The first word of such a line.
@@ -24,6 +29,8 @@ pub enum ControlWord {
     Down,
     Up,
     Recover,
+    Trim,
+    Retire,
 }
 
 /// Which of these words it is.
@@ -36,6 +43,10 @@ pub fn control_word(word: &[u8]) -> Option<ControlWord>
         Some(ControlWord::Up)
     } else if word == b"recover".as_slice() {
         Some(ControlWord::Recover)
+    } else if word == b"trim".as_slice() {
+        Some(ControlWord::Trim)
+    } else if word == b"retire".as_slice() {
+        Some(ControlWord::Retire)
     } else {
         None
     }
@@ -65,7 +76,15 @@ fn control_behind(
         ControlWord::Down => Ok(ControlForm::Down(leaf_of(topology, rest)?)),
         ControlWord::Up => Ok(ControlForm::Up(leaf_of(topology, rest)?)),
         ControlWord::Recover => match cut_at(rest, b' ') {
-            Some((range, leaf)) => on_leaf(topology, range, leaf),
+            Some((range, leaf)) => recover_of(topology, range, leaf),
+            None => Err(ScriptKind::BadWord),
+        },
+        ControlWord::Trim => match cut_at(rest, b' ') {
+            Some((range, before)) => trim_of(topology, range, before),
+            None => Err(ScriptKind::BadWord),
+        },
+        ControlWord::Retire => match cut_at(rest, b' ') {
+            Some((range, leaf)) => retire_of(topology, range, leaf),
             None => Err(ScriptKind::BadWord),
         },
     }
@@ -84,23 +103,56 @@ fn leaf_of(topology: &Topology, name: &[u8]) -> Result<Leaf, ScriptKind>
     }
 }
 
-// The name of a range, and that of a leaf in its zone.
-fn on_leaf(topology: &Topology, range: &[u8], leaf: &[u8]) -> Result<ControlForm, ScriptKind>
-    ensures control { result ≡ spec.on_leaf_control topology.now range.now leaf.now }
+// The range of a name.
+fn range_of(topology: &Topology, name: &[u8]) -> Result<Range, ScriptKind>
+    ensures range { result ≡ spec.range_of topology.now name.now }
 {
-    let leaf = leaf_of(topology, leaf)?;
-    match topology.range_named(range) {
-        Some(range) => zoned(topology, range, leaf),
+    match topology.range_named(name) {
+        Some(range) => Ok(range),
         None => Err(ScriptKind::UnknownRange),
     }
 }
 
-fn zoned(topology: &Topology, range: Range, leaf: Leaf) -> Result<ControlForm, ScriptKind>
-    ensures control { result ≡ spec.zoned_control topology.now range leaf }
+// The time that a word spells.
+fn time_of(word: &[u8]) -> Result<i64, ScriptKind>
+    ensures time { result ≡ spec.time_of word.now }
 {
+    if word.contains(&b' ') {
+        return Err(ScriptKind::BadWord);
+    }
+    match moment_of(word) {
+        Some(time) => Ok(time),
+        None => Err(ScriptKind::BadNumber),
+    }
+}
+
+// The name of a range, and that of a leaf in its zone.
+fn recover_of(topology: &Topology, range: &[u8], leaf: &[u8]) -> Result<ControlForm, ScriptKind>
+    ensures control { result ≡ spec.recover_control topology.now range.now leaf.now }
+{
+    let leaf = leaf_of(topology, leaf)?;
+    let range = range_of(topology, range)?;
     if share_zone(topology, range, leaf) {
         Ok(ControlForm::Recover(range, leaf))
     } else {
         Err(ScriptKind::NotInZone)
     }
+}
+
+// The name of a range, and the time below which its rows are to be hidden.
+fn trim_of(topology: &Topology, range: &[u8], before: &[u8]) -> Result<ControlForm, ScriptKind>
+    ensures control { result ≡ spec.trim_control topology.now range.now before.now }
+{
+    let before = time_of(before)?;
+    let range = range_of(topology, range)?;
+    Ok(ControlForm::Trim(range, before))
+}
+
+// The name of a range, and that of a leaf in whichever zone.
+fn retire_of(topology: &Topology, range: &[u8], leaf: &[u8]) -> Result<ControlForm, ScriptKind>
+    ensures control { result ≡ spec.retire_control topology.now range.now leaf.now }
+{
+    let leaf = leaf_of(topology, leaf)?;
+    let range = range_of(topology, range)?;
+    Ok(ControlForm::Retire(range, leaf))
 }

@@ -24,7 +24,7 @@ pub enum LineForm {
     Ask(Question),
     /// Ask a text at the first of some moments, and tell what its rows mean at each.
     Follow { moments: Moments, text: Text },
-    /// Switch a leaf, or open a replica of a range.
+    /// Switch a leaf, or open, trim or retire a range's replicas.
     Control(ControlForm),
     /// Have a query stand, or ask those that are due.
     Standing(StandingLine),

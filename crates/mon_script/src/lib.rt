@@ -19,7 +19,9 @@ mod standing_lines;
 mod words;
 
 pub use blocks::cut_block;
-pub use control_texts::{ControlRefusal, recovered_text, source_down_text, switched_text};
+pub use control_texts::{
+    ControlRefusal, recovered_text, retired_text, source_down_text, switched_text, trimmed_text,
+};
 pub use controls::{ControlForm, ControlWord, control_of, control_word};
 pub use faults::{ScriptFault, ScriptKind};
 pub use follows::Moments;

@@ -1,4 +1,4 @@
--- Which entries a write adds to what its caller keeps, and that no two of them are one.
+-- Which entries a turn adds to what its caller keeps, be it a row or a bound, and that no two of them are one.
 use Rattle.std.proofs.Common.{◌≡◌, ℕ, Bool, true, false, List, [], ◌∷◌, ◌++◌, map}
 use Rattle.std.proofs.Common.{refl, sym, ap, subst, ◌∙◌, cond, inl, inr, ◌⊎◌}
 use Rattle.std.specs.Prelude.{Contains}
@@ -14,17 +14,18 @@ use Rattle.history_book.specs.declared.views.History.TheVariants as of
 use Rattle.history_book.specs.declared.views.Kept.{Kept}
 use Rattle.mon_topo.proofs.RangeHistoryLemmas.{AreApart, all_at}
 use Rattle.mon_topo.proofs.RangeHistoryLemmas as topo
+use Rattle.mon_topo.specs.RangeHistories.{turn_ack}
 use Rattle.mon_value.specs.declared.histories.Ack.{Ack}
 use Rattle.mon_value.specs.declared.histories.Entry.{Entry}
 use Rattle.mon_value.specs.declared.histories.Entry.TheVariants as entry
 use Rattle.mon_value.specs.declared.histories.Histories.{Histories}
-use Rattle.mon_value.specs.declared.histories.RangeEntry.TheVariants as range_entry
 use Rattle.mon_value.specs.declared.positions.Range.{Range}
+use Rattle.mon_value.specs.declared.positions.Slot.{Slot}
 use Rattle.mon_value.specs.declared.positions.SlotLeaf.{SlotLeaf}
-use Rattle.mon_value.specs.Turns.{Turn, Adds}
-use Rattle.mon_value.specs.declared.rows.Row.{Row}
+use Rattle.mon_value.specs.LeafHistories.{turn_entry}
+use Rattle.mon_value.specs.Turns.{Turn, Adds, Hides}
 use Rattle.mon_store.proofs.ListLemmas.{Differ, differ-append}
-use Rattle.mon_store.specs.Writes.{only_in, put_in, written}
+use Rattle.mon_store.specs.Writes.{only_in, turn_in, turned}
 use Rattle.range_cell.specs.Writing.{put_of, with_put_of, with_puts}
 use Rattle.write_core.proofs.AckLemmas.{contains_flat, contains_one}
 use Rattle.mon_value.proofs.PlainLemmas.{contains_none, in_map}
@@ -52,7 +53,7 @@ entries_with h g e a fits =
       | inr apart ↦ entries_else h g e a apart ∙ by_test h g e (entries a g) apart
     ]
 
--- ---- the replicas that took a row
+-- ---- the replicas that took a turn
 
 abbrev took_at : Mark → Fate → List SlotLeaf
 took_at mark fate.Waiting = []
@@ -88,7 +89,7 @@ took_here mark fate.Ready replica there = absurd (contains_none replica there)
 took_here mark fate.Took replica there = (refl, contains_one (replica_of mark) replica there)
 took_here mark (fate.Missed cut) replica there = absurd (contains_none replica there)
 
--- each is a mark's that took the row
+-- each is a mark's that took the turn
 pub took_in : (marks : List Mark) (replica : SlotLeaf) → Contains (took_of marks) replica
     → (mark : Mark) × Contains marks mark × (mark.fate ≡ fate.Took) × (replica_of mark ≡ replica)
 took_in marks replica there =
@@ -118,34 +119,34 @@ took_apart (mark ∷ marks) h = took_apart_at mark mark.fate marks h.0 (took_apa
 
 -- ---- what they add to what is kept
 
-module _ (pass : ℕ) (range : Range) (row : Row) (whose : History) where
+module _ (pass : ℕ) (range : Range) (turn : Turn) (whose : History) where
   abbrev put : SlotLeaf → List BookEntry
-  put = put_in pass range row whose
+  put = turn_in pass range turn whose
 
-  one_put : (mark : Mark) (f : Fate) (kept : Kept) → entries (with_put_of pass range (Adds row) mark f kept).own whose
+  one_put : (mark : Mark) (f : Fate) (kept : Kept) → entries (with_put_of pass range turn mark f kept).own whose
       ≡ entries kept.own whose ++ flat_map put (took_at mark f)
   one_put mark fate.Waiting kept = sym (append-nil (entries kept.own whose))
   one_put mark fate.Ready kept = sym (append-nil (entries kept.own whose))
   one_put mark fate.Took kept =
-      entries_with (of.Leaf mark.leaf) whose (one.Leaf (put_of pass range (Adds row) mark)) kept.own tt
+      entries_with (of.Leaf mark.leaf) whose (one.Leaf (put_of pass range turn mark)) kept.own tt
       ∙ ap (λ (xs : List BookEntry). entries kept.own whose ++ xs) (sym (append-nil (put (replica_of mark))))
   one_put mark (fate.Missed cut) kept = sym (append-nil (entries kept.own whose))
 
-  pub puts_added : (marks : List Mark) (kept : Kept) → entries (with_puts pass range (Adds row) marks kept).own whose
+  pub puts_added : (marks : List Mark) (kept : Kept) → entries (with_puts pass range turn marks kept).own whose
       ≡ entries kept.own whose ++ flat_map put (took_of marks)
   puts_added [] kept = sym (append-nil (entries kept.own whose))
   puts_added (mark ∷ marks) kept =
-      puts_added marks (with_put_of pass range (Adds row) mark mark.fate kept)
+      puts_added marks (with_put_of pass range turn mark mark.fate kept)
       ∙ ap (λ (xs : List BookEntry). xs ++ flat_map put (took_of marks)) (one_put mark mark.fate kept)
       ∙ append_assoc (entries kept.own whose) (flat_map put (took_mark mark)) (flat_map put (took_of marks))
       ∙ ap (λ (xs : List BookEntry). entries kept.own whose ++ xs)
       (sym (flat_map-append put (took_mark mark) (took_of marks)))
 
-pub ack_added : (pass : ℕ) (range : Range) (row : Row) (ack : Ack) (whose : History) (kept : Histories)
-    → entries (with_book_entry (of.Range range) (one.Range (range_entry.Acked pass row ack)) kept) whose
-    ≡ entries kept whose ++ only_in (of.Range range) (one.Range (range_entry.Acked pass row ack)) whose
-ack_added pass range row ack whose kept =
-    entries_with (of.Range range) whose (one.Range (range_entry.Acked pass row ack)) kept tt
+pub ack_added : (pass : ℕ) (range : Range) (turn : Turn) (ack : Ack) (whose : History) (kept : Histories)
+    → entries (with_book_entry (of.Range range) (one.Range (turn_ack pass turn ack)) kept) whose
+    ≡ entries kept whose ++ only_in (of.Range range) (one.Range (turn_ack pass turn ack)) whose
+ack_added pass range turn ack whose kept =
+    entries_with (of.Range range) whose (one.Range (turn_ack pass turn ack)) kept tt
 
 put_number : (pass : ℕ) (range : Range) (turn : Turn) (mark : Mark) (f : Fate) (kept : Kept)
     → (with_put_of pass range turn mark f kept).number ≡ kept.number
@@ -161,7 +162,7 @@ puts_number pass range turn (mark ∷ marks) kept =
     puts_number pass range turn marks (with_put_of pass range turn mark mark.fate kept)
     ∙ put_number pass range turn mark mark.fate kept
 
--- ---- the entries of a write differ
+-- ---- the entries of a turn differ
 
 only_at : (own : History) (e x : BookEntry) (whose : History) (b : Bool) → same_history own whose ≡ b
     → Contains (cond b (e ∷ []) []) x → (own ≡ whose) × (e ≡ x)
@@ -196,40 +197,44 @@ abbrev is_leaf_entry : BookEntry → Bool
 is_leaf_entry (one.Leaf e) = true
 is_leaf_entry (one.Range e) = false
 
-module _ (pass : ℕ) (range : Range) (row : Row) (whose : History) where
-  -- a put is one to a replica on that leaf
-  pub put_is : (took : List SlotLeaf) (x : BookEntry) → Contains (flat_map (put_in pass range row whose) took) x
+slot_of_turn : (pass : ℕ) (range : Range) (slot : Slot) (turn : Turn) → slot_of (turn_entry pass range slot turn) ≡ slot.0
+slot_of_turn pass range slot (Adds row) = refl
+slot_of_turn pass range slot (Hides before) = refl
+
+module _ (pass : ℕ) (range : Range) (turn : Turn) (whose : History) where
+  -- an entry of a replica is that of one on that leaf
+  pub put_is : (took : List SlotLeaf) (x : BookEntry) → Contains (flat_map (turn_in pass range turn whose) took) x
       → (replica : SlotLeaf) × Contains took replica × (of.Leaf replica.leaf ≡ whose)
-      × (one.Leaf (entry.Put pass range replica.slot row) ≡ x)
+      × (one.Leaf (turn_entry pass range replica.slot turn) ≡ x)
   put_is took x there =
-      let found = contains_flat (put_in pass range row whose) took x there in
-      let is = only_is (of.Leaf found.0.leaf) (one.Leaf (entry.Put pass range found.0.slot row)) x whose found.2 in
+      let found = contains_flat (turn_in pass range turn whose) took x there in
+      let is = only_is (of.Leaf found.0.leaf) (one.Leaf (turn_entry pass range found.0.slot turn)) x whose found.2 in
       (found.0, found.1, is.0, is.1)
 
-  puts_differ : (took : List SlotLeaf) → AreApart took → Differ (flat_map (put_in pass range row whose) took)
+  puts_differ : (took : List SlotLeaf) → AreApart took → Differ (flat_map (turn_in pass range turn whose) took)
   puts_differ [] h = tt
   puts_differ (replica ∷ took) h =
-      differ-append (put_in pass range row whose replica) (flat_map (put_in pass range row whose) took)
-      (only_differ (of.Leaf replica.leaf) (one.Leaf (entry.Put pass range replica.slot row)) whose
+      differ-append (turn_in pass range turn whose replica) (flat_map (turn_in pass range turn whose) took)
+      (only_differ (of.Leaf replica.leaf) (one.Leaf (turn_entry pass range replica.slot turn)) whose
       (same_history (of.Leaf replica.leaf) whose))
       (puts_differ took h.1)
       (λ x y in_x in_y e.
-      let mine = only_is (of.Leaf replica.leaf) (one.Leaf (entry.Put pass range replica.slot row)) x whose in_x in
+      let mine = only_is (of.Leaf replica.leaf) (one.Leaf (turn_entry pass range replica.slot turn)) x whose in_x in
       let theirs = put_is took y in_y in
-      let slots : replica.slot.0 ≡ theirs.0.slot.0 = ap slot_in (mine.1 ∙ e ∙ sym theirs.3) in
+      let slots : replica.slot.0 ≡ theirs.0.slot.0 =
+      sym (slot_of_turn pass range replica.slot turn) ∙ ap slot_in (mine.1 ∙ e ∙ sym theirs.3)
+      ∙ slot_of_turn pass range theirs.0.slot turn in
       all_at (topo.IsFrom replica) took theirs.0 h.0 theirs.1 (sym slots))
 
-  pub written_differ : (ack : Ack) (took : List SlotLeaf) → AreApart took
-      → Differ (written pass range row ack took whose)
-  written_differ ack took h =
-      differ-append (flat_map (put_in pass range row whose) took)
-      (only_in (of.Range range) (one.Range (range_entry.Acked pass row ack)) whose)
+  pub turned_differ : (ack : Ack) (took : List SlotLeaf) → AreApart took → Differ (turned pass range turn ack took whose)
+  turned_differ ack took h =
+      differ-append (flat_map (turn_in pass range turn whose) took)
+      (only_in (of.Range range) (one.Range (turn_ack pass turn ack)) whose)
       (puts_differ took h)
-      (only_differ (of.Range range) (one.Range (range_entry.Acked pass row ack)) whose
-      (same_history (of.Range range) whose))
+      (only_differ (of.Range range) (one.Range (turn_ack pass turn ack)) whose (same_history (of.Range range) whose))
       (λ x y in_x in_y e.
       let mine = put_is took x in_x in
-      let theirs = only_is (of.Range range) (one.Range (range_entry.Acked pass row ack)) y whose in_y in
+      let theirs = only_is (of.Range range) (one.Range (turn_ack pass turn ack)) y whose in_y in
       both_kinds (ap is_leaf_entry (mine.3 ∙ e ∙ sym theirs.1)))
     where
       both_kinds : true ≡ false → ⊥

@@ -11,14 +11,15 @@ use Rattle.mon_config.specs.declared.config.Config.{Config}
 use Rattle.mon_topo.specs.Settings.{Setting}
 use Rattle.mon_topo.specs.Zones.{leaves_in, ranges_in}
 use Rattle.mon_value.specs.Histories.{range_history}
+use Rattle.mon_value.specs.Turns.{Adds}
 use Rattle.mon_value.specs.declared.histories.Ack.{Ack}
 use Rattle.mon_value.specs.declared.positions.Range.{Range}
 use Rattle.mon_value.specs.declared.rows.Row.{Row}
 use Rattle.owners.specs.Puts.{pass_of}
 use Rattle.mon_store.proofs.CarriedLemmas.{asked_carried, asked_found}
-use Rattle.mon_store.proofs.RefusedLemmas.{goes_in, is_full, is_old, none_carried, none_own, none_refused_as}
-use Rattle.mon_store.proofs.RefusedLemmas.{up_carried, up_own}
-use Rattle.mon_store.proofs.WriteLemmas.{IsCarried, same_pass, unwritten}
+use Rattle.mon_store.proofs.RefusedLemmas.{goes_in, is_full, is_old, none_carried, none_down, none_found, none_leaves}
+use Rattle.mon_store.proofs.RefusedLemmas.{none_own, up_carried, up_own}
+use Rattle.mon_store.proofs.WriteLemmas.{IsLeft, same_pass, unwritten}
 use Rattle.mon_store.proofs.WrittenLemmas.{acknowledged_pass, is_written}
 use Rattle.mon_store.specs.Passes.{IsPass}
 use Rattle.mon_store.specs.Stores.{IsSetUp}
@@ -48,33 +49,28 @@ module _ (setting : Setting) (raise : RaiseIdentity) (book : BookIdentity) (conf
   here : range.0 < length (ranges_in setting.zones)
   here = subst (λ (s : Setting). range.0 < length (ranges_in s.zones)) (sym set.setting_is) there
 
-  -- what every refusal leaves
-  record IsLeft : Type 0 where
-    carried : IsCarried before after
-    own : after.purse.own ≡ before.purse.own
-
-  left : (f : WriteFault) → HasNotWritten leaves range row limit (pass_of before) before after f → IsLeft
+  left : (f : WriteFault) → HasNotWritten leaves range row limit (pass_of before) before after f → IsLeft before after
   left fault.NoZone h = absurd h
   left (fault.OldPoint last) h =
       record { carried = asked_carried setting config leaves range before after is counted h.met; own = h.met.own }
   left (fault.RangeFull count) h =
       record { carried = asked_carried setting config leaves range before after is counted h.met; own = h.met.own }
   left (fault.Unavailable at founds) h = record {
-    carried = none_carried setting config leaves range row before after is counted h.history h.begun h.begins founds
+    carried = none_carried setting config leaves range (Adds row) before after is counted h.history h.begun h.begins founds
         h.ends.1;
-    own = none_own setting config leaves range row before after is counted h.history h.begun h.begins founds h.ends.1;
+    own = none_own setting config leaves range (Adds row) before after is counted h.history h.begun h.begins founds h.ends.1;
   }
   left fault.OutOfMemory (AtLock met) =
       record { carried = asked_carried setting config leaves range before after is counted met; own = met.own }
   left fault.OutOfMemory (Behind h) = record {
-    carried = up_carried setting config leaves range row before after is counted h.history h.begun h.begins h.ends;
-    own = up_own setting config leaves range row before after is counted h.history h.begun h.begins h.ends;
+    carried = up_carried setting config leaves range (Adds row) before after is counted h.history h.begun h.begins h.ends;
+    own = up_own setting config leaves range (Adds row) before after is counted h.history h.begun h.begins h.ends;
   }
 
   pub ended_pass : (result : Result Ack WriteFault)
       → HasWritten leaves range row limit (pass_of before) before after result → IsPass setting after
   ended_pass (Ok ack) h =
-      acknowledged_pass setting config leaves range row before after is borne sound counted here h.history h.begun
+      acknowledged_pass setting config leaves range (Adds row) before after is borne sound counted here h.history h.begun
       h.begins ack h.ends
   ended_pass (Err f) h = let at = left f h in same_pass setting before after is at.carried borne at.own
 
@@ -110,8 +106,21 @@ module _ (setting : Setting) (raise : RaiseIdentity) (book : BookIdentity) (conf
   }
   refused_so (fault.Unavailable at founds) h =
       subst (λ (r : Range). IsRefused config row before after (fault.Unavailable r founds)) (sym h.ends.0)
-      (none_refused_as setting config leaves range row before after is counted h.history h.begun h.begins founds
-      h.ends.1 in_range (goes_in limit config.range_points few h.history row _ h.takes))
+      (record {
+        range = range;
+        in_range = in_range;
+        history = h.history;
+        found = none_found setting config leaves range (Adds row) before after is counted h.history h.begun h.begins
+            founds h.ends.1;
+        cause = record {
+          in_range = in_range;
+          free = goes_in limit config.range_points few h.history row _ h.takes;
+          leaves = none_leaves setting config leaves range (Adds row) before after is counted h.history h.begun h.begins
+              founds h.ends.1;
+          down = none_down setting config leaves range (Adds row) before after is counted h.history h.begun h.begins
+              founds h.ends.1;
+        };
+      })
   refused_so fault.OutOfMemory h = tt
 
   pub ended_refused : (result : Result Ack WriteFault)

@@ -14,10 +14,13 @@ pub mod PlaceLemmas
 pub mod QueryLemmas
 pub mod RecoveredLemmas
 pub mod RefusedLemmas
+pub mod RetiredLemmas
 pub mod SameLemmas
 pub mod SeenTraceLemmas
+pub mod ServingLemmas
 pub mod StartLemmas
 pub mod SwitchLemmas
-pub mod TurnRowLemmas
+pub mod TrimEndedLemmas
+pub mod TrimmedLemmas
 pub mod WriteLemmas
 pub mod WrittenLemmas

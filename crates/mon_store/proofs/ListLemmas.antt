@@ -1,6 +1,6 @@
 -- Lists whose items differ, and where an item stands that was mapped, kept or put together with others.
 use Rattle.std.proofs.Common.{◌≡◌, ◌≢◌, List, [], ◌∷◌, ◌++◌}
-use Rattle.std.proofs.Common.{refl, sym, ap, subst, ◌∙◌, arith, inl, inr, ◌⊎◌}
+use Rattle.std.proofs.Common.{refl, sym, ap, ◌∙◌, arith, inl, inr, ◌⊎◌}
 use Rattle.std.specs.Prelude.{Contains}
 use mathlib.Core.List.{IsPrefix}
 use Rattle.std.proofs.lemmas.List.{append_assoc, append_cancel_left}
@@ -54,22 +54,14 @@ module _ {X : Type 0} where
       by z there (inl here) = absurd (d.0 z there (sym (ap (first_or x) p.1) ∙ contains_one x z here))
       by z there (inr later) = later
 
-  -- what begins with some items and is the beginning of them and of others that differ, all of which it has and none of
-  -- which is among the first, is all
-  pub all_came : (was now more : List X) → IsPrefix was now → IsPrefix now (was ++ more) → Differ more
-      → ((x : X) → Contains more x → Contains now x) → ((x : X) → Contains more x → Contains was x → ⊥)
-      → now ≡ was ++ more
-  all_came was now more p q d has new =
+  -- what begins with some items and is the beginning of them and of others that differ, and has all of these behind the
+  -- first, is all
+  pub all_came : (was now more : List X) (p : IsPrefix was now) → IsPrefix now (was ++ more) → Differ more
+      → ((x : X) → Contains more x → Contains p.0 x) → now ≡ was ++ more
+  all_came was now more p q d has =
       let front : IsPrefix p.0 more = (
         q.0,
         append_cancel_left was (p.0 ++ q.0) more
             (sym (append_assoc was p.0 q.0) ∙ ap (λ (xs : List X). xs ++ q.0) p.1 ∙ q.1),
       ) in
-      let whole : p.0 ≡ more = all_there p.0 more front d
-      (λ x there. by x there (Contains-append_cases was p.0 x (subst (λ (xs : List X). Contains xs x) (sym p.1)
-      (has x there)))) in
-      sym p.1 ∙ ap (λ (xs : List X). was ++ xs) whole
-    where
-      by : (x : X) → Contains more x → Contains was x ⊎ Contains p.0 x → Contains p.0 x
-      by x there (inl old) = absurd (new x there old)
-      by x there (inr now') = now'
+      sym p.1 ∙ ap (λ (xs : List X). was ++ xs) (all_there p.0 more front d has)

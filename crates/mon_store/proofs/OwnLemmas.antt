@@ -3,8 +3,8 @@ use Rattle.std.proofs.Common.{◌≡◌, ℕ, ◌≤◌, Bool, List, ◌++◌, l
 use Rattle.std.proofs.Common.{subst, ◌∙◌, arith}
 use Rattle.std.specs.Prelude.{Contains}
 use mathlib.Core.List.{IsPrefix}
-use Rattle.std.proofs.lemmas.List.{append_cancel_left, drop-append-le, drop_all}
-use Rattle.std.proofs.lemmas.List.Elements.{filter-append}
+use Rattle.std.proofs.lemmas.List.{append_assoc, append_cancel_left, drop-append-le, drop_all, map-append}
+use Rattle.std.proofs.lemmas.List.Elements.{Contains-append_left, Contains-append_right, filter-append}
 use Rattle.history_book.proofs.ListLemmas.{prefix_filter, prefix_length, prefix_whole}
 use Rattle.history_book.specs.Histories.{AreFronts, entries, is_under}
 use Rattle.history_book.specs.Seats.{IsPurseBorneOut, kept_in}
@@ -15,10 +15,14 @@ use Rattle.history_book.specs.declared.views.History.TheVariants as of
 use Rattle.history_book.specs.declared.views.Kept.{Kept}
 use Rattle.know.specs.Knowledge.{Knowledge}
 use Rattle.mon_topo.proofs.FrontLemmas.{begins_to, behind}
-use Rattle.mon_value.proofs.PlainLemmas.{prefix_map}
+use Rattle.mon_value.proofs.PlainLemmas.{in_map, prefix_map}
 use Rattle.mon_topo.specs.HeldHistories.{BeginsWith}
 use Rattle.mon_value.specs.Histories.{leaf_history, range_history}
+use Rattle.mon_value.specs.declared.histories.Entry.{Entry}
 use Rattle.mon_value.specs.declared.histories.Histories.{Histories}
+use Rattle.mon_value.specs.declared.histories.RangeEntry.{RangeEntry}
+use Rattle.mon_value.specs.declared.positions.Leaf.{Leaf}
+use Rattle.mon_value.specs.declared.positions.Range.{Range}
 use Rattle.mon_store.specs.Passes.{HasSeenItsOwn}
 
 -- ---- beginnings
@@ -49,6 +53,43 @@ module _ {X : Type 0} where
       ∙ append_cancel_left own (filter test p.0) more
       (ap (λ (xs : List X). xs ++ filter test p.0) (sym before) ∙ sym (filter-append test was p.0)
       ∙ ap (filter test) p.1 ∙ after)
+
+-- ---- what came since
+
+module _ {X : Type 0} where
+  -- what came behind a list came behind each of its fronts
+  came_since : (was begun mid now more : List X) (x : X) → IsPrefix was begun → mid ≡ begun ++ more → IsPrefix mid now
+      → Contains more x → Contains (drop (length was) now) x
+  came_since was begun mid now more x p is q there =
+      let rest : List X = more ++ q.0 in
+      let whole : was ++ (p.0 ++ rest) ≡ now =
+      sym (append_assoc was p.0 rest) ∙ ap (λ (xs : List X). xs ++ rest) p.1
+      ∙ sym (append_assoc begun more q.0) ∙ ap (λ (xs : List X). xs ++ q.0) (sym is) ∙ q.1 in
+      subst (λ (xs : List X). Contains xs x) (sym (drop_prefix was now (p.0 ++ rest, whole)))
+      (Contains-append_right p.0 rest x (Contains-append_left more q.0 x there))
+
+module _ (before begun mid after : Histories) (from : AreFronts before begun) (to : AreFronts mid after) where
+  -- an entry that came to a leaf's history
+  pub leaf_since : (leaf : Leaf) (more : List Entry) (e : Entry)
+      → leaf_history mid leaf ≡ leaf_history begun leaf ++ more → Contains more e
+      → Contains (drop (length (entries before (of.Leaf leaf))) (entries after (of.Leaf leaf))) (one.Leaf e)
+  leaf_since leaf more e since there =
+      came_since (entries before (of.Leaf leaf)) (entries begun (of.Leaf leaf)) (entries mid (of.Leaf leaf))
+      (entries after (of.Leaf leaf)) (map (λ x. one.Leaf x) more) (one.Leaf e)
+      (entries_front before begun from (of.Leaf leaf))
+      (ap (map (λ x. one.Leaf x)) since ∙ map-append (λ x. one.Leaf x) (leaf_history begun leaf) more)
+      (entries_front mid after to (of.Leaf leaf)) (in_map (λ x. one.Leaf x) more e there)
+
+  -- and to a range's
+  pub range_since : (range : Range) (more : List RangeEntry) (e : RangeEntry)
+      → range_history mid range ≡ range_history begun range ++ more → Contains more e
+      → Contains (drop (length (entries before (of.Range range))) (entries after (of.Range range))) (one.Range e)
+  range_since range more e since there =
+      came_since (entries before (of.Range range)) (entries begun (of.Range range)) (entries mid (of.Range range))
+      (entries after (of.Range range)) (map (λ x. one.Range x) more) (one.Range e)
+      (entries_front before begun from (of.Range range))
+      (ap (map (λ x. one.Range x)) since ∙ map-append (λ x. one.Range x) (range_history begun range) more)
+      (entries_front mid after to (of.Range range)) (in_map (λ x. one.Range x) more e there)
 
 -- ---- numbers
 

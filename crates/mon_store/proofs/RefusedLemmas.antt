@@ -1,4 +1,4 @@
--- How a write that its range's cell refuses is refused by the store.
+-- How a turn that its range's cell refuses is refused by the store.
 use Rattle.std.proofs.lemmas.Bool.{or_parts}
 use Rattle.std.proofs.Common.{◌≡◌, ℕ, true, false, List, [], ◌∷◌, ◌++◌, length, map, refl, sym, ap, subst}
 use Rattle.std.proofs.Common.{◌∙◌, Option, Some, None, ◌+◌}
@@ -7,7 +7,6 @@ use Rattle.std.specs.List.{flat_map}
 use Rattle.history_book.specs.Seats.{length_note}
 use Rattle.history_book.specs.declared.views.Kept.{Kept}
 use Rattle.know.specs.Knowledge.{Knowledge}
-use Rattle.mon_config.specs.Configs.{range_of_key}
 use Rattle.mon_config.specs.declared.config.Config.{Config}
 use Rattle.mon_topo.proofs.FrontLemmas.{begins_same}
 use Rattle.mon_topo.specs.RangeHistories.{serving}
@@ -18,7 +17,7 @@ use Rattle.mon_value.specs.declared.histories.RangeEntry.{RangeEntry}
 use Rattle.mon_value.specs.declared.positions.FoundDown.{FoundDown}
 use Rattle.mon_value.specs.declared.positions.Range.{Range}
 use Rattle.mon_value.specs.declared.positions.SlotLeaf.{SlotLeaf}
-use Rattle.mon_value.specs.Turns.{Turn, Adds}
+use Rattle.mon_value.specs.Turns.{Turn}
 use Rattle.mon_value.specs.declared.rows.Row.{Row}
 use Rattle.owners.specs.Puts.{pass_of}
 use Rattle.mon_store.proofs.CarriedLemmas.{HasGoneOver, HasReturned, over_carried}
@@ -26,7 +25,7 @@ use Rattle.mon_store.proofs.CarriedLemmas.{over_down, over_found}
 use Rattle.mon_store.proofs.WriteLemmas.{IsCarried}
 use Rattle.mon_store.proofs.WrittenLemmas.{went_down, went_over}
 use Rattle.mon_store.specs.Passes.{IsPass}
-use Rattle.mon_store.specs.Writes.{AreAllDown, IsRefusedAs}
+use Rattle.mon_store.specs.Writes.{WasFoundSo}
 use Rattle.running_query.specs.Ends.{WasFoundDown}
 use Rattle.range_cell.specs.Calls.{HasBegun, HasGivenBack}
 use Rattle.range_cell.specs.Writes.{HasFoundNone, HasGivenUp}
@@ -157,20 +156,20 @@ found_at mark fate.Took found there = absurd (contains_none found there)
 found_at mark (fate.Missed cut) found there =
     (cut, refl, contains_one (record { leaf = mark.leaf; cut = cut }) found there)
 
--- ---- a write that found each replica down, and one that was given up
+-- ---- a turn that found each replica down, and one that was given up
 
-module _ (setting : Setting) (config : Config) (leaves : ℕ) (range : Range) (row : Row) (before after : Knowledge)
+module _ (setting : Setting) (config : Config) (leaves : ℕ) (range : Range) (turn : Turn) (before after : Knowledge)
     (is : IsPass setting before) (counted : leaves ≡ length (leaves_in config.topology)) (history : List RangeEntry)
     (begun : Knowledge) (begins : HasBegun leaves range history before begun) where
   abbrev pass : ℕ
   pass = pass_of before
 
-  module _ (founds : List FoundDown) (none : HasFoundNone leaves range (Adds row) history pass begun after founds) where
+  module _ (founds : List FoundDown) (none : HasFoundNone leaves range turn history pass begun after founds) where
     returned : HasReturned leaves range history none.mid after
     returned = given_back leaves range history none.mid after none.back
 
     over : HasGoneOver begun none.mid
-    over = went_over range (Adds row) pass (serving history) begun none.mid none.marks none.through
+    over = went_over range turn pass (serving history) begun none.mid none.marks none.through
 
     pub none_carried : IsCarried before after
     none_carried =
@@ -179,37 +178,34 @@ module _ (setting : Setting) (config : Config) (leaves : ℕ) (range : Range) (r
     pub none_own : after.purse.own ≡ before.purse.own
     none_own =
         none.back.met.own ∙ none.through.so_far.writing.own
-        ∙ map_alike (with_puts pass range (Adds row) none.marks) begun.purse.own
-        (λ kept. puts_none pass range (Adds row) none.marks kept none.none)
+        ∙ map_alike (with_puts pass range turn none.marks) begun.purse.own
+        (λ kept. puts_none pass range turn none.marks kept none.none)
         ∙ begins.met.own
 
-    pub none_refused_as : range_of_key config row.key ≡ Some range → refusal config.range_points history row ≡ None
-        → IsRefusedAs config row before after (AreAllDown config row before after range founds)
-    none_refused_as in_range free = record {
-      range = range;
-      in_range = in_range;
-      history = history;
-      found = over_found setting config leaves range before after is counted history begun none.mid begins over returned
-          (begins_same (range_history after.seen range) history none.back.whole);
-      cause = record {
-        in_range = in_range;
-        free = free;
-        leaves = ap (map (λ (found : FoundDown). found.leaf)) (sym none.founds_are)
-            ∙ found_leaves none.marks none.through.decided none.none
-            ∙ ap (map (λ (replica : SlotLeaf). replica.leaf)) none.through.so_far.serve;
-        down = λ found there.
-            let mark = contains_flat found_in_mark none.marks found
-            (subst (λ (xs : List FoundDown). Contains xs found) (sym none.founds_are) there) in
-            let at = found_at mark.0 mark.0.fate found mark.2 in
-            let down = went_down range (Adds row) pass (serving history) begun none.mid none.marks
-            none.through mark.0 at.0 mark.1 at.1 in
-            subst (λ (f : FoundDown). WasFoundDown before after f.leaf f.cut) at.2
-            (over_down setting config leaves range before after is counted history begun none.mid begins over returned
-            mark.0.leaf at.0 down.1 down.2);
-      };
-    }
+    pub none_found : WasFoundSo config range history before after
+    none_found =
+        over_found setting config leaves range before after is counted history begun none.mid begins over returned
+        (begins_same (range_history after.seen range) history none.back.whole)
 
-  module _ (up : HasGivenUp leaves range (Adds row) history pass begun after) where
+    pub none_leaves : map (λ (found : FoundDown). found.leaf) founds
+        ≡ map (λ (replica : SlotLeaf). replica.leaf) (serving history)
+    none_leaves =
+        ap (map (λ (found : FoundDown). found.leaf)) (sym none.founds_are)
+        ∙ found_leaves none.marks none.through.decided none.none
+        ∙ ap (map (λ (replica : SlotLeaf). replica.leaf)) none.through.so_far.serve
+
+    pub none_down : (found : FoundDown) → Contains founds found → WasFoundDown before after found.leaf found.cut
+    none_down found there =
+        let mark = contains_flat found_in_mark none.marks found
+        (subst (λ (xs : List FoundDown). Contains xs found) (sym none.founds_are) there) in
+        let at = found_at mark.0 mark.0.fate found mark.2 in
+        let down = went_down range turn pass (serving history) begun none.mid none.marks
+        none.through mark.0 at.0 mark.1 at.1 in
+        subst (λ (f : FoundDown). WasFoundDown before after f.leaf f.cut) at.2
+        (over_down setting config leaves range before after is counted history begun none.mid begins over returned
+        mark.0.leaf at.0 down.1 down.2)
+
+  module _ (up : HasGivenUp leaves range turn history pass begun after) where
     up_over : HasGoneOver begun up.mid
     up_over = record {
       fronts = up.withdrawn.fronts;

@@ -1,13 +1,13 @@
 -- What a caller has once a call at a range came to its end: it is between its calls again.
-use Rattle.std.proofs.Common.{◌≡◌, ◌≤◌, ℕ, zero, suc, ◌+◌, true, List, [], ◌∷◌, ◌++◌, filter, length}
+use Rattle.std.proofs.Common.{◌≡◌, ◌≤◌, ℕ, zero, suc, ◌+◌, true, List, [], ◌∷◌, ◌++◌, drop, filter, length}
 use Rattle.std.proofs.Common.{refl, sym, ap, subst, ◌∙◌, arith, Option, Some, None, inl, inr, ◌⊎◌, cond}
 use Rattle.std.proofs.Common.{eq-eqb}
 use Rattle.std.specs.Prelude.{Contains, option_map, option_to_list}
 use mathlib.Core.List.{IsPrefix}
 use Rattle.std.proofs.lemmas.List.{append-nil}
-use Rattle.std.proofs.lemmas.List.Elements.{Contains-append_right}
+use Rattle.std.proofs.lemmas.List.Elements.{Contains-append_right, filter-append}
 use Rattle.std.proofs.lemmas.List.Sums.{sum_by-cons}
-use Rattle.history_book.proofs.ListLemmas.{prefix_filter, prefix_whole}
+use Rattle.history_book.proofs.ListLemmas.{prefix_whole}
 use Rattle.history_book.specs.Histories.{AreFronts, entries, is_under}
 use Rattle.history_book.specs.Seats.{IsPurseBorneOut, hand_of, kept_in, times_room}
 use Rattle.history_book.specs.declared.views.BookEntry.{BookEntry}
@@ -22,12 +22,11 @@ use Rattle.mon_value.specs.declared.positions.Leaf.{Leaf}
 use Rattle.owners.specs.Puts.{number_or, pass_of}
 use Rattle.mon_store.proofs.ListLemmas.{Differ, all_came}
 use Rattle.mon_store.proofs.PassLemmas.{number_still, same_owner}
-use Rattle.mon_store.proofs.OwnLemmas.{came, entries_front, still_exact}
+use Rattle.mon_store.proofs.OwnLemmas.{came, drop_prefix, entries_front, still_exact}
 use Rattle.know.proofs.SoundLemmas.{within_front}
 use Rattle.mon_store.specs.Passes.{IsPass}
 use Rattle.mon_store.specs.Writes.{IsStill, IsUnwritten, new_entries, own_entries}
 use Rattle.mon_value.proofs.PlainLemmas.{contains_kept}
-use Rattle.write_core.proofs.AckLemmas.{contains_filter}
 
 -- what a call at a range leaves as it was, where the caller held nothing before
 pub record IsCarried (before after : Knowledge) : Type 0 where
@@ -38,6 +37,11 @@ pub record IsCarried (before after : Knowledge) : Type 0 where
   pub handed : after.handed ≡ before.handed
   pub holds : after.purse.holds ≡ []
   pub rooms : after.purse.rooms ≡ []
+
+-- what a refusal leaves
+pub record IsLeft (before after : Knowledge) : Type 0 where
+  pub carried : IsCarried before after
+  pub own : after.purse.own ≡ before.purse.own
 
 -- ---- the number
 
@@ -141,12 +145,12 @@ module _ (setting : Setting) (before after : Knowledge) (is : IsPass setting bef
 
   -- ---- these entries were appended under its number
 
-  -- they differ, are seen, and weren't before
+  -- they differ, and came behind all that had been seen
   pub record HaveCome (new : History → List BookEntry) : Type 0 where
     pub differ : (whose : History) → Differ (new whose)
-    pub seen : (whose : History) (e : BookEntry) → Contains (new whose) e → Contains (entries after.seen whose) e
     pub under : (whose : History) (e : BookEntry) → Contains (new whose) e → is_under (pass_of before) e ≡ true
-    pub unseen : (whose : History) (e : BookEntry) → Contains (new whose) e → Contains (entries before.seen whose) e → ⊥
+    pub came : (whose : History) (e : BookEntry) → Contains (new whose) e
+        → Contains (drop (length (entries before.seen whose)) (entries after.seen whose)) e
 
   module _ (new : History → List BookEntry) (kept : Kept) (own : after.purse.own ≡ Some kept)
       (number : kept.number ≡ pass_of before)
@@ -162,19 +166,21 @@ module _ (setting : Setting) (before after : Knowledge) (is : IsPass setting bef
         → filter (is_under (pass_of before)) (entries after.seen whose) ≡ entries kept.own whose
     all_come come whose =
         let test = is_under (pass_of before) in
-        let was = filter test (entries before.seen whose) in
+        let old = entries before.seen whose in
+        let was = filter test old in
         let now = filter test (entries after.seen whose) in
         let had : was ≡ own_entries before.purse.own whose = own_exact setting before is whose in
         let both : entries kept.own whose ≡ was ++ new whose =
         added whose ∙ ap (λ (xs : List BookEntry). xs ++ new whose) (sym had) in
-        all_came was now (new whose)
-        (prefix_filter test (entries before.seen whose) (entries after.seen whose)
-        (entries_front before.seen after.seen carried.fronts whose))
-        (subst (λ (xs : List BookEntry). IsPrefix now xs) both (front_of whose))
+        let on : IsPrefix old (entries after.seen whose) =
+        entries_front before.seen after.seen carried.fronts whose in
+        let front : IsPrefix was now = (filter test on.0, sym (filter-append test old on.0) ∙ ap (filter test) on.1) in
+        all_came was now (new whose) front (subst (λ (xs : List BookEntry). IsPrefix now xs) both (front_of whose))
         (come.differ whose)
-        (λ e there. contains_kept test (entries after.seen whose) e (come.seen whose e there)
+        (λ e there. contains_kept test on.0 e
+        (subst (λ (xs : List BookEntry). Contains xs e) (drop_prefix old (entries after.seen whose) on)
+        (come.came whose e there))
         (come.under whose e there))
-        (λ e there old. come.unseen whose e there (contains_filter test (entries before.seen whose) e old).0)
         ∙ sym both
 
     -- or as many are seen as it keeps

@@ -5,6 +5,9 @@ pub mod Openings
 pub mod Passes
 pub mod Queries
 pub mod Recoveries
+pub mod Retirements
+pub mod Serving
 pub mod Stores
 pub mod Switches
+pub mod Trims
 pub mod Writes

@@ -15,11 +15,12 @@ use Rattle.know.specs.Knowledge.{Knowledge}
 use Rattle.mon_config.specs.Configs.{range_of_key}
 use Rattle.mon_config.specs.declared.config.Config.{Config}
 use Rattle.mon_topo.specs.HeldHistories.{BeginsWith}
-use Rattle.mon_topo.specs.RangeHistories.{IsAckOf, serving}
+use Rattle.mon_topo.specs.RangeHistories.{IsAckOf, serving, turn_ack}
 use Rattle.mon_topo.specs.Zones.{leaves_in}
 use Rattle.mon_value.specs.Histories.{range_history}
+use Rattle.mon_value.specs.LeafHistories.{turn_entry}
+use Rattle.mon_value.specs.Turns.{Turn, Adds}
 use Rattle.mon_value.specs.declared.histories.Ack.{Ack}
-use Rattle.mon_value.specs.declared.histories.Entry.TheVariants as entry
 use Rattle.mon_value.specs.declared.histories.Miss.{Miss}
 use Rattle.mon_value.specs.declared.histories.RangeEntry.{RangeEntry}
 use Rattle.mon_value.specs.declared.histories.RangeEntry.TheVariants as range_entry
@@ -45,22 +46,30 @@ pub record WasFoundSo (config : Config) (range : Range) (history : List RangeEnt
   pub from : BeginsWith history (range_history before.seen range)
   pub to : BeginsWith (range_history after.seen range) history
 
--- ---- what a write adds
+-- ---- what a turn adds: a row that is written, or a bound
 
 -- an entry of a history, where that one is asked for
 abbrev pub only_in : History → BookEntry → History → List BookEntry
 only_in own e whose = if same_history own whose then e ∷ [] else []
 
--- the put to a replica, on its leaf
-abbrev pub put_in : ℕ → Range → Row → History → SlotLeaf → List BookEntry
-put_in pass range row whose replica =
-    only_in (of.Leaf replica.leaf) (one.Leaf (entry.Put pass range replica.slot row)) whose
+-- the entry of a replica, on its leaf
+abbrev pub turn_in : ℕ → Range → Turn → History → SlotLeaf → List BookEntry
+turn_in pass range turn whose replica =
+    only_in (of.Leaf replica.leaf) (one.Leaf (turn_entry pass range replica.slot turn)) whose
 
--- one put to each replica that took the row, and the one acknowledgement, in the range's history
+-- one of each replica that took the turn, and the one acknowledgement, in the range's history
+abbrev pub turned : ℕ → Range → Turn → Ack → List SlotLeaf → History → List BookEntry
+turned pass range turn ack took whose =
+    flat_map (turn_in pass range turn whose) took
+    ++ only_in (of.Range range) (one.Range (turn_ack pass turn ack)) whose
+
+-- the put to a replica
+abbrev pub put_in : ℕ → Range → Row → History → SlotLeaf → List BookEntry
+put_in pass range row = turn_in pass range (Adds row)
+
+-- of a row
 abbrev pub written : ℕ → Range → Row → Ack → List SlotLeaf → History → List BookEntry
-written pass range row ack took whose =
-    flat_map (put_in pass range row whose) took
-    ++ only_in (of.Range range) (one.Range (range_entry.Acked pass row ack)) whose
+written pass range row = turned pass range (Adds row)
 
 -- what a caller appended under its number
 abbrev pub own_entries : Option Kept → History → List BookEntry

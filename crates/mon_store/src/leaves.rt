@@ -47,6 +47,22 @@ impl<'a, N: Names, R: Wait> LeafSide<N> for SharedLeaves<'a, N, R> {
             .put(self.rt, self.tables, know, range, slot, row)
     }
 
+    fn reserve_trim(
+        &self,
+        leaf: Leaf,
+        know: &mut Know<N>,
+        range: Range,
+        slot: Slot,
+    ) -> Result<Found, OutOfMemory> {
+        self.cell(leaf)
+            .reserve_trim(self.rt, self.tables, know, range, slot)
+    }
+
+    fn trim(&self, leaf: Leaf, know: &mut Know<N>, range: Range, slot: Slot, before: i64) -> Found {
+        self.cell(leaf)
+            .trim(self.rt, self.tables, know, range, slot, before)
+    }
+
     fn cancel(&self, leaf: Leaf, know: &mut Know<N>) {
         self.cell(leaf).cancel(self.rt, self.tables, know);
     }

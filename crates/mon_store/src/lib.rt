@@ -12,8 +12,11 @@ mod opening;
 mod passes;
 mod queries;
 mod recovering;
+mod retiring;
+mod serving;
 mod stores;
 mod switching;
+mod trimming;
 mod writing;
 
 pub use blanks::StoreBlank;
@@ -23,5 +26,5 @@ pub use leaf_cell::ControlFault;
 pub use passes::Pass;
 pub use queries::QueryFault;
 pub use query_core::{Answer, Resolved, Trace};
-pub use range_cell::{RecoverFault, WriteFault};
+pub use range_cell::{RecoverFault, RetireFault, TrimFault, WriteFault};
 pub use stores::Store;

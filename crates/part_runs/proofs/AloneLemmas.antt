@@ -10,7 +10,7 @@ use Rattle.history_book.specs.declared.views.BookEntry.{BookEntry}
 use Rattle.history_book.specs.declared.views.History.{History}
 use Rattle.history_book.specs.declared.views.Kept.{Kept}
 use Rattle.know.specs.Knowledge.{Knowledge}
-use Rattle.line_runs.specs.LineWrites.{LineWrote, ran_line}
+use Rattle.line_runs.specs.LineWrites.{LineRanSo, LineWrote, ran_line}
 use Rattle.line_runs.specs.declared.lines.LineRan.{LineRan}
 use Rattle.mon_config.specs.declared.config.Config.{Config}
 use Rattle.mon_store.specs.Passes.{IsPass}
@@ -20,13 +20,15 @@ use Rattle.owners.specs.Puts.{pass_of}
 use Rattle.run_theory.specs.Parts.{Alone}
 use Rattle.run_theory.proofs.Marks.{all_as}
 use Rattle.run_traces.specs.LineClaims.{HasWritten}
+use Rattle.run_traces.specs.LineDues.{is_ticked}
 use Rattle.run_traces.specs.RanLines.{RanLine}
 use Rattle.run_traces.specs.declared.line_files.LineFiles.{LineFiles}
 use Rattle.mon_script.specs.declared.forms.LineForm.{LineForm}
-use Rattle.part_runs.specs.PartsDone.{PartDid}
+use Rattle.part_runs.specs.PartsDone.{ActedAlone, PartDid, PartTells}
 use Rattle.part_runs.proofs.ListLemmas.{all_mapped, first_of}
 use Rattle.part_runs.proofs.NumberLemmas.{kept_every}
 use Rattle.part_runs.proofs.PassLemmas.{own_kept, seen_kept, under_kept}
+use Rattle.part_runs.proofs.TellLemmas.{GoOn, Stay, alone_tells, part_plain}
 use Rattle.mon_store.proofs.WriteLemmas.{own_is}
 
 abbrev own_entries_of : Knowledge → History → List BookEntry
@@ -134,27 +136,50 @@ module _ (setting : Setting) (config : Config) (line : RanLine) (text : List ℕ
 
 -- ---- what a call answers
 
-module _ {E : Type 0} (setting : Setting) (config : Config) (what : LineForm) (content : LineFiles) (before after : Knowledge)
-    (begun : IsPass setting before) (ended : IsPass setting after) (borne_out : IsPurseBorneOut after.seen after.purse)
-    (every : HasEveryNumber before.purse) where
-  pub answer_did : (answer : Result LineRan E)
-      → IfOk answer (λ ran. LineWrote config (ran_line what content ran.trace) ran.text before after)
-      → IfOk answer (λ ran. PartDid config (Alone (ran_line what content ran.trace)) (ran.text ∷ []) before after)
-  answer_did (Ok ran) wrote = part_did setting config (ran_line what content ran.trace) ran.text before after begun
-      ended wrote borne_out every
-  answer_did (Err e) wrote = tt
+module _ {E : Type 0} (go_on : GoOn) (stay : Stay) (setting : Setting) (config : Config) (what : LineForm)
+    (content : LineFiles) (before after : Knowledge) (begun : IsPass setting before) (ended : IsPass setting after)
+    (borne_out : IsPurseBorneOut after.seen after.purse) (every : HasEveryNumber before.purse) where
+  -- a line that ran, with the places of its own entries
+  pub answer_acted : (answer : Result LineRan E)
+      → IfOk answer (λ ran. LineRanSo config what content ran before after)
+      → IfOk answer (λ ran. ActedAlone config what content ran before after)
+  answer_acted (Ok ran) so = record {
+    own = so.own;
+    tells = alone_tells go_on stay
+        (part_did setting config (ran_line what content ran.trace so.own) ran.text before after begun ended so.wrote
+        borne_out every);
+  }
+  answer_acted (Err e) so = tt
+
+  -- one that has none
+  pub answer_tells : (answer : Result LineRan E)
+      → IfOk answer (λ ran. LineWrote config (ran_line what content ran.trace []) ran.text before after)
+      → IfOk answer (λ ran. PartTells config (Alone (ran_line what content ran.trace [])) (ran.text ∷ []) before after)
+  answer_tells (Ok ran) wrote = alone_tells go_on stay
+      (part_did setting config (ran_line what content ran.trace []) ran.text before after begun ended wrote borne_out
+      every)
+  answer_tells (Err e) wrote = tt
+
+  -- no such line is a tick
+  pub answer_plain : (answer : Result LineRan E)
+      → IfOk answer (λ ran. LineRanSo config what content ran before after)
+      → IfOk answer (λ ran. is_ticked ran.trace ≡ false)
+  answer_plain (Ok ran) so =
+      let did = part_did setting config (ran_line what content ran.trace so.own) ran.text before after begun ended
+      so.wrote borne_out every in
+      (part_plain config before.seen after.seen (Alone (ran_line what content ran.trace so.own)) did.written).0
+  answer_plain (Err e) so = tt
 
 -- whatever the files of a line hold that names none
 pub with_content : {E : Type 0} (config : Config) (what : LineForm) (content : LineFiles) (before after : Knowledge)
     (answer : Result LineRan E)
-    → IfOk answer (λ ran. (held : LineFiles) → LineWrote config (ran_line what held ran.trace) ran.text before after)
-    → IfOk answer (λ ran. LineWrote config (ran_line what content ran.trace) ran.text before after)
-with_content config what content before after (Ok ran) wrote = wrote content
+    → IfOk answer (λ ran. (held : LineFiles) → LineWrote config (ran_line what held ran.trace []) ran.text before after)
+    → IfOk answer (λ ran. LineRanSo config what content ran before after)
+with_content config what content before after (Ok ran) wrote = record { own = []; wrote = wrote content }
 with_content config what content before after (Err e) wrote = tt
 
 pub answer_stock : {E : Type 0} (config : Config) (what : LineForm) (content : LineFiles) (before after : Knowledge)
-    (answer : Result LineRan E)
-    → IfOk answer (λ ran. LineWrote config (ran_line what content ran.trace) ran.text before after)
+    (answer : Result LineRan E) → IfOk answer (λ ran. LineRanSo config what content ran before after)
     → OnOk answer (after.purse.stock ≡ before.purse.stock)
-answer_stock config what content before after (Ok ran) wrote = wrote.keeps.stock
-answer_stock config what content before after (Err e) wrote = tt
+answer_stock config what content before after (Ok ran) so = so.wrote.keeps.stock
+answer_stock config what content before after (Err e) so = tt

@@ -14,7 +14,7 @@ use Rattle.history_book.specs.declared.views.History.{History}
 use Rattle.history_book.specs.declared.views.Kept.{Kept}
 use Rattle.history_book.specs.declared.views.Purse.{Purse}
 use Rattle.know.specs.Knowledge.{Knowledge, after_numbering, meeting, numbered_knowledge}
-use Rattle.line_runs.specs.LineWrites.{LineWrote, ran_line}
+use Rattle.line_runs.specs.LineWrites.{LineRanSo, ran_line}
 use Rattle.line_runs.specs.declared.lines.LineRan.{LineRan}
 use Rattle.mon_config.specs.declared.config.Config.{Config}
 use Rattle.mon_store.specs.Passes.{IsPass}
@@ -26,7 +26,7 @@ use Rattle.run_theory.specs.Writings.{EachWrote, Wrote}
 use Rattle.run_theory.proofs.Marks.{all_as}
 use Rattle.run_traces.specs.LineClaims.{Finds, HaveGrown, Makes}
 use Rattle.run_traces.specs.LineTexts.{line_text}
-use Rattle.run_traces.specs.RanLines.{RanLine, ran_lines}
+use Rattle.run_traces.specs.RanLines.{OwnPlace, RanLine, ran_lines}
 use Rattle.run_traces.specs.declared.traces.LineTrace.{LineTrace}
 use Rattle.run_traces.specs.declared.line_files.LineFiles.{LineFiles}
 use Rattle.mon_script.specs.declared.forms.LineForm.{LineForm}
@@ -127,6 +127,13 @@ trace_of ran = ran.trace
 abbrev text_of : LineRan → List ℕ
 text_of ran = ran.text
 
+-- the lines of a block, with the places of each, wrote what they made and found what they owe
+pub record BesideDid (config : Config) (lines : List ScriptLine) (contents : List LineFiles) (rans : List LineRan)
+    (before after : Knowledge) : Type 0 where
+  pub places : List (List OwnPlace)
+  pub count : length places ≡ length lines
+  pub did : PartDid config (Beside (ran_lines lines contents (map trace_of rans) places)) (map text_of rans) before after
+
 module _ (later : (config : Config) (seen more : Histories) (from : History → ℕ) (number : ℕ) (line : RanLine)
     (made : History → List BookEntry) → HaveGrown seen more
     → ((history : History) → filter (λ e. nat_eq (book_entry_pass e) number) (entries more history)
@@ -145,13 +152,15 @@ module _ (later : (config : Config) (seen more : Histories) (from : History → 
     abbrev number : ℕ
     number = know.purse.stock.from
 
-    wrote : LineWrote config (ran_line what content ran.trace) ran.text (numbered_knowledge know) way.know
-    wrote = subst
-        (λ done. IfSome done (λ r. LineWrote config (ran_line what content r.trace) r.text (numbered_knowledge know)
-        way.know)) is run.wrote
+    so : LineRanSo config what content ran (numbered_knowledge know) way.know
+    so = subst (λ done. IfSome done (λ r. LineRanSo config what content r (numbered_knowledge know) way.know)) is
+        run.wrote
+
+    abbrev one : RanLine
+    one = ran_line what content ran.trace so.own
 
     own : OwnKept way.know.purse.own number
-    own = own_kept way.know.purse.own number wrote.keeps.number
+    own = own_kept way.know.purse.own number so.wrote.keeps.number
 
     has : Contains (kept_in way.know.purse) own.kept
     has = subst (λ o. Contains (option_to_list o ++ way.know.purse.met) own.kept) (sym own.is)
@@ -168,40 +177,39 @@ module _ (later : (config : Config) (seen more : Histories) (from : History → 
     grown : HaveGrown way.know.seen last.seen
     grown = have_grown setting way.know.seen last.seen fronts run.held held
 
-    line_wrote : Wrote entries book_entry_pass (Makes config) (Finds config) HaveGrown know.seen last.seen number
-        (ran_line what content ran.trace)
+    line_wrote : Wrote entries book_entry_pass (Makes config) (Finds config) HaveGrown know.seen last.seen number one
     line_wrote = record {
       own = λ h. entries no_entries h;
-      made = wrote.made;
-      makes = wrote.makes;
+      made = so.wrote.made;
+      makes = so.wrote.makes;
       first = λ h. run.began.exact (new_number number) h (first_of (new_number number) []);
-      then = λ h. seen_last h ∙ sym (own_is way.know.purse.own own.kept h own.is) ∙ wrote.own h;
-      found = later config way.know.seen last.seen (λ h. length (entries know.seen h)) number
-          (ran_line what content ran.trace) wrote.made grown (λ h. seen_last h ∙ sym (seen_then h)) wrote.makes
-          wrote.found;
+      then = λ h. seen_last h ∙ sym (own_is way.know.purse.own own.kept h own.is) ∙ so.wrote.own h;
+      found = later config way.know.seen last.seen (λ h. length (entries know.seen h)) number one so.wrote.made grown
+          (λ h. seen_last h ∙ sym (seen_then h)) so.wrote.makes so.wrote.found;
     }
 
     line_number : map number_of (kept_in way.know.purse) ≡ number ∷ []
     line_number =
         ap (λ o. map number_of (option_to_list o ++ way.know.purse.met)) own.is
-        ∙ ap (λ met. own.kept.number ∷ map number_of met) wrote.keeps.met ∙ ap (λ n. n ∷ []) own.numbered
+        ∙ ap (λ met. own.kept.number ∷ map number_of met) so.wrote.keeps.met ∙ ap (λ n. n ∷ []) own.numbered
 
-    line_prints : ran.text ≡ line_text config last.seen (ran_line what content ran.trace)
-    line_prints = wrote.prints ∙ sym (texts config way.know.seen last.seen (λ h. length (entries know.seen h))
-        (λ h. length (entries way.know.seen h)) number (ran_line what content ran.trace) grown (λ h. omega arith)
-        wrote.found)
+    line_prints : ran.text ≡ line_text config last.seen one
+    line_prints = so.wrote.prints ∙ sym (texts config way.know.seen last.seen (λ h. length (entries know.seen h))
+        (λ h. length (entries way.know.seen h)) number one grown (λ h. omega arith) so.wrote.found)
 
     line_times : (n : ℕ) → times_number n way.know.purse ≡ times_number n (first_handed know.purse)
-    line_times n = kept_times n (numbered_knowledge know) way.know wrote.keeps
+    line_times n = kept_times n (numbered_knowledge know) way.know so.wrote.keeps
 
   -- ---- what all lines did
 
   record LinesDid (know : Knowledge) (lines : List ScriptLine) (contents : List LineFiles) (ways : List Way)
       (rans : List LineRan) : Type 0 where
+    places : List (List OwnPlace)
+    count : length places ≡ length lines
     each : EachWrote entries book_entry_pass (Makes config) (Finds config) HaveGrown know.seen last.seen
-        (numbers_on know.purse.stock.from (length lines)) (ran_lines lines contents (map trace_of rans))
+        (numbers_on know.purse.stock.from (length lines)) (ran_lines lines contents (map trace_of rans) places)
     numbers : map number_of (kept_of ways) ≡ numbers_on know.purse.stock.from (length lines)
-    prints : map text_of rans ≡ map (line_text config last.seen) (ran_lines lines contents (map trace_of rans))
+    prints : map text_of rans ≡ map (line_text config last.seen) (ran_lines lines contents (map trace_of rans) places)
     times : (n : ℕ) → times_in n ways ≡ times_in n (begun (length lines) know)
 
   lines_did : (know : Knowledge) (lines : List ScriptLine) (contents : List LineFiles) (ways : List Way)
@@ -211,6 +219,8 @@ module _ (later : (config : Config) (seen more : Histories) (from : History → 
       → ((kept : Kept) → Contains (kept_of ways) kept → Contains (kept_in last.purse) kept)
       → LinesDid know lines contents ways rans
   lines_did know [] contents [] [] few many run done fronts keeps = record {
+    places = [];
+    count = refl;
     each = tt;
     numbers = refl;
     prints = refl;
@@ -226,7 +236,10 @@ module _ (later : (config : Config) (seen more : Histories) (from : History → 
       = λ kept has. keeps kept (Contains-append_left (kept_in way.know.purse) (kept_of ways) kept has) in
       let rest = lines_did (after_numbering know) lines contents ways rans (omega arith) (omega arith) run.1 done.1
       fronts.1 (λ kept has. keeps kept (Contains-append_right (kept_in way.know.purse) (kept_of ways) kept has)) in
+      let mine = (so know line.what content way ran run.0 done.0 fronts.0 first).own in
       record {
+        places = mine ∷ rest.places;
+        count = ap suc rest.count;
         each = (line_wrote know line.what content way ran run.0 done.0 fronts.0 first, rest.each);
         numbers = map-append number_of (kept_in way.know.purse) (kept_of ways)
             ∙ ap (λ ns. ns ++ map number_of (kept_of ways))
@@ -234,7 +247,7 @@ module _ (later : (config : Config) (seen more : Histories) (from : History → 
             ∙ ap (λ ns. know.purse.stock.from ∷ ns) rest.numbers;
         prints = ap (λ w. w ∷ map text_of rans)
             (line_prints know line.what content way ran run.0 done.0 fronts.0 first)
-            ∙ ap (λ ws. line_text config last.seen (ran_line line.what content ran.trace) ∷ ws) rest.prints;
+            ∙ ap (λ ws. line_text config last.seen (ran_line line.what content ran.trace mine) ∷ ws) rest.prints;
         times = λ n. ap (λ m. m + times_in n ways)
             (line_times know line.what content way ran run.0 done.0 fronts.0 first n)
             ∙ ap (λ m. times_number n (first_handed know.purse) + m) (rest.times n);
@@ -276,7 +289,7 @@ module _ (later : (config : Config) (seen more : Histories) (from : History → 
         → length contents ≡ length lines → length ways ≡ length lines
         → EachHasRun setting config lines contents (begun (length lines) know) ways → rans ≡ ended_in ways
         → length rans ≡ length lines
-        → PartDid config (Beside (ran_lines lines contents (map trace_of rans))) (map text_of rans) know last
+        → BesideDid config lines contents rans know last
     block_did rans can every few many run rans_are all =
         let enough : length (ended_in ways) ≡ length ways
         = (let e : length rans ≡ length (ended_in ways) = ap length rans_are in omega arith) in
@@ -289,23 +302,27 @@ module _ (later : (config : Config) (seen more : Histories) (from : History → 
         ∙ ap (λ ns. map number_of (kept_in know.purse) ++ ns) did.numbers in
         let every_then = every_number handed both (length lines) know last ways can did.times met every in
         record {
-          written = record {
-            old = map number_of (kept_in know.purse);
-            numbers = numbers_on know.purse.stock.from (length lines);
-            goes = have_grown setting know.seen last.seen (block_fronts (length lines) ways know last met) begun_held
-                held;
-            each = did.each;
-            apart = on_apart know.purse.stock.from (length lines);
-            same = same;
-            covered = λ h. all_as
-                (λ e. list_any (nat_eq (book_entry_pass e)) (map number_of (kept_in last.purse)) ≡ true)
-                (λ e. list_any (nat_eq (book_entry_pass e))
-                (map number_of (kept_in know.purse) ++ numbers_on know.purse.stock.from (length lines)) ≡ true)
-                (λ e is. sym (ap (list_any (nat_eq (book_entry_pass e))) number_then) ∙ is)
-                (entries last.seen h) (under_kept last borne_out every_then h);
+          places = did.places;
+          count = did.count;
+          did = record {
+            written = record {
+              old = map number_of (kept_in know.purse);
+              numbers = numbers_on know.purse.stock.from (length lines);
+              goes = have_grown setting know.seen last.seen (block_fronts (length lines) ways know last met) begun_held
+                  held;
+              each = did.each;
+              apart = on_apart know.purse.stock.from (length lines);
+              same = same;
+              covered = λ h. all_as
+                  (λ e. list_any (nat_eq (book_entry_pass e)) (map number_of (kept_in last.purse)) ≡ true)
+                  (λ e. list_any (nat_eq (book_entry_pass e))
+                  (map number_of (kept_in know.purse) ++ numbers_on know.purse.stock.from (length lines)) ≡ true)
+                  (λ e is. sym (ap (list_any (nat_eq (book_entry_pass e))) number_then) ∙ is)
+                  (entries last.seen h) (under_kept last borne_out every_then h);
+            };
+            prints = did.prints;
+            every = every_then;
           };
-          prints = did.prints;
-          every = every_then;
         }
 
 -- ---- what calls answer

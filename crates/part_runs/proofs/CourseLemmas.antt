@@ -6,7 +6,7 @@ use Rattle.std.specs.Result.{result_ok}
 use Rattle.std.proofs.lemmas.List.{append-nil, append_assoc, length-append}
 use Rattle.history_book.specs.Histories.{AreFronts}
 use Rattle.know.specs.Knowledge.{Knowledge, after_numbering, meeting}
-use Rattle.line_runs.specs.LineWrites.{LineWrote, ran_line}
+use Rattle.line_runs.specs.LineWrites.{LineRanSo}
 use Rattle.line_runs.specs.declared.lines.LineRan.{LineRan}
 use Rattle.mon_config.specs.declared.config.Config.{Config}
 use Rattle.mon_store.specs.Passes.{IsPass}
@@ -26,7 +26,7 @@ if_kept P (Err e) holds = tt
 module _ (config : Config) (what : LineForm) (content : LineFiles) (before : Knowledge) where
   -- what a line came to is what it wrote
   abbrev HasWrote : Knowledge → LineRan → Type 0
-  HasWrote after ran = LineWrote config (ran_line what content ran.trace) ran.text before after
+  HasWrote after ran = LineRanSo config what content ran before after
 
 -- a line has run, by what its caller knew, what it knows then and what it answered
 pub has_run : {E : Type 0} (setting : Setting) (config : Config) (what : LineForm) (content : LineFiles)

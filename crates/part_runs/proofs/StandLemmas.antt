@@ -1,5 +1,5 @@
 -- What lines do with the queries that stand, and what they owe.
-use Rattle.std.proofs.Common.{◌≡◌, ◌∙◌, ℕ, ℤ, List, [], ◌∷◌, map, Some, Ok, Err, sym, ap, subst}
+use Rattle.std.proofs.Common.{◌≡◌, ◌∙◌, ℕ, ℤ, List, [], ◌∷◌, Some, Ok, Err, sym, ap, subst}
 use Rattle.std.specs.Prelude.{IfOk, OnOk, Result}
 use Rattle.history_book.specs.Seats.{HasEveryNumber, IsPurseBorneOut}
 use Rattle.know.specs.Knowledge.{Knowledge}
@@ -14,14 +14,13 @@ use Rattle.mon_script.specs.declared.forms.LineForm.TheVariants as form
 use Rattle.mon_script.specs.declared.standing_lines.StandingLine.TheVariants as line
 use Rattle.mon_store.specs.Passes.{IsPass}
 use Rattle.mon_topo.specs.Settings.{Setting}
-use Rattle.part_runs.specs.PartsDone.{AloneDid, PartTells}
+use Rattle.part_runs.specs.PartsDone.{ActedAlone, AloneDid}
 use Rattle.part_runs.proofs.AloneLemmas.{part_did}
 use Rattle.part_runs.proofs.TellLemmas.{GoOn, Stay, alone_tells}
-use Rattle.run_theory.specs.Parts.{Alone}
-use Rattle.run_traces.specs.LineDues.{IsDueBy, due_outcome, due_told}
-use Rattle.run_traces.specs.declared.traces.DueTrace.{DueTrace}
+use Rattle.part_runs.proofs.TickLemmas.{tick_acted}
+use Rattle.part_runs.specs.Ticks.{TickRan}
+use Rattle.run_traces.specs.LineDues.{due_outcome, due_told, stands_behind}
 use Rattle.run_traces.specs.declared.traces.LineFault.TheVariants as why
-use Rattle.run_traces.specs.declared.traces.LineTrace.TheVariants as came
 use Rattle.run_traces.specs.declared.line_files.LineFiles.{LineFiles}
 use Rattle.standing.specs.DueLists.{add_fault, due_answer, StandingState, at_moment}
 use Rattle.standing.specs.declared.dues.Due.{Due}
@@ -31,11 +30,15 @@ module _ (go_on : GoOn) (stay : Stay) (setting : Setting) (config : Config) (kno
     (begun : IsPass setting know) (borne_out : IsPurseBorneOut know.seen know.purse)
     (every : HasEveryNumber know.purse) where
   -- a line that touches nothing tells what it wrote
-  still_tells : (what : LineForm) (content : LineFiles) (ran : LineRan)
-      → LineWrote config (ran_line what content ran.trace) ran.text know know
-      → PartTells config (Alone (ran_line what content ran.trace)) (ran.text ∷ []) know know
-  still_tells what content ran wrote = alone_tells go_on stay
-      (part_did setting config (ran_line what content ran.trace) ran.text know know begun begun wrote borne_out every)
+  still_acted : (what : LineForm) (content : LineFiles) (ran : LineRan)
+      → LineWrote config (ran_line what content ran.trace []) ran.text know know
+      → ActedAlone config what content ran know know
+  still_acted what content ran wrote = record {
+    own = [];
+    tells = alone_tells go_on stay
+        (part_did setting config (ran_line what content ran.trace []) ran.text know know begun begun wrote borne_out
+        every);
+  }
 
   module _ (state : StandingState) (name : List ℕ) (period : ℤ) (text : List ℕ) (content : LineFiles) where
     abbrev told : LineRan
@@ -46,7 +49,7 @@ module _ (go_on : GoOn) (stay : Stay) (setting : Setting) (config : Config) (kno
     stood_told =
         let due = standing_due config state name period text content know in
         record {
-          tells = still_tells (form.Standing (line.Stand name period text)) content told
+          acted = still_acted (form.Standing (line.Stand name period text)) content told
               (standing_wrote config state name period text content know);
           due = due.0;
           stood = due.1;
@@ -75,7 +78,7 @@ module _ (go_on : GoOn) (stay : Stay) (setting : Setting) (config : Config) (kno
       → AloneDid config (form.Standing (line.Tick moment)) content ran know know state stands
   undue_did state stands moment content fault ran is answer same =
       subst (λ (r : LineRan). AloneDid config (form.Standing (line.Tick moment)) content r know know state stands) (sym is) (record {
-        tells = still_tells (form.Standing (line.Tick moment)) content (refused_for config.topology (why.Due fault))
+        acted = still_acted (form.Standing (line.Tick moment)) content (refused_for config.topology (why.Due fault))
             (undue_wrote config moment content know fault);
         due = ap (λ (a : Result (List Due) DueFault). Some (due_outcome a)) (sym answer);
         stood = same;
@@ -94,9 +97,17 @@ module _ (go_on : GoOn) (stay : Stay) (setting : Setting) (config : Config) (kno
 module _ (config : Config) (before after : Knowledge) (state stands : StandingState) (moment : ℤ) (content : LineFiles)
     (dues : List Due) (answer : due_answer state.last moment state.queries ≡ Ok dues)
     (stood : stands ≡ at_moment state moment) where
-  due_by : (ran : LineRan) (traces : List DueTrace) → ran.trace ≡ came.Ticked traces
-      → map (λ (one : DueTrace). one.due) traces ≡ dues
-      → IsDueBy config.schemas state (form.Standing (line.Tick moment)) ran.trace
-  due_by ran traces is all =
-      ap due_told is ∙ ap (λ (some : List Due). Some (Ok some)) all
-      ∙ ap (λ (a : Result (List Due) DueFault). Some (due_outcome a)) (sym answer)
+  due_did : (ran : LineRan) → TickRan config dues ran before after
+      → AloneDid config (form.Standing (line.Tick moment)) content ran before after state stands
+  due_did ran tick = record {
+    acted = tick_acted moment content dues ran tick;
+    due = ap due_told tick.trace_is ∙ ap (λ (some : List Due). Some (Ok some)) tick.all
+        ∙ ap (λ (a : Result (List Due) DueFault). Some (due_outcome a)) (sym answer);
+    stood = stood ∙ ap (stands_behind state (form.Standing (line.Tick moment))) (sym tick.trace_is);
+  }
+
+  pub due_answers : {E : Type 0} (result : Result LineRan E)
+      → IfOk result (λ ran. TickRan config dues ran before after)
+      → IfOk result (λ ran. AloneDid config (form.Standing (line.Tick moment)) content ran before after state stands)
+  due_answers (Ok ran) tick = due_did ran tick
+  due_answers (Err failed) tick = tt

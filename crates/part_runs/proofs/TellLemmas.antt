@@ -1,11 +1,9 @@
 -- What a part wrote and found, it tells: it ran behind whatever ran before, and prints the same by whatever is seen later.
 use Rattle.std.proofs.Common.{◌≡◌, ◌∙◌, ℕ, false, List, [], ◌∷◌, ◌++◌, length, map, refl, sym, subst, arith}
-use Rattle.std.specs.Prelude.{Err, IfOk, Ok, Result}
 use Rattle.std.specs.List.{AllByRecursion}
 use Rattle.history_book.specs.Histories.{book_entry_pass, entries}
 use Rattle.history_book.specs.declared.views.History.{History}
 use Rattle.know.specs.Knowledge.{Knowledge}
-use Rattle.line_runs.specs.LineWrites.{ran_line}
 use Rattle.line_runs.specs.declared.lines.LineRan.{LineRan}
 use Rattle.mon_config.specs.declared.config.Config.{Config}
 use Rattle.mon_schema.specs.Names.{SchemaLists}
@@ -22,7 +20,7 @@ use Rattle.run_theory.specs.Writings.{EachWrote}
 use Rattle.run_traces.specs.LineClaims.{AllRan, Finds, HasFound, HasWritten, HaveGrown, Makes}
 use Rattle.run_traces.specs.LineDues.{IsDueBy, asked_by, asked_part, is_ticked, stands_behind}
 use Rattle.run_traces.specs.LineTexts.{line_text}
-use Rattle.run_traces.specs.RanLines.{RanLine, ran_lines}
+use Rattle.run_traces.specs.RanLines.{OwnPlace, RanLine, ran_lines}
 use Rattle.run_traces.specs.declared.traces.LineTrace.{LineTrace}
 use Rattle.run_traces.specs.declared.traces.LineTrace.TheVariants as came
 use Rattle.run_traces.specs.declared.line_files.LineFiles.{LineFiles}
@@ -104,16 +102,18 @@ module _ (config : Config) (before after : Histories) where
 
 -- nor is any of those that ran beside each other
 pub beside_plain : (lines : List ScriptLine) (contents : List LineFiles) (rans : List LineRan)
-    → length contents ≡ length lines → length rans ≡ length lines
+    (places : List (List OwnPlace)) → length contents ≡ length lines → length rans ≡ length lines
     → AllByRecursion (λ (line : RanLine). is_ticked line.trace ≡ false)
-    (ran_lines lines contents (map (λ (ran : LineRan). ran.trace) rans))
+    (ran_lines lines contents (map (λ (ran : LineRan). ran.trace) rans) places)
     → AllByRecursion (λ (ran : LineRan). is_ticked ran.trace ≡ false) rans
-beside_plain [] contents [] few many plain = tt
-beside_plain [] contents (ran ∷ rans) few many plain = absurd cc
-beside_plain (line ∷ lines) [] rans few many plain = absurd cc
-beside_plain (line ∷ lines) (content ∷ contents) [] few many plain = tt
-beside_plain (line ∷ lines) (content ∷ contents) (ran ∷ rans) few many plain =
-    (plain.0, beside_plain lines contents rans (omega (arith, few)) (omega (arith, many)) plain.1)
+beside_plain [] contents [] places few many plain = tt
+beside_plain [] contents (ran ∷ rans) places few many plain = absurd cc
+beside_plain (line ∷ lines) [] rans places few many plain = absurd cc
+beside_plain (line ∷ lines) (content ∷ contents) [] places few many plain = tt
+beside_plain (line ∷ lines) (content ∷ contents) (ran ∷ rans) [] few many plain =
+    (plain.0, beside_plain lines contents rans [] (omega (arith, few)) (omega (arith, many)) plain.1)
+beside_plain (line ∷ lines) (content ∷ contents) (ran ∷ rans) (own ∷ places) few many plain =
+    (plain.0, beside_plain lines contents rans places (omega (arith, few)) (omega (arith, many)) plain.1)
 
 -- ---- parts
 
@@ -149,19 +149,3 @@ acting_due schemas state (form.Control control) trace acts plain = (plain, refl)
 acting_due schemas state (form.Standing line) trace acts plain = absurd cc
 acting_due schemas state (form.Block block.Together) trace acts plain = absurd cc
 acting_due schemas state (form.Block block.End) trace acts plain = absurd cc
-
--- ---- what calls answer
-
-module _ {E : Type 0} (config : Config) (what : LineForm) (content : LineFiles) (know known : Knowledge) where
-  pub answer_tells : GoOn → Stay → (answer : Result LineRan E)
-      → IfOk answer (λ ran. PartDid config (Alone (ran_line what content ran.trace)) (ran.text ∷ []) know known)
-      → IfOk answer (λ ran. PartTells config (Alone (ran_line what content ran.trace)) (ran.text ∷ []) know known)
-  answer_tells go_on stay (Ok ran) did = alone_tells go_on stay did
-  answer_tells go_on stay (Err e) did = tt
-
-  pub answer_plain : (answer : Result LineRan E)
-      → IfOk answer (λ ran. PartDid config (Alone (ran_line what content ran.trace)) (ran.text ∷ []) know known)
-      → IfOk answer (λ ran. is_ticked ran.trace ≡ false)
-  answer_plain (Ok ran) did = (part_plain config know.seen known.seen (Alone (ran_line what content ran.trace))
-      did.written).0
-  answer_plain (Err e) did = tt

@@ -12,7 +12,7 @@ use Rattle.mon_script.specs.declared.forms.LineForm.TheVariants as form
 use Rattle.mon_script.specs.declared.standing_lines.StandingLine.TheVariants as line
 use Rattle.mon_value.specs.declared.histories.Histories.{Histories}
 use Rattle.part_runs.proofs.GrownLemmas.{grown_none, grown_then}
-use Rattle.part_runs.specs.PartsDone.{PartTells}
+use Rattle.part_runs.specs.PartsDone.{ActedAlone, PartTells}
 use Rattle.part_runs.specs.Ticks.{DueAsked, DuesAsked, IsKept, TickRan, due_parts}
 use Rattle.run_theory.specs.Parts.{Alone, Part}
 use Rattle.run_traces.specs.LineAsks.{query_form}
@@ -44,10 +44,10 @@ text_by_end config later due (end.Refused fault) = refl
 
 -- a query's line is that of its time and text, and of what it came to
 pub as_due_line : (due : Due) (one : DueTrace) (trace : LineTrace) → one.due ≡ due → end_trace due.at one.end ≡ trace
-    → ran_line (query_form due.at due.text) no_files trace ≡ due_line one
+    → ran_line (query_form due.at due.text) no_files trace [] ≡ due_line one
 as_due_line due one trace same end_is =
-    ap (ran_line (query_form due.at due.text) no_files) (sym end_is)
-    ∙ ap (λ (d : Due). ran_line (query_form d.at d.text) no_files (end_trace d.at one.end)) (sym same)
+    ap (λ (came : LineTrace). ran_line (query_form due.at due.text) no_files came []) (sym end_is)
+    ∙ ap (λ (d : Due). ran_line (query_form d.at d.text) no_files (end_trace d.at one.end) []) (sym same)
 
 -- ---- queries one behind the other
 
@@ -104,7 +104,7 @@ module _ {config : Config} {before mid after : Knowledge} (due : Due) (dues more
 -- a query that was asked, and was kept behind others
 kept_asked : {config : Config} {before after : Knowledge} (due : Due) (ran : LineRan) (old new : List DueTrace)
     (text more : List ℕ) → IsKept due ran old new → more ≡ text ++ (due_heading due ++ ran.text)
-    → PartTells config (Alone (ran_line (query_form due.at due.text) no_files ran.trace)) (ran.text ∷ []) before after
+    → PartTells config (Alone (ran_line (query_form due.at due.text) no_files ran.trace [])) (ran.text ∷ []) before after
     → after.purse.stock ≡ before.purse.stock → DueAsked config due old new text more before after
 kept_asked {config} {before} {after} due ran old new text more kept printed tells stock = record {
   one = kept.one;
@@ -120,7 +120,7 @@ kept_asked {config} {before} {after} due ran old new text more kept printed tell
 pub kept_answers : {T E : Type 0} (config : Config) (before after : Knowledge) (due : Due) (ran : LineRan)
     (old new : List DueTrace) (text more : List ℕ) (result : Result T E) → OnOk result (IsKept due ran old new)
     → OnOk result (more ≡ text ++ (due_heading due ++ ran.text))
-    → PartTells config (Alone (ran_line (query_form due.at due.text) no_files ran.trace)) (ran.text ∷ []) before after
+    → PartTells config (Alone (ran_line (query_form due.at due.text) no_files ran.trace [])) (ran.text ∷ []) before after
     → after.purse.stock ≡ before.purse.stock → OnOk result (DueAsked config due old new text more before after)
 kept_answers config before after due ran old new text more (Ok value) kept printed tells stock =
     kept_asked due ran old new text more kept printed tells stock
@@ -128,15 +128,18 @@ kept_answers config before after due ran old new text more (Err fault) kept prin
 
 -- ---- ticks
 
-pub tick_tells : {config : Config} (moment : ℤ) (content : LineFiles) (dues : List Due) (ran : LineRan)
+pub tick_acted : {config : Config} (moment : ℤ) (content : LineFiles) (dues : List Due) (ran : LineRan)
     {before after : Knowledge} → TickRan config dues ran before after
-    → PartTells config (Alone (ran_line (form.Standing (line.Tick moment)) content ran.trace)) (ran.text ∷ []) before after
-tick_tells {config} moment content dues ran {before} {after} tick =
-    subst (λ (trace : LineTrace). PartTells config (Alone (ran_line (form.Standing (line.Tick moment)) content trace)) (ran.text ∷ [])
-    before after) (sym tick.trace_is)
-    (record {
-      grown = tick.asked.grown;
-      ran = tick.asked.ran;
-      prints = λ later grown. ap (λ (text : List ℕ). text ∷ []) (tick.asked.prints later grown);
-      every = tick.asked.every;
-    })
+    → ActedAlone config (form.Standing (line.Tick moment)) content ran before after
+tick_acted {config} moment content dues ran {before} {after} tick = record {
+  own = [];
+  tells = subst (λ (trace : LineTrace). PartTells config
+      (Alone (ran_line (form.Standing (line.Tick moment)) content trace [])) (ran.text ∷ []) before after)
+      (sym tick.trace_is)
+      (record {
+        grown = tick.asked.grown;
+        ran = tick.asked.ran;
+        prints = λ later grown. ap (λ (text : List ℕ). text ∷ []) (tick.asked.prints later grown);
+        every = tick.asked.every;
+      });
+}

@@ -3,7 +3,7 @@ use Rattle.std.specs.Prelude.{◌≡◌, ℕ, zero, suc, List, [], ◌∷◌, �
 use Rattle.std.specs.Prelude.{option_to_list}
 use Rattle.history_book.specs.Histories.{AreFronts}
 use Rattle.know.specs.Knowledge.{Knowledge, after_numbering, meeting, numbered_knowledge}
-use Rattle.line_runs.specs.LineWrites.{LineWrote, ran_line}
+use Rattle.line_runs.specs.LineWrites.{LineRanSo}
 use Rattle.line_runs.specs.declared.lines.LineRan.{LineRan}
 use Rattle.mon_config.specs.declared.config.Config.{Config}
 use Rattle.mon_store.specs.Passes.{IsPass}
@@ -37,8 +37,7 @@ module _ (setting : Setting) (config : Config) where
   -- a line of a block has run
   pub record HasRun (what : LineForm) (content : LineFiles) (before after : Way) : Type 0 where
     pub began : IsPass setting before.know
-    pub wrote : IfSome after.done (λ ran. LineWrote config (ran_line what content ran.trace) ran.text before.know
-        after.know)
+    pub wrote : IfSome after.done (λ ran. LineRanSo config what content ran before.know after.know)
     pub fronts : AreFronts before.know.seen after.know.seen
     pub ended : IsPass setting after.know
     pub held : AreHeld setting.held setting.zones setting.points after.know.seen

@@ -1,5 +1,5 @@
 -- What a part of a script did, by what the script's caller knew before it and knows behind it.
-use Rattle.std.specs.Prelude.{◌≡◌, ◌≤◌, ◌+◌, ◌*◌, ◌^◌, ℕ, List, [], ◌∷◌, ◌++◌, map}
+use Rattle.std.specs.Prelude.{◌≡◌, ◌≤◌, ◌+◌, ◌*◌, ◌^◌, ℕ, List, [], ◌∷◌, ◌++◌, length, map}
 use Rattle.history_book.specs.Seats.{HasEveryNumber}
 use Rattle.know.specs.Knowledge.{Knowledge}
 use Rattle.line_runs.specs.LineWrites.{ran_line}
@@ -10,11 +10,11 @@ use Rattle.mon_script.specs.declared.forms.LineForm.{LineForm}
 use Rattle.mon_script.specs.declared.places.Mark.TheVariants as mark
 use Rattle.mon_script.specs.declared.script.ScriptLine.{ScriptLine}
 use Rattle.mon_value.specs.declared.histories.Histories.{Histories}
-use Rattle.run_theory.specs.Parts.{Alone, Part, lines_of}
+use Rattle.run_theory.specs.Parts.{Alone, Beside, Part, lines_of}
 use Rattle.run_traces.specs.LineClaims.{AllRan, HasWritten, HaveGrown}
 use Rattle.run_traces.specs.LineDues.{IsDueBy, asked_part, stands_behind}
 use Rattle.run_traces.specs.LineTexts.{line_text}
-use Rattle.run_traces.specs.RanLines.{RanLine}
+use Rattle.run_traces.specs.RanLines.{OwnPlace, RanLine, ran_lines}
 use Rattle.run_traces.specs.declared.line_files.LineFiles.{LineFiles}
 use Rattle.standing.specs.DueLists.{StandingState}
 
@@ -44,9 +44,24 @@ pub record PartTells (config : Config) (part : Part RanLine) (texts : List (List
   pub prints : (later : Histories) → HaveGrown after.seen later → map (line_text config later) (lines_of part) ≡ texts
   pub every : HasEveryNumber after.purse
 
+-- A line alone did so, with the places of its own entries
+pub record ActedAlone (config : Config) (what : LineForm) (content : LineFiles) (ran : LineRan)
+    (before after : Knowledge) : Type 0 where
+  pub own : List OwnPlace
+  pub tells : PartTells config (Alone (ran_line what content ran.trace own)) (ran.text ∷ []) before after
+
+-- The lines of a block did, each with the places of its own entries
+pub record ActedBeside (config : Config) (lines : List ScriptLine) (contents : List LineFiles) (rans : List LineRan)
+    (before after : Knowledge) : Type 0 where
+  pub places : List (List OwnPlace)
+  pub count : length places ≡ length lines
+  pub tells : PartTells config
+      (Beside (ran_lines lines contents (map (λ (ran : LineRan). ran.trace) rans) places))
+      (map (λ (ran : LineRan). ran.text) rans) before after
+
 -- A line alone did so, and did with the queries that stand what is to be done with them
 pub record AloneDid (config : Config) (what : LineForm) (content : LineFiles) (ran : LineRan) (before after : Knowledge)
     (state stands : StandingState) : Type 0 where
-  pub tells : PartTells config (Alone (ran_line what content ran.trace)) (ran.text ∷ []) before after
+  pub acted : ActedAlone config what content ran before after
   pub due : IsDueBy config.schemas state what ran.trace
   pub stood : stands ≡ stands_behind state what ran.trace

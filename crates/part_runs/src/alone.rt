@@ -1,15 +1,13 @@
 // A line alone.
-ghost use Rattle.std.specs.Prelude.{◌≡◌, ◌≤ℤ◌, pos, ◌∷◌, [], false, true, IfOk, OnOk};
+ghost use Rattle.std.specs.Prelude.{◌≡◌, ◌≤ℤ◌, pos, false, true, IfOk, OnOk};
 ghost use Rattle.history_book.specs.Histories.{AreFronts};
 ghost use Rattle.history_book.specs.Seats.{HasEveryNumber};
-ghost use Rattle.line_runs.specs.LineWrites.{ran_line};
 ghost use Rattle.mon_script.specs.Follows.{AreLawfulMoments};
 ghost use Rattle.mon_script.specs.Lawful.{IsLawfulForm};
 ghost use Rattle.mon_script.specs.StandingLines.{IsLawfulStanding};
 ghost use Rattle.mon_script.specs.Blocks.{mark_of};
 ghost use Rattle.mon_script.specs.declared.places.Mark.TheVariants.{Acts, Lone};
-ghost use Rattle.part_runs.specs.PartsDone.{AloneDid, PartTells};
-ghost use Rattle.run_theory.specs.Parts.{Alone};
+ghost use Rattle.part_runs.specs.PartsDone.{ActedAlone, AloneDid};
 ghost use Rattle.run_traces.specs.LineDues.{is_ticked};
 ghost use Rattle.run_traces.specs.RanLines.{acts_by};
 
@@ -63,8 +61,7 @@ fn acting<N: Names, R: Threads + Wait + Sync>(
     requires lawful { IsLawfulForm store.now.topology what.now }
     requires acts { mark_of what.now ≡ Acts }
     requires every { HasEveryNumber p.old.purse }
-    ensures ran { IfOk result (λ ran. PartTells store.now (Alone (ran_line what.now content.now ran.trace))
-        (ran.text ∷ []) p.old p.new) }
+    ensures ran { IfOk result (λ ran. ActedAlone store.now what.now content.now ran p.old p.new) }
     ensures plain { IfOk result (λ ran. is_ticked ran.trace ≡ false) }
     ensures stock { OnOk result (p.new.purse.stock ≡ p.old.purse.stock) }
     ensures fronts { AreFronts p.old.seen p.new.seen }
@@ -120,8 +117,8 @@ fn following<N: Names, R: Wait>(
 ) -> Result<LineRan, OutOfMemory>
     requires moments { AreLawfulMoments moments }
     requires every { HasEveryNumber p.old.purse }
-    ensures ran { IfOk result (λ ran. PartTells store.now
-        (Alone (ran_line (LineForm.Follow moments text.now) content.now ran.trace)) (ran.text ∷ []) p.old p.new) }
+    ensures ran { IfOk result (λ ran. ActedAlone store.now (LineForm.Follow moments text.now) content.now ran
+        p.old p.new) }
     ensures plain { IfOk result (λ ran. is_ticked ran.trace ≡ false) }
     ensures stock { OnOk result (p.new.purse.stock ≡ p.old.purse.stock) }
     ensures fronts { AreFronts p.old.seen p.new.seen }

@@ -1,13 +1,11 @@
 // The lines of a block.
-ghost use Rattle.std.specs.Prelude.{◌≡◌, false, ◌≤◌, ◌+◌, ℕ, [], length, map, vec_capacity, IfOk, OnOk};
+ghost use Rattle.std.specs.Prelude.{◌≡◌, false, ◌≤◌, ◌+◌, ℕ, [], length, vec_capacity, IfOk, OnOk};
 ghost use Rattle.std.specs.List.{AllByRecursion};
 ghost use Rattle.history_book.specs.Histories.{AreFronts};
 ghost use Rattle.history_book.specs.Seats.{HasEveryNumber};
 ghost use Rattle.line_runs.specs.declared.lines.LineRan.{LineRan as Ran};
 ghost use Rattle.part_runs.specs.Courses.{BlockRan};
-ghost use Rattle.part_runs.specs.PartsDone.{ActsThere, CanSplit, PartTells};
-ghost use Rattle.run_traces.specs.RanLines.{ran_lines};
-ghost use Rattle.run_theory.specs.Parts.{Beside};
+ghost use Rattle.part_runs.specs.PartsDone.{ActedBeside, ActsThere, CanSplit};
 ghost use Rattle.run_traces.specs.LineDues.{is_ticked};
 ghost use Rattle.mon_script.specs.Lawful.{IsLawfulLine};
 
@@ -43,9 +41,7 @@ pub fn run_beside<N: Names + Send + Sync, R: Threads + Wait + Sync, G: Gate + Sy
     requires contents { length contents.now ≡ length lines.now }
     requires every { HasEveryNumber p.old.purse }
     requires stock { CanSplit (length lines.now) p.old }
-    ensures ran { IfOk result (λ rans. PartTells store.now
-        (Beside (ran_lines lines.now contents.now (map (λ (ran : Ran). ran.trace) rans)))
-        (map (λ (ran : Ran). ran.text) rans) p.old p.new) }
+    ensures ran { IfOk result (λ rans. ActedBeside store.now lines.now contents.now rans p.old p.new) }
     ensures plain { IfOk result (AllByRecursion (λ (ran : Ran). is_ticked ran.trace ≡ false)) }
     ensures each { IfOk result (λ rans. length rans ≡ length lines.now) }
     ensures stock { OnOk result ((n : ℕ) → CanSplit (length lines.now + n) p.old → CanSplit n p.new) }

@@ -138,7 +138,7 @@ fn query_due<N: Names, R: Wait>(
     requires moment { HasMoment due.now }
     requires every { HasEveryNumber p.old.purse }
     ensures tells { IfOk result (λ ran. PartTells store.now
-        (Alone (ran_line (query_form due.now.at due.now.text) no_files ran.trace)) (ran.text ∷ []) p.old p.new) }
+        (Alone (ran_line (query_form due.now.at due.now.text) no_files ran.trace [])) (ran.text ∷ []) p.old p.new) }
     ensures answered { IfOk result (λ ran. IsAnswered due.now.at ran.trace) }
     ensures stock { OnOk result (p.new.purse.stock ≡ p.old.purse.stock) }
     ensures fronts { AreFronts p.old.seen p.new.seen }

@@ -1,7 +1,8 @@
--- How a write's machine ends once all replicas are decided, and what the range's lock tells a row.
+-- How a write's machine ends once all replicas are decided, what the range's lock tells a row, and how writes and trims
+-- end.
 use Rattle.std.proofs.Common.{◌≡◌, ℕ, Bool, true, false, List, refl}
 use Rattle.std.proofs.Common.{ap, subst, ◌∙◌, cond, None, Some}
-use Rattle.std.specs.Prelude.{Option, Result, Ok, Err}
+use Rattle.std.specs.Prelude.{ℤ, Option, Result, Ok, Err}
 use Rattle.std.specs.List.{flat_map}
 use Rattle.mon_value.proofs.SourceMoreLemmas.{source_more}
 use Rattle.mon_topo.specs.RangeHistories.{IsLegal, acknowledged_rows, serving}
@@ -10,11 +11,14 @@ use Rattle.mon_value.specs.declared.histories.Ack.{Ack}
 use Rattle.mon_value.specs.declared.histories.RangeEntry.{RangeEntry}
 use Rattle.mon_value.specs.declared.positions.FoundDown.{FoundDown}
 use Rattle.mon_value.specs.declared.positions.Range.{Range}
-use Rattle.mon_value.specs.Turns.{Adds}
+use Rattle.mon_value.specs.Turns.{Adds, Hides}
 use Rattle.mon_value.specs.declared.rows.Row.{Row}
 use Rattle.know.specs.Knowledge.{Knowledge}
 use Rattle.range_cell.specs.Calls.{HasBegun}
-use Rattle.range_cell.specs.Writes.{Behind, HasEnded, HasTriedTo, HasWritten}
+use Rattle.range_cell.specs.Trims as trims
+use Rattle.range_cell.specs.Writes.{Behind, HasEnded, HasTriedTo, HasTurned, HasWritten}
+use Rattle.range_cell.specs.declared.answers.TrimFault.{TrimFault}
+use Rattle.range_cell.specs.declared.answers.TrimFault.TheVariants as trim_fault
 use Rattle.range_cell.specs.declared.answers.WriteFault.{WriteFault}
 use Rattle.range_cell.specs.declared.answers.WriteFault.TheVariants as fault
 use Rattle.write_core.proofs.LockLemmas.{lock_told}
@@ -131,3 +135,18 @@ module _ (leaves : ℕ) (range : Range) (row : Row) (limit pass : ℕ) (before a
   ended_written (Err (fault.RangeFull count)) ended = absurd ended
   ended_written (Err (fault.Unavailable at founds)) ended = tried (Err (fault.Unavailable at founds)) ended
   ended_written (Err fault.OutOfMemory) ended = Behind (tried (Err fault.OutOfMemory) ended)
+
+-- ---- what a trim gives
+
+module _ (leaves : ℕ) (range : Range) (bound : ℤ) (pass : ℕ) (before after : Knowledge) (history : List RangeEntry)
+    (begun : Knowledge) (begins : HasBegun leaves range history before begun) where
+  held_to : (result : Result Ack TrimFault) → HasTurned leaves range (Hides bound) history pass begun after result
+      → trims.HasTriedTo leaves range bound pass before after result
+  held_to result ended = record { history = history; begun = begun; begins = begins; ends = ended }
+
+  pub turned_trimmed : (result : Result Ack TrimFault)
+      → HasTurned leaves range (Hides bound) history pass begun after result
+      → trims.HasTrimmed leaves range bound pass before after result
+  turned_trimmed (Ok ack) ended = held_to (Ok ack) ended
+  turned_trimmed (Err (trim_fault.Unavailable at founds)) ended = held_to (Err (trim_fault.Unavailable at founds)) ended
+  turned_trimmed (Err trim_fault.OutOfMemory) ended = trims.Behind (held_to (Err trim_fault.OutOfMemory) ended)

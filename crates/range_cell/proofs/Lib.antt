@@ -11,6 +11,7 @@ pub mod NoRoomLemmas
 pub mod MayCallLemmas
 pub mod ThroughLemmas
 pub mod NeededRowLemmas
+pub mod DeedLemmas
 pub mod BehindLockLemmas
 pub mod RoomBackLemmas
 pub mod RestLemmas
@@ -23,3 +24,4 @@ pub mod FirstReplicaLemmas
 pub mod LookingLemmas
 pub mod ReplicaLemmas
 pub mod HoldingLemmas
+pub mod RetiringLemmas

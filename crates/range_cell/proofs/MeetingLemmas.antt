@@ -16,11 +16,11 @@ use Rattle.know.specs.Knowledge.{Knowledge}
 use Rattle.know.specs.Lending.{back_with, lent_seat, without_purse}
 use Rattle.know.specs.Sound.{IsSound}
 use Rattle.mon_topo.proofs.HeldLemmas.{range_same}
-use Rattle.mon_topo.specs.HeldHistories.{AreHeld}
-use Rattle.mon_topo.specs.RangeHistories.{opened_slots, turns_since}
+use Rattle.mon_topo.specs.HeldHistories.{AreHeld, with_range_entry}
+use Rattle.mon_topo.specs.RangeHistories.{IsLegal, opened_slots, turns_since}
 use Rattle.mon_topo.specs.Settings.{Setting}
 use Rattle.mon_topo.specs.Zones.{ranges_in}
-use Rattle.mon_value.specs.Histories.{joined_histories, leaf_history, range_history}
+use Rattle.mon_value.specs.Histories.{joined_histories, leaf_history, range_history, range_numbered}
 use Rattle.mon_value.specs.declared.histories.Histories.{Histories}
 use Rattle.mon_value.specs.declared.histories.RangeEntry.{RangeEntry}
 use Rattle.mon_value.specs.declared.positions.Leaf.{Leaf}
@@ -131,6 +131,93 @@ module _ (leaves : ℕ) (know : Knowledge) (owner now : RangeView) (own : owner.
     pub whole_so : range_history gone.seen owner.range ≡ range_history owner.book.seen owner.range
     whole_so = ap (λ (s : Histories). range_history s owner.range) seen_so ∙ came.whole
 
+  -- ---- with an entry
+
+  module _ (replay : Replay) (is : range_history owner.book.seen owner.range ≡ replay.history) (e : RangeEntry) where
+    abbrev grown : Histories
+    grown = with_book_entry (of.Range owner.range) (one.Range e) joined
+
+    abbrev entered_owner : RangeView → RangeView
+    entered_owner o =
+        record { range = o.range; hints = o.hints; book = after_append (one.Range e) o.book }
+
+    grown_is : with_book_entry owner.book.history (one.Range e) joined ≡ grown
+    grown_is = ap (λ h. with_book_entry h (one.Range e) joined) own
+
+    pushed : range_history grown owner.range ≡ replay.history ++ e ∷ []
+    pushed = range_pushed owner.range e joined ∙ ap (λ h. h ++ e ∷ []) (came.whole ∙ is)
+
+    front_by : (other : Range) → IsPrefix (range_history know.seen other) (range_history grown other)
+    front_by other = elim (cases_eq other.0 owner.range.0) [
+      | inl same ↦
+          subst (λ (r : Range). IsPrefix (range_history know.seen r) (range_history grown r))
+          (sym (range_same other owner.range same))
+          (subst (IsPrefix (range_history know.seen owner.range)) (sym (range_pushed owner.range e joined))
+          (prefix_push (range_history know.seen owner.range) (range_history joined owner.range) e
+          (came.fronts.1 owner.range)))
+      | inr apart ↦
+          subst (IsPrefix (range_history know.seen other))
+          (sym (added_else owner.range.0 other.0 e joined.ranges apart)) (came.fronts.1 other)
+    ]
+
+    -- the range is at rest then, where it is held and its replicas have just what is acknowledged with the entry
+    pub rests_with : owner.range ≡ range_numbered owner.range.0
+        → 0 < times_range owner.range (held_after false owner.book.history owner.book.held know.purse.holds)
+        → others owner.range (held_after false owner.book.history owner.book.held know.purse.holds) ≡ []
+        → HaveJust joined owner.range (replay.history ++ e ∷ []) → (grows : Replay)
+        → grows.history ≡ replay.history ++ e ∷ [] → (back : RangeView)
+        → back ≡ parted_owner false (entered_owner now) → IsRangeAtRest owner.range.0 grows back
+    rests_with range_is holds only just grows more back gone =
+        subst (IsRangeAtRest owner.range.0 grows)
+        (sym (gone ∙ ap (λ o. parted_owner false (entered_owner o)) now_is))
+        (record {
+          range_is = range_is;
+          own = own;
+          free = refl;
+          holds = holds;
+          only = only;
+          history = ap (λ (s : Histories). range_history s owner.range) grown_is ∙ pushed ∙ sym more;
+          turns = subst (λ (h : List RangeEntry).
+              HaveJust (with_book_entry owner.book.history (one.Range e) joined) owner.range h) (sym more)
+              (subst (λ (s : Histories). HaveJust s owner.range (replay.history ++ e ∷ [])) (sym grown_is) grown_just);
+        })
+      where
+        grown_just : HaveJust grown owner.range (replay.history ++ e ∷ [])
+        grown_just = record {
+          turns = λ replica there.
+              let has = just.turns replica there in
+              record { opened = has.opened; all = has.all };
+          fresh = just.fresh;
+        }
+
+    entered_with : (hints : Hints) → hints.notes ≡ []
+        → HasEntered leaves owner.range replay.history e know
+        (back_with hints (guest_seat move.Keep false (after_append (one.Range e) visited)) (without_purse know))
+    entered_with hints quiet = record {
+      fronts = subst (AreFronts know.seen) (sym grown_is) (came.fronts.0, front_by);
+      whole = ap (λ (s : Histories). range_history s owner.range) grown_is ∙ pushed;
+      notes = ap (λ k. know.purse.notes ++ length_note (leaves + owner.range.0) k ∷ []) (ap length is);
+      own = ap (λ h. option_map (kept_with h (one.Range e)) know.purse.own) own;
+      met = refl;
+      stock = refl;
+      lost = refl;
+      rooms = refl;
+      holding = ap (λ h. holds_after false h owner.book.held know.purse.holds) own;
+      hint_notes = ap (λ xs. know.hints.notes ++ xs) quiet ∙ append-nil know.hints.notes;
+      knows = (meet_knows_both know.hints hints (met know.hints hints) refl).0;
+      handed = refl;
+    }
+
+    pub has_entered : (hints : Hints) (book : Owner) (alone gone : Knowledge)
+        → book ≡ after_append (one.Range e) now.book → alone ≡ without_purse know
+        → gone ≡ back_with (without_notes hints) (guest_seat move.Keep false book) alone
+        → HasEntered leaves owner.range replay.history e know gone
+    has_entered hints book alone gone book_is left back =
+        subst (HasEntered leaves owner.range replay.history e know)
+        (sym (back ∙ (λ i. back_with (without_notes hints)
+        (guest_seat move.Keep false ((book_is ∙ ap (after_append (one.Range e)) came.book) i)) (left i))))
+        (entered_with (without_notes hints) refl)
+
   -- what the replicas have, as the owner knew it
   module _ (replay : Replay) (rest : IsRangeAtRest owner.range.0 replay owner) where
     pub turns_kept : HaveJust joined owner.range replay.history
@@ -205,6 +292,17 @@ module _ (leaves : ℕ) (know : Knowledge) (owner now : RangeView) (own : owner.
         rests back (went ∙ ap (λ b. parted_owner b now) went_without),
       )
 
+    -- it went, and an entry came that asks nothing of leaves
+    pub rests_so : (e : RangeEntry) → HaveJust joined owner.range (replay.history ++ e ∷ []) → (grows : Replay)
+        → grows.history ≡ replay.history ++ e ∷ [] → (back : RangeView)
+        → back ≡ parted_owner false (entered_owner replay rest.history e now) → IsRangeAtRest owner.range.0 grows back
+    rests_so e just grows more back is =
+        rests_with replay rest.history e rest.range_is
+        (more_held owner.range owner.book.held (filter (is_own_range owner.book.history) know.purse.holds) rest.holds)
+        (ap (λ h. others owner.range (owner.book.held ++ filter (is_own_range h) know.purse.holds)) own
+        ∙ others_rest owner.range owner.book.held know.purse.holds rest.only)
+        just grows more back is
+
   -- ---- the range comes back
 
   module _ (replay : Replay) (held : IsRangeHeld owner.range.0 replay owner)
@@ -246,99 +344,23 @@ module _ (leaves : ℕ) (know : Knowledge) (owner now : RangeView) (own : owner.
           turns = turns_brought replay.history just;
         })
 
-    -- ---- with an entry
-
-    module _ (e : RangeEntry) where
-      abbrev grown : Histories
-      grown = with_book_entry (of.Range owner.range) (one.Range e) joined
-
-      abbrev entered_owner : RangeView → RangeView
-      entered_owner o =
-          record { range = o.range; hints = o.hints; book = after_append (one.Range e) o.book }
-
-      grown_is : with_book_entry owner.book.history (one.Range e) joined ≡ grown
-      grown_is = ap (λ h. with_book_entry h (one.Range e) joined) own
-
-      pushed : range_history grown owner.range ≡ replay.history ++ e ∷ []
-      pushed = range_pushed owner.range e joined ∙ ap (λ h. h ++ e ∷ []) (came.whole ∙ held.history)
-
-      front_by : (other : Range) → IsPrefix (range_history know.seen other) (range_history grown other)
-      front_by other = elim (cases_eq other.0 owner.range.0) [
-        | inl same ↦
-            subst (λ (r : Range). IsPrefix (range_history know.seen r) (range_history grown r))
-            (sym (range_same other owner.range same))
-            (subst (IsPrefix (range_history know.seen owner.range)) (sym (range_pushed owner.range e joined))
-            (prefix_push (range_history know.seen owner.range) (range_history joined owner.range) e
-            (came.fronts.1 owner.range)))
-        | inr apart ↦
-            subst (IsPrefix (range_history know.seen other))
-            (sym (added_else owner.range.0 other.0 e joined.ranges apart)) (came.fronts.1 other)
-      ]
-
-      pub rests_entered : (grows : Replay) → grows.history ≡ replay.history ++ e ∷ []
-          → HaveJust know.seen owner.range (replay.history ++ e ∷ []) → (back : RangeView)
-          → back ≡ parted_owner false (entered_owner now) → IsRangeAtRest owner.range.0 grows back
-      rests_entered grows more just back is =
-          subst (IsRangeAtRest owner.range.0 grows)
-          (sym (is ∙ ap (λ o. parted_owner false (entered_owner o)) now_is))
-          (record {
-            range_is = held.range_is;
-            own = held.own;
-            free = refl;
-            holds = holds_then;
-            only = only_then;
-            history = ap (λ (s : Histories). range_history s owner.range) grown_is ∙ pushed ∙ sym more;
-            turns = subst (λ (h : List RangeEntry).
-                HaveJust (with_book_entry owner.book.history (one.Range e) joined) owner.range h) (sym more)
-                (subst (λ (s : Histories). HaveJust s owner.range (replay.history ++ e ∷ [])) (sym grown_is)
-                (turns_grown (replay.history ++ e ∷ []) just));
-          })
-        where
-          turns_grown : (history : List RangeEntry) → HaveJust know.seen owner.range history
-              → HaveJust grown owner.range history
-          turns_grown history has =
-              let was = turns_brought history has in
-              record {
-                turns = λ replica there.
-                    let one = was.turns replica there in
-                    record { opened = one.opened; all = one.all };
-                fresh = was.fresh;
-              }
-
-      entered_with : (hints : Hints) → hints.notes ≡ []
-          → HasEntered leaves owner.range replay.history e know
-          (back_with hints (guest_seat move.Keep false (after_append (one.Range e) visited)) (without_purse know))
-      entered_with hints quiet = record {
-        fronts = subst (AreFronts know.seen) (sym grown_is) (came.fronts.0, front_by);
-        whole = ap (λ (s : Histories). range_history s owner.range) grown_is ∙ pushed;
-        notes = ap (λ k. know.purse.notes ++ length_note (leaves + owner.range.0) k ∷ []) (ap length held.history);
-        own = ap (λ h. option_map (kept_with h (one.Range e)) know.purse.own) own;
-        met = refl;
-        stock = refl;
-        lost = refl;
-        rooms = refl;
-        holding = ap (λ h. holds_after false h owner.book.held know.purse.holds) own;
-        hint_notes = ap (λ xs. know.hints.notes ++ xs) quiet ∙ append-nil know.hints.notes;
-        knows = (meet_knows_both know.hints hints (met know.hints hints) refl).0;
-        handed = refl;
-      }
-
-      pub has_entered : (hints : Hints) (book : Owner) (alone gone : Knowledge)
-          → book ≡ after_append (one.Range e) now.book → alone ≡ without_purse know
-          → gone ≡ back_with (without_notes hints) (guest_seat move.Keep false book) alone
-          → HasEntered leaves owner.range replay.history e know gone
-      has_entered hints book alone gone book_is left back =
-          subst (HasEntered leaves owner.range replay.history e know)
-          (sym (back ∙ (λ i. back_with (without_notes hints)
-          (guest_seat move.Keep false ((book_is ∙ ap (after_append (one.Range e)) came.book) i)) (left i))))
-          (entered_with (without_notes hints) refl)
+    -- with an entry
+    pub rests_entered : (e : RangeEntry) (grows : Replay) → grows.history ≡ replay.history ++ e ∷ []
+        → HaveJust know.seen owner.range (replay.history ++ e ∷ []) → (back : RangeView)
+        → back ≡ parted_owner false (entered_owner replay held.history e now) → IsRangeAtRest owner.range.0 grows back
+    rests_entered e grows more just back is =
+        rests_with replay held.history e held.range_is holds_then only_then
+        (turns_brought (replay.history ++ e ∷ []) just) grows more back is
 
   -- what the owner has seen then stays sound with an entry that may come
-  pub sound_entered : (setting : Setting) (history : List RangeEntry) (e : RangeEntry)
-      → MayEnter setting owner.range history e know → range_history owner.book.seen owner.range ≡ history
+  pub sound_with : (setting : Setting) (history : List RangeEntry) (e : RangeEntry)
+      → ((seen : Histories) → AreFronts know.seen seen → range_history seen owner.range ≡ history
+      → owner.range.0 < length seen.ranges → AreHeld setting.held setting.zones setting.points seen
+      → AreHeld setting.held setting.zones setting.points (with_range_entry owner.range e seen))
+      → range_history owner.book.seen owner.range ≡ history
       → IsSound setting now.hints now.book.seen → IsOfRange setting now.range now.book
       → IsSound setting now.hints (with_book_entry (of.Range now.range) (one.Range e) now.book.seen)
-  sound_entered setting history e may is sound of_range =
+  sound_with setting history e may is sound of_range =
       let seen = now.book.seen in
       let seen_is : seen ≡ joined = ap (λ (o : Owner). o.seen) came.book in
       let here : owner.range.0 < length seen.ranges =
@@ -348,10 +370,29 @@ module _ (leaves : ℕ) (know : Knowledge) (owner now : RangeView) (own : owner.
       (record {
         held = subst (AreHeld setting.held setting.zones setting.points)
             (sym (same_range_entry owner.range e seen here))
-            (may.held seen (subst (AreFronts know.seen) (sym seen_is) came.fronts)
+            (may seen (subst (AreFronts know.seen) (sym seen_is) came.fronts)
             (ap (λ (s : Histories). range_history s owner.range) seen_is ∙ came.whole ∙ is) here sound.held);
         covered = sound.covered;
       })
+
+  -- all of the range's own history is seen, which is legal
+  pub legal_then : (setting : Setting) (history : List RangeEntry) → range_history owner.book.seen owner.range ≡ history
+      → IsSound setting now.hints now.book.seen → IsOfRange setting now.range now.book
+      → IsLegal setting.held setting.zones setting.points owner.range history
+  legal_then setting history is sound of_range =
+      let seen = now.book.seen in
+      let here : now.range.0 < length seen.ranges =
+      subst (λ (n : ℕ). now.range.0 < n) (sym sound.held.all_ranges) of_range.here in
+      subst (λ (r : Range). IsLegal setting.held setting.zones setting.points r history) came.range
+      (subst (IsLegal setting.held setting.zones setting.points now.range)
+      ((λ i. range_history (came.book i).seen (came.range i)) ∙ came.whole ∙ is) (sound.held.legal now.range here))
+
+  -- by what its holder knows
+  pub sound_entered : (setting : Setting) (history : List RangeEntry) (e : RangeEntry)
+      → MayEnter setting owner.range history e know → range_history owner.book.seen owner.range ≡ history
+      → IsSound setting now.hints now.book.seen → IsOfRange setting now.range now.book
+      → IsSound setting now.hints (with_book_entry (of.Range now.range) (one.Range e) now.book.seen)
+  sound_entered setting history e may is sound of_range = sound_with setting history e may.held is sound of_range
 
 -- ---- the answer at the lock
 

@@ -1,9 +1,13 @@
--- What the entry of a turn brings to the replicas of its range.
+-- What the entries of a turn bring to the replicas of its range, and their pass.
 use Rattle.std.proofs.Common.{◌≡◌, ℕ, false, [], ◌∷◌, ◌++◌, refl, ap, ◌∙◌, cond, nat_eq, eq-eqb}
 use Rattle.std.specs.Prelude.{◌&&◌}
+use Rattle.history_book.specs.declared.views.BookEntry.TheVariants as one
+use Rattle.history_book.specs.Histories.{book_entry_pass}
+use Rattle.mon_topo.specs.RangeHistories.{turn_ack}
 use Rattle.mon_value.proofs.LeafHistoryLemmas.{same_replica-itself}
 use Rattle.mon_value.specs.LeafHistories.{is_opened, replica_rows, replica_turns, same_replica, turn_entry}
 use Rattle.mon_value.specs.Turns.{Turn, Adds, Hides, added_rows}
+use Rattle.mon_value.specs.declared.histories.Ack.{Ack}
 use Rattle.mon_value.specs.declared.positions.Range.{Range}
 use Rattle.mon_value.specs.declared.positions.Slot.{Slot}
 use Rattle.range_cell.proofs.CallLemmas.{BringNothing}
@@ -34,3 +38,8 @@ module _ (pass : ℕ) (range : Range) (place : Slot) where
   pub opens_none : (turn : Turn) (slot : Slot) → is_opened range slot (turn_entry pass range place turn ∷ []) ≡ false
   opens_none (Adds row) slot = refl
   opens_none (Hides bound) slot = refl
+
+-- it is acknowledged under the number of its pass
+pub ack_pass : (pass : ℕ) (turn : Turn) (ack : Ack) → book_entry_pass (one.Range (turn_ack pass turn ack)) ≡ pass
+ack_pass pass (Adds row) ack = refl
+ack_pass pass (Hides bound) ack = refl

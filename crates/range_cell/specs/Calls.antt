@@ -9,7 +9,7 @@ use Rattle.history_book.specs.Seats.{with_guest}
 use Rattle.know.specs.Knowledge.{Knowledge}
 use Rattle.know.specs.Lending.{lent_seat}
 use Rattle.mon_topo.specs.HeldHistories.{AreHeld, with_range_entry}
-use Rattle.mon_topo.specs.RangeHistories.{first_serving}
+use Rattle.mon_topo.specs.RangeHistories.{first_serving, serving}
 use Rattle.mon_topo.specs.Settings.{Setting}
 use Rattle.mon_value.specs.Histories.{joined_histories, leaf_history, range_history}
 use Rattle.mon_value.specs.declared.histories.Histories.{Histories}
@@ -78,6 +78,11 @@ pub record HasResolved (leaves : ℕ) (range : Range) (avoid : List Leaf) (told 
     (before after : Knowledge) : Type 0 where
   pub met : HasMetRange leaves range before.purse.holds before after
   pub first : first_serving avoid (range_history after.seen range) ≡ told
+
+-- it was told the replicas that serve then
+pub record HasListed (leaves : ℕ) (range : Range) (told : List SlotLeaf) (before after : Knowledge) : Type 0 where
+  pub met : HasMetRange leaves range before.purse.holds before after
+  pub serve : serving (range_history after.seen range) ≡ told
 
 -- it holds the range, and knows of the replicas that serve which turns came to them, and of no other that was opened
 pub record HasBegun (leaves : ℕ) (range : Range) (history : List RangeEntry) (before after : Knowledge) : Type 0 where

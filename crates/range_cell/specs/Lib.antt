@@ -3,9 +3,12 @@ pub mod Writing
 pub mod Turns
 pub mod Stages
 pub mod Copies
+pub mod Deeds
 pub mod Copying
 pub mod Recoveries
 pub mod Rest
 pub mod Calls
 pub mod Writes
+pub mod Trims
+pub mod Retirements
 pub mod NewRanges

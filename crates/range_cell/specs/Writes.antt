@@ -12,6 +12,8 @@ use Rattle.mon_value.specs.declared.rows.Row.{Row}
 use Rattle.mon_value.specs.Turns.{Turn, Adds}
 use Rattle.range_cell.specs.Calls.{HasBegun, HasEntered, HasGivenBack, HasMetRange}
 use Rattle.range_cell.specs.Stages.{IsThrough, IsWithdrawing}
+use Rattle.range_cell.specs.declared.answers.TrimFault.{TrimFault}
+use Rattle.range_cell.specs.declared.answers.TrimFault.TheVariants as trim_fault
 use Rattle.range_cell.specs.declared.answers.WriteFault.{WriteFault}
 use Rattle.range_cell.specs.declared.answers.WriteFault.TheVariants as fault
 use Rattle.write_core.specs.Marks.{ack_of, found_in_mark, some_took}
@@ -46,6 +48,15 @@ module _ (leaves : ℕ) (range : Range) (turn : Turn) (history : List RangeEntry
     pub withdrawn : IsWithdrawing range pass begun (serving history) mid []
     pub back : HasGivenBack leaves range history mid after
 
+  abbrev pub HasNotCome : TrimFault → Type 0
+  HasNotCome (trim_fault.Unavailable at founds) = (at ≡ range) × HasFoundNone founds
+  HasNotCome trim_fault.OutOfMemory = HasGivenUp
+
+  -- how a turn ended, be it a row or a bound
+  abbrev pub HasTurned : Result Ack TrimFault → Type 0
+  HasTurned (Ok ack) = HasAcknowledged ack
+  HasTurned (Err fault) = HasNotCome fault
+
   abbrev pub HasFailed : WriteFault → Type 0
   HasFailed fault.NoZone = ⊥
   HasFailed (fault.OldPoint last) = ⊥
@@ -53,6 +64,7 @@ module _ (leaves : ℕ) (range : Range) (turn : Turn) (history : List RangeEntry
   HasFailed (fault.Unavailable at founds) = (at ≡ range) × HasFoundNone founds
   HasFailed fault.OutOfMemory = HasGivenUp
 
+  -- and how a write did
   abbrev pub HasEnded : Result Ack WriteFault → Type 0
   HasEnded (Ok ack) = HasAcknowledged ack
   HasEnded (Err fault) = HasFailed fault

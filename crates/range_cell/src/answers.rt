@@ -1,4 +1,4 @@
-// What a write and a recovery answer.
+// What writes, trims, recoveries and retirements answer.
 ghost use Rattle.std.specs.Prelude.{◌≡◌, ◌≤◌, [], length, vec_capacity, IfOk};
 
 use mon_value::{Founds, Range, Slot};
@@ -33,4 +33,22 @@ pub enum RecoverFault {
     TargetDown(u64),
     /// Memory ran out.
     OutOfMemory,
+}
+
+/// Why a range isn't trimmed.
+#[derive(PartialEq, Eq, Drop)]
+pub enum TrimFault {
+    /// Each of its replicas that serves was found down, on these leaves.
+    Unavailable(Range, Founds),
+    /// Memory ran out.
+    OutOfMemory,
+}
+
+/// Why a replica of a range on a leaf isn't retired.
+#[derive(Clone, Copy, PartialEq, Eq)]
+pub enum RetireFault {
+    /// None serves there.
+    NotServing,
+    /// The one in this slot is the only one that serves.
+    LastServing(Slot),
 }

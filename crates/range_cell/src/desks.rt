@@ -1,5 +1,5 @@
 // What lies under a range's lock.
-ghost use Rattle.std.specs.Prelude.{◌≡◌, ◌<◌, ◌≤◌, ◌++◌, ◌∷◌, ℕ, [], length, None, Some, IfOk, OnErr, OnOk};
+ghost use Rattle.std.specs.Prelude.{◌≡◌, ◌<◌, ◌≤◌, ◌++◌, ◌∷◌, ℕ, List, [], length, None, Some, IfOk, OnErr, OnOk};
 ghost use Rattle.history_book.specs.declared.views.BookEntry.TheVariants as one;
 ghost use Rattle.history_book.specs.declared.views.History.TheVariants as of;
 ghost use Rattle.history_book.specs.Histories.{with_book_entry};
@@ -8,29 +8,33 @@ ghost use Rattle.know.specs.Knowledge.{Knowledge};
 ghost use Rattle.know.specs.Lending.{without_purse};
 ghost use Rattle.know.specs.Sound.{IsSound};
 ghost use Rattle.mon_topo.specs.HeldHistories.{IsAtHome};
-ghost use Rattle.mon_topo.specs.RangeHistories.{IsLegal, serving};
+ghost use Rattle.mon_topo.specs.RangeHistories.{IsLegal, serving, turn_ack};
 ghost use Rattle.mon_topo.specs.Zones.{ranges_in};
 ghost use Rattle.mon_value.specs.Histories.{range_history};
+ghost use Rattle.mon_value.specs.Turns as a_turn;
 ghost use Rattle.mon_value.specs.Turns.{Adds};
-ghost use Rattle.mon_value.specs.declared.histories.RangeEntry.TheVariants as entry;
+ghost use Rattle.mon_value.specs.declared.histories.RangeEntry.{RangeEntry};
+ghost use Rattle.mon_value.specs.declared.positions.Range as a_range;
 ghost use Rattle.owners.specs.Owners.{IsOfRange};
 ghost use Rattle.owners.specs.Puts.{pass_of};
 ghost use Rattle.range_cell.specs.Answers.{takes};
 ghost use Rattle.range_cell.specs.Calls.{HasAnswered, HasCome, HasEntered, HasMetRange, HasResolved, MayEnter};
+ghost use Rattle.range_cell.specs.Deeds.{IsStocked, turn_of};
 ghost use Rattle.range_cell.specs.Rest.{HaveJust, IsRangeAtRest, IsRangeHeld, others};
 ghost use Rattle.range_cell.specs.Stages.{IsBeginning, IsConcluding, IsThroughAt};
-ghost use Rattle.range_cell.specs.Writes.{HasEnded, HasWritten};
+ghost use Rattle.range_cell.specs.Writes.{HasEnded, HasTurned, HasWritten};
 ghost use Rattle.write_core.specs.RangeAnswers.{lock_answer};
 ghost use Rattle.write_core.specs.Replays.{HasAckRoom};
 ghost use Rattle.write_core.specs.Steps.{TakesTurn};
 
-use crate::answers::WriteFault;
-use crate::entering::{Entering, enter_leaves};
+use crate::answers::{TrimFault, WriteFault};
+use crate::deeds::Deed;
+use crate::entering::{Entering, enter_leaves, row_deed};
 use crate::loops::tell;
 use crate::sides::LeafSide;
 use history_book::NewEntry;
 use know::{Know, Names, Tables};
-use mon_value::{Ack, Leaves, OutOfMemory, Range, Row, SeriesKey, Shared, SlotLeaf, SlotLeaves};
+use mon_value::{Ack, Leaves, OutOfMemory, Range, Row, SlotLeaf, SlotLeaves};
 use owners::RangeOwner;
 use std::alloc::Global;
 use std::marker::Brand;
@@ -107,60 +111,45 @@ impl<N: Names> RangeDesk<N> {
         self.owner.part(tables, know, false);
     }
 
-    /// The range is given back with the acknowledgement of a row, in room that was made before.
-    pub(crate) fn acknowledge(
-        &mut self,
-        tables: &Tables<N>,
-        know: &mut Know<N>,
-        key: Shared<SeriesKey>,
-        row: Row,
-        ack: &Ack,
-    )
+    // The range is given back with the acknowledgement of a turn, in room that was made before.
+    fn acknowledge(&mut self, tables: &Tables<N>, know: &mut Know<N>, deed: Deed, ack: &Ack)
         requires held { IsRangeHeld self.old.owner.range.0 self.old.replay self.old.owner }
         requires holds { 0 < times_range self.old.owner.range know.old.purse.holds }
         requires room { HasAckRoom self.old.replay }
-        requires key { key ≡ row.key }
         requires number { (hand_of know.old.purse).own ≡ Some (pass_of know.old) }
         requires may { MayEnter N.setting self.old.owner.range self.old.replay.history
-            (entry.Acked (pass_of know.old) row ack.now) know.old }
+            (turn_ack (pass_of know.old) (turn_of deed) ack.now) know.old }
         ensures rest { IsRangeAtRest self.old.owner.range.0 self.new.replay self.new.owner }
         ensures entered { HasEntered N.book.leaves self.old.owner.range self.old.replay.history
-            (entry.Acked (pass_of know.old) row ack.now) know.old know.new }
+            (turn_ack (pass_of know.old) (turn_of deed) ack.now) know.old know.new }
     {
         let Some(pass) = know.number() else {
             unreachable!();
         };
         self.receive(tables, know);
-        self.enter::<Brand>(tables, key, pass, row, ack);
+        self.enter::<Brand>(tables, pass, deed, ack);
         self.owner.part(tables, know, false);
     }
 
-    // A row is acknowledged: to the replay, and in the owner's history under the guest's number.
-    fn enter<E: NewEntry>(
-        &mut self,
-        tables: &Tables<N>,
-        key: Shared<SeriesKey>,
-        pass: u64,
-        row: Row,
-        ack: &Ack,
-    )
-        requires named { E.entry ≡ one.Range (entry.Acked pass row ack.now) }
-        requires key { key ≡ row.key }
+    // A turn is acknowledged: to the replay, and in the owner's history under the guest's number.
+    fn enter<E: NewEntry>(&mut self, tables: &Tables<N>, pass: u64, deed: Deed, ack: &Ack)
+        requires named { E.entry ≡ one.Range (turn_ack pass (turn_of deed) ack.now) }
         requires room { HasAckRoom self.old.replay }
         requires history { range_history self.old.owner.book.seen self.old.owner.range ≡ self.old.replay.history }
         requires number { (hand_of (guest_purse self.old.owner.book.guest)).own ≡ Some pass }
         requires sound { IsSound N.setting self.old.owner.hints
-            (with_book_entry (of.Range self.old.owner.range) (one.Range (entry.Acked pass row ack.now))
+            (with_book_entry (of.Range self.old.owner.range) (one.Range (turn_ack pass (turn_of deed) ack.now))
             self.old.owner.book.seen) }
-        ensures history { self.new.replay.history ≡ self.old.replay.history ++ entry.Acked pass row ack.now ∷ [] }
+        ensures history { self.new.replay.history
+            ≡ self.old.replay.history ++ turn_ack pass (turn_of deed) ack.now ∷ [] }
         ensures book { self.new.owner.book
-            ≡ after_append (one.Range (entry.Acked pass row ack.now)) self.old.owner.book }
+            ≡ after_append (one.Range (turn_ack pass (turn_of deed) ack.now)) self.old.owner.book }
         ensures hints { self.new.owner.hints ≡ self.old.owner.hints }
         ensures range { self.new.owner.range ≡ self.old.owner.range }
     {
         let length = self.replay.length();
         prove!(length < 1 << 62);
-        self.replay.acknowledge(key, pass, row, ack);
+        deed.acknowledge(&mut self.replay, pass, ack);
         self.owner.append::<E>(tables, self.replay.sight());
     }
 
@@ -222,8 +211,10 @@ impl<N: Names> RangeDesk<N> {
         ensures ended { HasEnded N.book.leaves range (Adds row.now) self.old.replay.history (pass_of know.old) know.old
             know.new result }
     {
-        match enter_leaves(rt, alloc, know, leaves, range, row, replicas) {
-            Ok(entering) => self.conclude(tables, know, range, entering),
+        match row_deed(alloc, row, replicas.len()) {
+            Ok(deed) => {
+                as_written(self.carry_out(rt, alloc, tables, know, leaves, range, deed, replicas))
+            }
             Err(_fault) => {
                 self.give_back(tables, know);
                 Err(WriteFault::OutOfMemory)
@@ -231,38 +222,71 @@ impl<N: Names> RangeDesk<N> {
         }
     }
 
-    // Acknowledges a row that some replica took, and gives the range back. No memory is taken.
+    /// Brings a turn to the replicas that serve, once the caller holds the range.
+    pub(crate) fn carry_out<R: Wait, S: LeafSide<N>>(
+        &mut self,
+        rt: &R,
+        alloc: Global,
+        tables: &Tables<N>,
+        know: &mut Know<N>,
+        leaves: &S,
+        range: Range,
+        deed: Deed,
+        replicas: SlotLeaves,
+    ) -> Result<Ack, TrimFault>
+        requires held { IsRangeHeld self.old.owner.range.0 self.old.replay self.old.owner }
+        requires range { range ≡ self.old.owner.range }
+        requires room { HasAckRoom self.old.replay }
+        requires serve { replicas ≡ serving self.old.replay.history }
+        requires begins { IsBeginning N.setting range (turn_of deed) (pass_of know.old) replicas know.old }
+        requires stocked { IsStocked (length replicas) deed }
+        requires turns { HaveJust know.old.seen range self.old.replay.history }
+        requires legal { IsLegal N.setting.held N.setting.zones N.setting.points range self.old.replay.history }
+        requires takes { TakesTurn N.setting self.old.replay.history (turn_of deed) }
+        ensures rest { IsRangeAtRest self.old.owner.range.0 self.new.replay self.new.owner }
+        ensures ended { HasTurned N.book.leaves range (turn_of deed) self.old.replay.history (pass_of know.old) know.old
+            know.new result }
+    {
+        match enter_leaves(rt, alloc, know, leaves, range, deed, replicas) {
+            Ok(entering) => self.conclude(tables, know, range, entering),
+            Err(_fault) => {
+                self.give_back(tables, know);
+                Err(TrimFault::OutOfMemory)
+            }
+        }
+    }
+
+    // Acknowledges a turn that came to some replica, and gives the range back. No memory is taken.
     fn conclude(
         &mut self,
         tables: &Tables<N>,
         know: &mut Know<N>,
         range: Range,
         entering: Entering,
-    ) -> Result<Ack, WriteFault>
+    ) -> Result<Ack, TrimFault>
         requires held { IsRangeHeld self.old.owner.range.0 self.old.replay self.old.owner }
         requires range { range ≡ self.old.owner.range }
         requires machine { entering.machine.range ≡ range }
         requires room { HasAckRoom self.old.replay }
-        requires key { entering.key ≡ entering.copies.row.key }
-        requires through { IsConcluding N.setting range (Adds entering.copies.row) self.old.replay.history know.old
+        requires through { IsConcluding N.setting range (turn_of entering.deed) self.old.replay.history know.old
             entering.machine.stage }
         ensures rest { IsRangeAtRest self.old.owner.range.0 self.new.replay self.new.owner }
-        ensures ended { (pass : ℕ) (begun : Knowledge) → IsThroughAt range (Adds entering.copies.row) pass begun
+        ensures ended { (pass : ℕ) (begun : Knowledge) → IsThroughAt range (turn_of entering.deed) pass begun
             (serving self.old.replay.history) know.old entering.machine.stage
-            → HasEnded N.book.leaves range (Adds entering.copies.row) self.old.replay.history pass begun know.new
+            → HasTurned N.book.leaves range (turn_of entering.deed) self.old.replay.history pass begun know.new
             result }
     {
         let mut machine = entering.machine;
-        let row = entering.copies.into_row();
+        let deed = entering.deed;
         tell(&mut machine, WriteTold::Done);
         match machine.finish() {
             WriteEnd::Written(ack) => {
-                self.acknowledge(tables, know, entering.key, row, &ack);
+                self.acknowledge(tables, know, deed, &ack);
                 Ok(ack)
             }
             WriteEnd::Unavailable(founds) => {
                 self.give_back(tables, know);
-                Err(WriteFault::Unavailable(range, founds))
+                Err(TrimFault::Unavailable(range, founds))
             }
             WriteEnd::OldPoint(_) | WriteEnd::RangeFull(_) => unreachable!(),
         }
@@ -280,6 +304,19 @@ impl<N: Names> RangeDesk<N> {
     {
         self.owner.meet(tables, know);
         self.owner.learn(tables);
+    }
+}
+
+// A row's write ends as its turn does.
+fn as_written(ended: Result<Ack, TrimFault>) -> Result<Ack, WriteFault>
+    ensures ended { (leaves : ℕ) (range : a_range.Range) (turn : a_turn.Turn) (history : List RangeEntry) (pass : ℕ)
+        (begun after : Knowledge) → HasTurned leaves range turn history pass begun after ended
+        → HasEnded leaves range turn history pass begun after result }
+{
+    match ended {
+        Ok(ack) => Ok(ack),
+        Err(TrimFault::Unavailable(range, founds)) => Err(WriteFault::Unavailable(range, founds)),
+        Err(TrimFault::OutOfMemory) => Err(WriteFault::OutOfMemory),
     }
 }
 

@@ -1,12 +1,12 @@
-// A write goes over the leaves of its range.
+// A turn goes over the leaves of its range.
 ghost use Rattle.std.specs.Prelude.{◌≡◌, ◌≢◌, ◌≤◌, ◌<◌, ◌∷◌, [], ℕ, length, true, false, List, IfOk, OnErr, OnOk};
 ghost use Rattle.history_book.specs.Seats.{times_room};
 ghost use Rattle.know.specs.Knowledge.{Knowledge};
 ghost use Rattle.mon_topo.specs.Zones.{leaves_in};
 ghost use Rattle.mon_value.specs.declared.positions.Range as a_range;
 ghost use Rattle.mon_value.specs.declared.positions.SlotLeaf as a_replica;
-ghost use Rattle.mon_value.specs.Turns.{Adds};
-ghost use Rattle.owners.specs.Puts.{HasSeenOpened, MayPut};
+ghost use Rattle.owners.specs.Puts.{HasSeenOpened, MayTurn};
+ghost use Rattle.range_cell.specs.Deeds.{IsStocked, turn_of};
 ghost use Rattle.range_cell.specs.Stages.{AreApart, IsAt, IsQuiet, IsSomewhere, IsThroughAt, IsWithdrawing};
 ghost use Rattle.range_cell.specs.Stages.{IsWithdrawn};
 ghost use Rattle.range_cell.specs.Stages.{needed};
@@ -17,12 +17,12 @@ ghost use Rattle.write_core.specs.Program.{Locking, Stage, after, ask_of};
 ghost use Rattle.write_core.specs.declared.asks.WriteAsk.TheVariants as ask;
 ghost use Rattle.write_core.specs.declared.marks.Mark as a_mark;
 
-use crate::copies::Copies;
+use crate::deeds::Deed;
 use crate::sides::LeafSide;
 use crate::turns::told_of;
 use know::{Found, Know, Names};
 use mon_hints::Buckets;
-use mon_value::{Leaf, OutOfMemory, Range, Row, Slot};
+use mon_value::{Leaf, OutOfMemory, Range, Slot};
 use std::alloc::Global;
 use std::sync::Wait;
 use write_core::{Mark, WriteAsk, WriteMachine, WriteTold};
@@ -35,20 +35,20 @@ pub(crate) fn write_through<R: Wait, N: Names, S: LeafSide<N>>(
     know: &mut Know<N>,
     leaves: &S,
     range: Range,
-    copies: &mut Copies,
+    deed: &mut Deed,
 ) -> Result<(), OutOfMemory>
-    requires somewhere { IsSomewhere N.setting range (Adds copies.old.row) know.old machine.old.stage }
-    requires stocked { needed machine.old.stage ≤ copies.old.left }
+    requires somewhere { IsSomewhere N.setting range (turn_of deed.old) know.old machine.old.stage }
+    requires stocked { IsStocked (needed machine.old.stage) deed.old }
     ensures through { (pass : ℕ) (before : Knowledge) (replicas : List a_replica.SlotLeaf)
-        → AreApart replicas → IsAt range (Adds copies.old.row) pass before replicas know.old machine.old.stage
-        → OnOk result (IsThroughAt range (Adds copies.old.row) pass before replicas know.new machine.new.stage) }
+        → AreApart replicas → IsAt range (turn_of deed.old) pass before replicas know.old machine.old.stage
+        → OnOk result (IsThroughAt range (turn_of deed.old) pass before replicas know.new machine.new.stage) }
     ensures withdrawn { (pass : ℕ) (before : Knowledge) (replicas : List a_replica.SlotLeaf)
-        → AreApart replicas → IsAt range (Adds copies.old.row) pass before replicas know.old machine.old.stage
+        → AreApart replicas → IsAt range (turn_of deed.old) pass before replicas know.old machine.old.stage
         → OnErr result (IsWithdrawing range pass before replicas know.new []) }
-    ensures row { copies.new.row ≡ copies.old.row }
+    ensures turn { turn_of deed.new ≡ turn_of deed.old }
     ensures range { machine.new.range ≡ machine.old.range }
 {
-    match go_through(rt, alloc, machine, know, leaves, range, copies) {
+    match go_through(rt, alloc, machine, know, leaves, range, deed) {
         Ok(()) => Ok(()),
         Err(fault) => {
             cancel_all(machine.marks(), know, leaves);
@@ -65,21 +65,21 @@ fn go_through<R: Wait, N: Names, S: LeafSide<N>>(
     know: &mut Know<N>,
     leaves: &S,
     range: Range,
-    copies: &mut Copies,
+    deed: &mut Deed,
 ) -> Result<(), OutOfMemory>
-    requires somewhere { IsSomewhere N.setting range (Adds copies.old.row) know.old machine.old.stage }
-    requires stocked { needed machine.old.stage ≤ copies.old.left }
+    requires somewhere { IsSomewhere N.setting range (turn_of deed.old) know.old machine.old.stage }
+    requires stocked { IsStocked (needed machine.old.stage) deed.old }
     ensures through { (pass : ℕ) (before : Knowledge) (replicas : List a_replica.SlotLeaf)
-        → AreApart replicas → IsAt range (Adds copies.old.row) pass before replicas know.old machine.old.stage
-        → OnOk result (IsThroughAt range (Adds copies.old.row) pass before replicas know.new machine.new.stage) }
+        → AreApart replicas → IsAt range (turn_of deed.old) pass before replicas know.old machine.old.stage
+        → OnOk result (IsThroughAt range (turn_of deed.old) pass before replicas know.new machine.new.stage) }
     ensures refused { (pass : ℕ) (before : Knowledge) (replicas : List a_replica.SlotLeaf)
-        → AreApart replicas → IsAt range (Adds copies.old.row) pass before replicas know.old machine.old.stage
+        → AreApart replicas → IsAt range (turn_of deed.old) pass before replicas know.old machine.old.stage
         → OnErr result (IsWithdrawing range pass before replicas know.new (going_marks machine.new.stage)) }
-    ensures row { copies.new.row ≡ copies.old.row }
+    ensures turn { turn_of deed.new ≡ turn_of deed.old }
     ensures range { machine.new.range ≡ machine.old.range }
 {
     'events: for _ in rt.forever() {
-        match turn(alloc, machine, know, leaves, range, copies) {
+        match turn(alloc, machine, know, leaves, range, deed) {
             Ok(true) => {}
             Ok(false) => return Ok(()),
             Err(fault) => return Err(fault),
@@ -95,46 +95,28 @@ fn turn<N: Names, S: LeafSide<N>>(
     know: &mut Know<N>,
     leaves: &S,
     range: Range,
-    copies: &mut Copies,
+    deed: &mut Deed,
 ) -> Result<bool, OutOfMemory>
-    requires somewhere { IsSomewhere N.setting range (Adds copies.old.row) know.old machine.old.stage }
-    requires stocked { needed machine.old.stage ≤ copies.old.left }
+    requires somewhere { IsSomewhere N.setting range (turn_of deed.old) know.old machine.old.stage }
+    requires stocked { IsStocked (needed machine.old.stage) deed.old }
     ensures on { (pass : ℕ) (before : Knowledge) (replicas : List a_replica.SlotLeaf)
-        → AreApart replicas → IsAt range (Adds copies.old.row) pass before replicas know.old machine.old.stage
-        → OnOk result (IsAt range (Adds copies.old.row) pass before replicas know.new machine.new.stage) }
+        → AreApart replicas → IsAt range (turn_of deed.old) pass before replicas know.old machine.old.stage
+        → OnOk result (IsAt range (turn_of deed.old) pass before replicas know.new machine.new.stage) }
     ensures refused { (pass : ℕ) (before : Knowledge) (replicas : List a_replica.SlotLeaf)
-        → AreApart replicas → IsAt range (Adds copies.old.row) pass before replicas know.old machine.old.stage
+        → AreApart replicas → IsAt range (turn_of deed.old) pass before replicas know.old machine.old.stage
         → OnErr result (IsWithdrawing range pass before replicas know.new (going_marks machine.new.stage)) }
-    ensures stocked { OnOk result (needed machine.new.stage ≤ copies.new.left) }
-    ensures row { copies.new.row ≡ copies.old.row }
+    ensures stocked { OnOk result (IsStocked (needed machine.new.stage) deed.new) }
+    ensures turn { turn_of deed.new ≡ turn_of deed.old }
     ensures range { machine.new.range ≡ machine.old.range }
     ensures ends { IfOk result (λ more. more ≡ false → IsQuiet (ask_of machine.new.stage)) }
 {
     match machine.next() {
         WriteAsk::Reserve(slot, leaf) => {
-            ask_for_room(
-                alloc,
-                machine,
-                know,
-                leaves,
-                range,
-                slot,
-                leaf,
-                copies.row(),
-            )?;
+            ask_for_room(alloc, machine, know, leaves, range, slot, leaf, deed)?;
             Ok(true)
         }
         WriteAsk::Enter(slot, leaf) => {
-            put_at(
-                alloc,
-                machine,
-                know,
-                leaves,
-                range,
-                slot,
-                leaf,
-                copies.take(),
-            );
+            put_at(alloc, machine, know, leaves, range, slot, leaf, deed);
             Ok(true)
         }
         _ => Ok(false),
@@ -150,25 +132,25 @@ fn ask_for_room<N: Names, S: LeafSide<N>>(
     range: Range,
     slot: Slot,
     leaf: Leaf,
-    row: &Row,
+    deed: &Deed,
 ) -> Result<(), OutOfMemory>
     requires asks { ask_of machine.old.stage ≡ ask.Reserve slot leaf }
     requires seen { HasSeenOpened N.setting know.old leaf range slot }
     ensures on { (pass : ℕ) (before : Knowledge) (replicas : List a_replica.SlotLeaf)
-        → IsAt range (Adds row.now) pass before replicas know.old machine.old.stage
-        → OnOk result (IsAt range (Adds row.now) pass before replicas know.new machine.new.stage) }
+        → IsAt range (turn_of deed.now) pass before replicas know.old machine.old.stage
+        → OnOk result (IsAt range (turn_of deed.now) pass before replicas know.new machine.new.stage) }
     ensures refused { (pass : ℕ) (before : Knowledge) (replicas : List a_replica.SlotLeaf)
-        → IsAt range (Adds row.now) pass before replicas know.old machine.old.stage
+        → IsAt range (turn_of deed.now) pass before replicas know.old machine.old.stage
         → OnErr result (IsWithdrawing range pass before replicas know.new (going_marks machine.new.stage)) }
     ensures needs { OnOk result (needed machine.new.stage ≤ needed machine.old.stage) }
     ensures range { machine.new.range ≡ machine.old.range }
 {
-    let found = leaves.reserve(leaf, know, range, slot, row)?;
+    let found = deed.reserve(leaves, leaf, know, range, slot)?;
     tell(machine, told_of(alloc, found));
     Ok(())
 }
 
-// Puts the row at the leaf that the machine names.
+// Brings the turn to the leaf that the machine names.
 fn put_at<N: Names, S: LeafSide<N>>(
     alloc: Global,
     machine: &mut WriteMachine,
@@ -177,17 +159,19 @@ fn put_at<N: Names, S: LeafSide<N>>(
     range: Range,
     slot: Slot,
     leaf: Leaf,
-    row: Row,
+    deed: &mut Deed,
 )
     requires asks { ask_of machine.old.stage ≡ ask.Enter slot leaf }
-    requires may { MayPut N.setting know.old leaf range slot row }
+    requires may { MayTurn N.setting know.old leaf range slot (turn_of deed.old) }
+    requires stocked { IsStocked (needed machine.old.stage) deed.old }
     ensures on { (pass : ℕ) (before : Knowledge) (replicas : List a_replica.SlotLeaf)
-        → AreApart replicas → IsAt range (Adds row) pass before replicas know.old machine.old.stage
-        → IsAt range (Adds row) pass before replicas know.new machine.new.stage }
-    ensures needs { needed machine.new.stage < needed machine.old.stage }
+        → AreApart replicas → IsAt range (turn_of deed.old) pass before replicas know.old machine.old.stage
+        → IsAt range (turn_of deed.old) pass before replicas know.new machine.new.stage }
+    ensures stocked { IsStocked (needed machine.new.stage) deed.new }
+    ensures turn { turn_of deed.new ≡ turn_of deed.old }
     ensures range { machine.new.range ≡ machine.old.range }
 {
-    let found = leaves.put(leaf, know, range, slot, row);
+    let found = deed.bring(leaves, leaf, know, range, slot);
     tell_put(alloc, machine, slot, leaf, found);
 }
 

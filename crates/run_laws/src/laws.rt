@@ -1,5 +1,5 @@
 // What a run says of where its lines stand, of which rows its tables stand on, and how it ended before its last line.
-ghost use Rattle.run_laws.specs.Hidings.{NoRowIsHidden};
+ghost use Rattle.run_laws.specs.Hidings.{NoSparedRowIsHidden};
 ghost use Rattle.run_laws.specs.Places.{PlacesAreExact};
 ghost use Rattle.run_laws.specs.Stops.{FilesTooLong, ReadsFailed};
 
@@ -9,9 +9,10 @@ pub fn places_are_exact()
     ensures exact { PlacesAreExact }
 {}
 
-/// No line of a script trims a range, so a table stands on each row that its line had seen accepted.
+/// A table stands on each row that its line had seen accepted, unless a line of the script trimmed the row's range with a
+/// bound above the row's end.
 pub fn no_row_is_hidden()
-    ensures stands { NoRowIsHidden }
+    ensures stands { NoSparedRowIsHidden }
 {}
 
 /// Where the status is 4, the last file that was asked for could not be read, and the text says so at its end.

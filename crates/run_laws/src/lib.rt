@@ -3,4 +3,4 @@
 
 mod laws;
 
-pub use laws::{files_too_long, places_are_exact, reads_failed};
+pub use laws::{files_too_long, no_row_is_hidden, places_are_exact, reads_failed};

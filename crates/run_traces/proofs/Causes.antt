@@ -37,16 +37,19 @@ use Rattle.run_theory.specs.InPlace as theory
 use Rattle.run_theory.specs.Parts.{RanBefore, RanBehind}
 use Rattle.run_theory.proofs.Lists.{first_place_behind, last_end_within}
 use Rattle.run_traces.specs.LineCauses.{FileIsCaused, HasCause, HasNoSource, HasNoTarget, HasNoneUp, HasRowCause}
-use Rattle.run_traces.specs.LineCauses.{HasSwitchedEnough}
+use Rattle.run_traces.specs.LineCauses.{HasSwitchedEnough, HaveMissed, IsNotRetired, IsTrimmedNowhere, RetirementCause}
+use Rattle.run_traces.specs.LineCauses.{TrimCause}
 use Rattle.run_traces.specs.LineCauses.{IsCaused, IsDenied, IsLeftWithout, IsNotKept, IsOverLimit, IsRefusedByRange, IsUnwritten, LineIsCaused}
 use Rattle.run_traces.specs.LineCauses.{ControlCause, QuestionCause, RecoveryCause, StandingCause, SwitchCause, WasAlready}
 use Rattle.run_traces.specs.LineCauses.{RowHasCause, RowIsTaken, RowsAreTaken, RowsHaveCauses, WereMissed, fed, rows_before}
-use Rattle.run_traces.specs.LineClaims.{AllTakenFound, FileFound, FoundAmid, HasFound, Makes, PourFound, RowFound}
+use Rattle.run_traces.specs.LineClaims.{AllTakenFound, DoneFound, FileFound, FoundAmid, HasFound, Makes, PourFound, RowFound}
 use Rattle.run_traces.specs.LineClaims.{RowsFound, TakenFound, marked}
 use Rattle.run_traces.specs.LineFeeds.{IsTold, PourIsTold}
 use Rattle.run_traces.specs.LineSwitches.{first_length, high, highs, is_entry_of, is_fed, is_row, is_traced, low, lows}
 use Rattle.run_traces.specs.LineAsks.{moment_of, moments_of, text_of}
 use Rattle.run_traces.specs.RanLines.{RanLine}
+use Rattle.run_traces.specs.declared.traces.ControlDone.{ControlDone}
+use Rattle.run_traces.specs.declared.traces.ControlDone.TheVariants as did
 use Rattle.run_traces.specs.declared.traces.ControlFault.{ControlFault}
 use Rattle.run_traces.specs.declared.traces.ControlFault.TheVariants as undone
 use Rattle.run_traces.specs.declared.traces.LineFault.{LineFault}
@@ -61,6 +64,10 @@ use Rattle.ingest_queue.specs.declared.ends.Poured.{Poured}
 use Rattle.ingest_queue.specs.declared.refusals.RowRefusal.{RowRefusal}
 use Rattle.ingest_queue.specs.declared.refusals.RowRefused.{RowRefused}
 use Rattle.ingest_queue.specs.declared.refusals.RowRefused.TheVariants as refused
+use Rattle.run_traces.specs.declared.traces.RetireRefusal.{RetireRefusal}
+use Rattle.run_traces.specs.declared.traces.RetireRefusal.TheVariants as unretired
+use Rattle.run_traces.specs.declared.traces.TrimRefusal.{TrimRefusal}
+use Rattle.run_traces.specs.declared.traces.TrimRefusal.TheVariants as untrimmed
 use Rattle.run_traces.specs.declared.traces.SwitchFault.{SwitchFault}
 use Rattle.run_traces.specs.declared.traces.SwitchFault.TheVariants as unswitched
 use Rattle.standing.specs.declared.faults.StandingFault.{StandingFault}
@@ -68,6 +75,9 @@ use Rattle.standing.specs.declared.faults.StandingFault.TheVariants as unstood
 use Rattle.mon_script.specs.declared.forms.LineForm.{LineForm}
 use Rattle.write_core.specs.Recovering.{denial_of}
 use Rattle.write_core.specs.RangeAnswers.{refusal}
+use Rattle.write_core.specs.Retirements.{retirement_of}
+use Rattle.write_core.specs.declared.retirements.Retirement.{Retirement}
+use Rattle.write_core.specs.declared.retirements.Retirement.TheVariants as retirement
 use Rattle.write_core.specs.declared.copies.Denial.{Denial}
 use Rattle.write_core.specs.declared.copies.Denial.TheVariants as denial
 use Rattle.write_core.specs.declared.refusals.Refused.{Refused}
@@ -87,7 +97,7 @@ take_front (suc n) (suc m) (x ∷ xs) le = ap (λ w. x ∷ w) (take_front n m xs
 -- ---- tests of lists
 
 module _ {X : Type 0} (test : X → Bool) where
-  any_split : (xs ys : List X) (C : Type 0) → list_any test (xs ++ ys) ≡ true → (list_any test xs ≡ true → C)
+  pub any_split : (xs ys : List X) (C : Type 0) → list_any test (xs ++ ys) ≡ true → (list_any test xs ≡ true → C)
       → (list_any test ys ≡ true → C) → C
   any_split [] ys C is here there = there is
   any_split (x ∷ xs) ys C is here there = or_either (test x) (list_any test (xs ++ ys)) C is
@@ -301,6 +311,31 @@ module _ (widen : (typed : TypedTree) (moment : ℤ) (from to earlier later : Le
       down = find from to first last seen more (record { leaf = has.recovery.leaf; cut = cut }) wide has.down;
     }
 
+    -- ---- of trims and retirements
+
+    nowhere_wider : (what : LineForm) (range : Range) (founds : List FoundDown)
+        → IsTrimmedNowhere config seen from to what range founds → IsTrimmedNowhere config more first last what range founds
+    unfolding none_wider
+    nowhere_wider what range founds has = record {
+      bound = has.bound;
+      asked = has.asked;
+      range_is = has.range_is;
+      none_up = none_wider range founds has.none_up;
+      those = has.those ∙ ap (λ w. map (λ (replica : SlotLeaf). replica.leaf) (serving w))
+          (front_stays range has.none_up.found has.none_up.between);
+    }
+
+    unretired_wider : (what : LineForm) (told : Retirement) → IsNotRetired config seen from to what told
+        → IsNotRetired config more first last what told
+    unretired_wider what told is = record {
+      withdrawal = is.withdrawal;
+      asked = is.asked;
+      found = is.found;
+      between = length_wider is.withdrawal.range is.found is.between;
+      told_so = ap (λ w. retirement_of w is.withdrawal.leaf)
+          (sym (front_stays is.withdrawal.range is.found is.between)) ∙ is.told_so;
+    }
+
     question_wider : (what : LineForm) (fault : QuestionFault) → QuestionCause config seen from to what fault
         → QuestionCause config more first last what fault
     question_wider what (unanswered.Parse parse) cause = cause
@@ -323,10 +358,22 @@ module _ (widen : (typed : TypedTree) (moment : ℤ) (from to earlier later : Le
     recovery_wider what (unopened.SourceDown founds) cause = source_wider what founds cause
     recovery_wider what (unopened.TargetDown cut) cause = target_wider what cut cause
 
+    refused_trim_wider : (what : LineForm) (fault : TrimRefusal) → TrimCause config seen from to what fault
+        → TrimCause config more first last what fault
+    refused_trim_wider what (untrimmed.Unavailable range founds) cause = nowhere_wider what range founds cause
+
+    refused_retirement_wider : (what : LineForm) (fault : RetireRefusal)
+        → RetirementCause config seen from to what fault → RetirementCause config more first last what fault
+    refused_retirement_wider what unretired.NotServing cause = unretired_wider what retirement.NotServing cause
+    refused_retirement_wider what (unretired.LastServing slot) cause =
+        unretired_wider what (retirement.LastServing slot) cause
+
     control_wider : (what : LineForm) (fault : ControlFault) → ControlCause config seen from to what fault
         → ControlCause config more first last what fault
     control_wider what (undone.Switch fault) cause = switch_wider what fault cause
     control_wider what (undone.Recovery fault) cause = recovery_wider what fault cause
+    control_wider what (undone.Trim fault) cause = refused_trim_wider what fault cause
+    control_wider what (undone.Retirement fault) cause = refused_retirement_wider what fault cause
 
     standing_wider : (what : LineForm) (fault : StandingFault) → StandingCause config seen from to what fault
         → StandingCause config more first last what fault
@@ -535,8 +582,20 @@ module _ (widen : (typed : TypedTree) (moment : ℤ) (from to earlier later : Le
       (place : InPlace config ended seen later line) where
     -- whose an entry is, by what the line came to
     owned : (trace : LineTrace) → line.trace ≡ trace → (h : History) (k : ℕ) (e : BookEntry)
-        → is_traced line.what trace h k e ≡ true → is_entry_of line h k e ≡ true
-    owned trace is h k e mine = ap (λ (t : LineTrace). is_traced line.what t h k e) is ∙ mine
+        → is_traced line.what line.own trace h k e ≡ true → is_entry_of line h k e ≡ true
+    owned trace is h k e mine = ap (λ (t : LineTrace). is_traced line.what line.own t h k e) is ∙ mine
+
+    -- each leaf that missed a trim was found down
+    missed_by : (done : ControlDone)
+        → DoneFound config ended place.from place.to place.number line.what line.own done
+        → HaveMissed ended (lows config.topology ended seen) (highs config.topology ended later) done
+    missed_by (did.Switched cut) found = tt
+    missed_by (did.Recovered slot) found = tt
+    missed_by (did.Trimmed ack) found = all_as _ _ (λ miss is. find (marked place.from) (marked place.to)
+        (lows config.topology ended seen) (highs config.topology ended later) ended ended
+        (record { leaf = miss.leaf; cut = miss.cut }) (wider config ended seen later line place) is) ack.missed
+        found.missed
+    missed_by (did.Retired slot) found = tt
 
     -- of a pour, that of either file
     poured_caused : (pass : ℕ) (ends : Poured) → line.trace ≡ came.Poured pass ends
@@ -561,7 +620,7 @@ module _ (widen : (typed : TypedTree) (moment : ℤ) (from to earlier later : Le
     caused_by (came.Poured pass ends) is told found = poured_caused pass ends is told found
     caused_by (came.Asked moment trace) is told found = tt
     caused_by (came.Followed moment trace) is told found = tt
-    caused_by (came.Controlled done) is told found = tt
+    caused_by (came.Controlled done) is told found = missed_by done found
     caused_by (came.Refused fault) is told found = line_wider ended ended (marked place.from) (marked place.to)
         (lows config.topology ended seen) (highs config.topology ended later)
         (wider config ended seen later line place) line.what fault found

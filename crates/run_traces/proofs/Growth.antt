@@ -6,6 +6,7 @@ use Rattle.std.specs.List.{AllByRecursion}
 use mathlib.Core.List.{IsPrefix}
 use Rattle.history_book.proofs.ListLemmas.{prefix_contains}
 use Rattle.history_book.specs.Histories.{book_entry_pass, entries}
+use Rattle.history_book.specs.declared.views.BookEntry.{BookEntry}
 use Rattle.history_book.specs.declared.views.BookEntry.TheVariants as one
 use Rattle.history_book.specs.declared.views.History.{History}
 use Rattle.history_book.specs.declared.views.History.TheVariants as of
@@ -37,14 +38,15 @@ use Rattle.run_traces.specs.LineClaims.{IsNewIn, LookFound, Makes}
 use Rattle.run_traces.specs.LineCauses.{HasRowCause, WereMissed}
 use Rattle.run_traces.specs.LineClaims.{AllTakenFound, FoundAmid, RowFound, RowsFound, StandsAmong, TakenFound, marked}
 use Rattle.run_traces.specs.LineSwitches.{first_length, is_row}
-use Rattle.run_traces.specs.RanLines.{RanLine}
+use Rattle.run_traces.specs.LineTrims.{AreOwn}
+use Rattle.run_traces.specs.RanLines.{OwnPlace, RanLine}
 use Rattle.run_traces.specs.declared.traces.LineTrace.{LineTrace}
 use Rattle.run_traces.specs.declared.traces.LineTrace.TheVariants as came
 use Rattle.ingest_queue.specs.declared.refusals.RowRefusal.{RowRefusal}
 use Rattle.run_traces.proofs.Causes.{line_wider, row_wider, take_front}
 use Rattle.run_traces.proofs.ListFacts.{all_as}
 use Rattle.run_traces.proofs.RunFacts.{book_length, range_length}
-use Rattle.run_traces.proofs.Controls.{done_wider}
+use Rattle.run_traces.proofs.Controls.{done_still}
 use Rattle.mon_value.proofs.PlainLemmas.{prefix_map}
 
 -- ---- lists
@@ -272,6 +274,22 @@ module _ (widen : (typed : TypedTree) (moment : ℤ) (from to earlier later : Le
         };
       }
 
+      -- a line's own places
+      owns_still : (number : ℕ) (own : List OwnPlace) → AreOwn seen from to number own → AreOwn more from to number own
+      owns_still number own owns = record {
+        within = owns.within;
+        under = λ h k e there mine.
+            owns.under h k e (stood_there h k e there (let a = owns.within h k mine in a.1)) mine;
+        all = λ h k e there low high under. owns.all h k e (stood_there h k e there high) low high under;
+      }
+        where
+          stood_there : (h : History) (k : ℕ) (e : BookEntry) → slice_get (entries more h) k ≡ Some e → k < to h
+              → slice_get (entries seen h) k ≡ Some e
+          stood_there h k e there high =
+              let p = goes_on seen more grown h in
+              get_front (entries seen h) p.0 k e (ap (λ w. slice_get w k) p.1 ∙ there)
+              (let a = within h in omega arith)
+
       found_still : (number : ℕ) (trace : LineTrace) → HasFound config seen from to number line trace
           → HasFound config more from to number line trace
       found_still number (came.Fed pass accepted refusals) found = record {
@@ -290,8 +308,9 @@ module _ (widen : (typed : TypedTree) (moment : ℤ) (from to earlier later : Le
         each = subst (λ w. AllByRecursion (λ at. load found.look.typed w at ≤ config.limit) (moments_of line.what))
             (sym (same_source found.look.typed moment trace found.look.of)) found.each;
       }
-      found_still number (came.Controlled done) found = done_wider seen more from to from to (λ h. omega arith)
-          (λ h. omega arith) leaf_goes_on range_goes_on number line.what done found
+      found_still number (came.Controlled done) found = done_still seen more from to from to (λ h. omega arith)
+          (λ h. omega arith) leaf_goes_on range_goes_on number line.what line.own config (owns_still number line.own)
+          (λ one is. find (marked from) (marked to) (marked from) (marked to) seen more one wide is) done found
       found_still number (came.Refused fault) found = line_wider widen find rows config seen more (marked from)
           (marked to) (marked from) (marked to) wide line.what fault found
       found_still number (came.Ticked dues) found = absurd found

@@ -5,11 +5,13 @@ pub mod Controls
 pub mod Growth
 pub mod Kept
 pub mod ListFacts
+pub mod OwnPlaces
 pub mod Owners
 pub mod Paired
 pub mod Rising
 pub mod RowFacts
 pub mod RunFacts
 pub mod Switched
+pub mod Trimmed
 pub mod Whole
 pub mod Woven

@@ -51,17 +51,17 @@ module _ (config : Config) (ended : Histories)
 
   control_place : (from to : History → ℕ) (number : ℕ) (line : RanLine) (done : ControlDone) (h : History) (k : ℕ)
       (e : BookEntry) → HasFound config ended from to number line (came.Controlled done)
-      → slice_get (entries ended h) k ≡ Some e → is_traced line.what (came.Controlled done) h k e ≡ true
+      → slice_get (entries ended h) k ≡ Some e → is_traced line.what line.own (came.Controlled done) h k e ≡ true
       → IsTheirs from to number h k e
   control_place from to number line done h k e found there is =
-      done_place config ended whole fronts held from to number line.what done h k e found there is
+      done_place config ended whole fronts held from to number line.what line.own done h k e found there is
 
   -- ---- numbers
 
   under_by : (from to : History → ℕ) (number : ℕ) (line : RanLine) (h : History) (k : ℕ) (e : BookEntry)
       (trace : LineTrace) (made : History → List BookEntry) → HasMade config number line.what trace made
       → HasFound config ended from to number line trace → slice_get (entries ended h) k ≡ Some e
-      → is_traced line.what trace h k e ≡ true → book_entry_pass e ≡ number
+      → is_traced line.what line.own trace h k e ≡ true → book_entry_pass e ≡ number
   under_by from to number line h k e (came.Fed pass accepted refused) made makes found there is =
       fed_pass pass accepted e is ∙ makes.0
   under_by from to number line h k e (came.Poured pass ends) made makes found there is =
@@ -85,7 +85,7 @@ module _ (config : Config) (ended : Histories)
       → HasFound config ended from to number line trace
       → filter (λ x. nat_eq (book_entry_pass x) number) (between (from h) (to h) (entries ended h)) ≡ made h
       → slice_get (entries ended h) k ≡ Some e → from h ≤ k → k < to h → book_entry_pass e ≡ number
-      → slice_get (made h) j ≡ Some e → is_traced line.what trace h k e ≡ true
+      → slice_get (made h) j ≡ Some e → is_traced line.what line.own trace h k e ≡ true
   made_by from to number line (came.Fed pass accepted refused) made h k j e makes found exact there low high mine at =
       all_at (λ x. is_fed pass accepted x ≡ true) (made h) j e (makes.1.own h) at
   made_by from to number line (came.Poured pass ends) made h k j e makes found exact there low high mine at =
@@ -95,7 +95,7 @@ module _ (config : Config) (ended : Histories)
   made_by from to number line (came.Followed moment trace) made h k j e makes found exact there low high mine at =
       absurd (none_made made h j e makes at)
   made_by from to number line (came.Controlled done) made h k j e makes found exact there low high mine at =
-      done_made config ended whole fronts held from to number line.what done h k j e made makes found exact there low
+      done_made config ended whole fronts held from to number line.what line.own done h k j e made makes found exact there low
       high mine at
   made_by from to number line (came.Refused why) made h k j e makes found exact there low high mine at =
       absurd (none_made made h j e makes at)
@@ -184,7 +184,7 @@ module _ (config : Config) (ended : Histories)
     -- nothing that the sooner one made where it ran is the later one's
     not_later : (trace : LineTrace) (h : History) (j k : ℕ) (e : BookEntry) → HasFound config ended c d m later trace
         → slice_get (entries ended h) k ≡ Some e → slice_get (one.made h) j ≡ Some e → k < b h
-        → is_traced later.what trace h k e ≡ true → ⊥
+        → is_traced later.what later.own trace h k e ≡ true → ⊥
     not_later (came.Fed pass rows refused) h j k e found there at less is =
         made_sooner sooner.trace pass rows h j e one.makes one.found.found found.rows at is
     not_later (came.Poured pass ends) h j k e found there at less is =
@@ -202,7 +202,7 @@ module _ (config : Config) (ended : Histories)
     not_sooner : (trace : LineTrace) (h : History) (j k : ℕ) (e : BookEntry)
         → HasMade config n sooner.what trace one.made → HasFound config ended a b n sooner trace
         → slice_get (entries ended h) k ≡ Some e → slice_get (other.made h) j ≡ Some e → c h ≤ k
-        → is_traced sooner.what trace h k e ≡ true → ⊥
+        → is_traced sooner.what sooner.own trace h k e ≡ true → ⊥
     not_sooner (came.Fed pass rows refused) h j k e makes found there at more is =
         made_later later.trace pass rows h j e other.makes other.found.found makes.1 found.rows at is
     not_sooner (came.Poured pass ends) h j k e makes found there at more is =
@@ -309,7 +309,7 @@ module _ (config : Config) (ended : Histories) (begun : AreFronts (first_histori
   not_first : (from to : History → ℕ) (number : ℕ) (line : RanLine) (trace : LineTrace) (h : History) (k : ℕ)
       (e : BookEntry) → HasFound config ended from to number line trace
       → AreBelow (first_length config.topology ended) from → slice_get (entries ended h) k ≡ Some e
-      → k < first_length config.topology ended h → is_traced line.what trace h k e ≡ true → ⊥
+      → k < first_length config.topology ended h → is_traced line.what line.own trace h k e ≡ true → ⊥
   not_first from to number line (came.Fed pass rows refused) h k e found low there less is =
       let p = begins config.topology ended h begun in
       let opens = in_front IsOpening (entries (first_histories config.topology) h) p.0 k e

@@ -17,7 +17,7 @@ use Rattle.mon_value.specs.declared.histories.Histories.{Histories}
 use Rattle.mon_value.specs.declared.rows.Row.{Row}
 use Rattle.run_theory.specs.Parts.{between}
 use Rattle.run_theory.proofs.Stands.{between_stands, kept_stands, same_to}
-use Rattle.run_traces.specs.LineClaims.{FeedMade, HasMade}
+use Rattle.run_traces.specs.LineClaims.{FeedMade, HasFound, HasMade}
 use Rattle.run_traces.specs.LineFeeds.{HasItsAck, LineIsPaired}
 use Rattle.run_traces.specs.LineSwitches.{is_entry_of, is_fed, is_traced}
 use Rattle.run_traces.specs.RanLines.{RanLine}
@@ -84,18 +84,20 @@ module _ (config : Config) (ended : Histories) (seen later : List RanLine) (line
 
   paired_by : (h : History) (k : ℕ) (e : BookEntry) → slice_get (entries ended h) k ≡ Some e
       → is_entry_of line h k e ≡ true → (trace : LineTrace) → HasMade config place.number line.what trace made
-      → is_traced line.what trace h k e ≡ true → HasItsAck (entries ended) e
-  paired_by h k e there own (came.Fed pass accepted refused) makes mine =
+      → HasFound config ended place.from place.to place.number line trace
+      → is_traced line.what line.own trace h k e ≡ true → HasItsAck (entries ended) e
+  paired_by h k e there own (came.Fed pass accepted refused) makes found mine =
       fed_paired h k e there own pass accepted makes.0 makes.1 mine
-  paired_by h k e there own (came.Poured pass ends) makes mine =
+  paired_by h k e there own (came.Poured pass ends) makes found mine =
       fed_paired h k e there own pass ends.accepted makes.0 makes.1 mine
-  paired_by h k e there own (came.Asked moment trace) makes mine = absurd (false≢true mine)
-  paired_by h k e there own (came.Followed moment trace) makes mine = absurd (false≢true mine)
-  paired_by h k e there own (came.Ticked dues) makes mine = absurd (false≢true mine)
-  paired_by h k e there own (came.Controlled done) makes mine =
-      done_paired line.what done (entries ended) h k e mine
-  paired_by h k e there own (came.Refused why) makes mine = absurd (false≢true mine)
-  paired_by h k e there own came.Done makes mine = absurd (false≢true mine)
+  paired_by h k e there own (came.Asked moment trace) makes found mine = absurd (false≢true mine)
+  paired_by h k e there own (came.Followed moment trace) makes found mine = absurd (false≢true mine)
+  paired_by h k e there own (came.Ticked dues) makes found mine = absurd (false≢true mine)
+  paired_by h k e there own (came.Controlled done) makes found mine =
+      done_paired config ended place.from place.to place.number line.what line.own done h k e found there mine
+  paired_by h k e there own (came.Refused why) makes found mine = absurd (false≢true mine)
+  paired_by h k e there own came.Done makes found mine = absurd (false≢true mine)
 
   pub is_paired : LineIsPaired ended seen later line
-  is_paired h k e there mine = paired_by h k e there mine line.trace place.ran.makes mine
+  is_paired h k e there mine =
+      paired_by h k e there mine line.trace place.ran.makes place.ran.found.0.found mine

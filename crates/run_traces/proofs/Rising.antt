@@ -41,7 +41,8 @@ use Rattle.run_traces.specs.LineAsks.{moments_of, text_of}
 use Rattle.run_traces.specs.LineTables.{cuts_named}
 use Rattle.run_traces.specs.LineTexts.{asked_text, explanation, followed_text, line_text, moment_heading, shown_text}
 use Rattle.run_traces.specs.LineTexts.{typed_text}
-use Rattle.run_traces.specs.RanLines.{RanLine}
+use Rattle.run_traces.specs.LineTrims.{AreOwn}
+use Rattle.run_traces.specs.RanLines.{OwnPlace, RanLine}
 use Rattle.run_traces.specs.declared.line_files.LineFiles.{LineFiles}
 use Rattle.run_traces.specs.declared.traces.LineTrace.{LineTrace}
 use Rattle.run_traces.specs.declared.traces.LineTrace.TheVariants as came
@@ -54,7 +55,7 @@ use Rattle.run_traces.proofs.Causes.{line_wider}
 use Rattle.run_traces.proofs.Growth.{claims_grow, goes_on}
 use Rattle.run_traces.proofs.ListFacts.{all_as, all_at}
 use Rattle.run_traces.proofs.RowFacts.{fed_pass}
-use Rattle.run_traces.proofs.Controls.{done_wider}
+use Rattle.run_traces.proofs.Controls.{done_still}
 use Rattle.run_traces.proofs.RunFacts.{book_length, range_length}
 
 -- ---- lists
@@ -66,6 +67,11 @@ module _ {X : Type 0} where
       let same : k ≡ j = omega arith in subst (λ n. slice_get rest n ≡ Some x) same there
   behind_front (y ∷ front) rest zero j x e there = absurd (omega arith)
   behind_front (y ∷ front) rest (suc k) j x e there = behind_front front rest k j x (omega arith) there
+
+below_by : (n m : ℕ) → (m ≤ n → ⊥) → n < m
+below_by n zero never = absurd (never (omega arith))
+below_by zero (suc m) never = omega arith
+below_by (suc n) (suc m) never = let rest = below_by n m (λ le. never (omega arith)) in omega arith
 
 not_same : (n m : ℕ) → n ≡ m → nat_eq n m ≡ false → ⊥
 not_same n m e differs = grind (arith, nat_tests)
@@ -137,12 +143,16 @@ module _ (widen : (typed : TypedTree) (moment : ℤ) (from to earlier later : Le
           (none h k stands.0 stands.1 le)),
       stands.4,
     )
-      where
-        below_by : (n m : ℕ) → (m ≤ n → ⊥) → n < m
-        below_by n zero never = absurd (never (omega arith))
-        below_by zero (suc m) never = omega arith
-        below_by (suc n) (suc m) never =
-            let rest = below_by n m (λ le. never (omega arith)) in omega arith
+
+    owns_raised : (number : ℕ) (own : List OwnPlace) → HasNoneUnder number → AreOwn more from to number own
+        → AreOwn more from later number own
+    owns_raised number own none owns = record {
+      within = λ h k mine.
+          let a = owns.within h k mine in let c = a.1 in let b = up h in (a.0, omega arith);
+      under = owns.under;
+      all = λ h k e there low high under. owns.all h k e there low
+          (below_by k (to h) (λ le. not_same (book_entry_pass e) number under (none h k e there le))) under;
+    }
 
     amid_raised : (pass : ℕ) (front rest : List Row) (Is : Lengths → Lengths → Type 0) → HasNoneUnder pass
         → FoundAmid config more from to pass front rest Is → FoundAmid config more from later pass front rest Is
@@ -223,7 +233,7 @@ module _ (widen : (typed : TypedTree) (moment : ℤ) (from to earlier later : Le
     }
 
     found_raised : (number : ℕ) (made : History → List BookEntry) (trace : LineTrace) → HasNoneUnder number
-        → Makes config number (record { what = line.what; content = line.content; trace = trace }) made
+        → Makes config number (record { what = line.what; content = line.content; trace = trace; own = line.own }) made
         → HasFound config more from to number line trace → HasFound config more from later number line trace
     found_raised number made (came.Fed pass accepted refusals) none makes found = record {
       rows = all_new_raised accepted found.rows;
@@ -243,8 +253,10 @@ module _ (widen : (typed : TypedTree) (moment : ℤ) (from to earlier later : Le
       kept = found.kept;
       each = found.each;
     }
-    found_raised number made (came.Controlled done) none makes found = done_wider more more from to from later
-        (λ h. omega arith) up leaf_itself range_itself number line.what done found
+    found_raised number made (came.Controlled done) none makes found = done_still more more from to from later
+        (λ h. omega arith) up leaf_itself range_itself number line.what line.own config
+        (owns_raised number line.own none)
+        (λ one is. find (marked from) (marked to) (marked from) (marked later) more more one raised is) done found
     found_raised number made (came.Refused fault) none makes found =
         line_wider widen find rows config more more (marked from) (marked to) (marked from) (marked later) raised
         line.what fault found
@@ -355,26 +367,26 @@ module _ (widen : (typed : TypedTree) (moment : ℤ) (from to earlier later : Le
     }
 
     text_same : (from to : History → ℕ) (number : ℕ) (what : LineForm) (content : LineFiles) (trace : LineTrace)
-        → AreBelow from to → IsWithin entries to seen
-        → HasFound config seen from to number (record { what = what; content = content; trace = trace }) trace
-        → line_text config more (record { what = what; content = content; trace = trace })
-        ≡ line_text config seen (record { what = what; content = content; trace = trace })
-    text_same from to number what content (came.Fed pass accepted refusals) forth within found = refl
-    text_same from to number what content (came.Poured pass ends) forth within found = refl
-    text_same from to number what content (came.Asked moment trace) forth within found =
+        (own : List OwnPlace) → AreBelow from to → IsWithin entries to seen
+        → HasFound config seen from to number (record { what = what; content = content; trace = trace; own = own }) trace
+        → line_text config more (record { what = what; content = content; trace = trace; own = own })
+        ≡ line_text config seen (record { what = what; content = content; trace = trace; own = own })
+    text_same from to number what content (came.Fed pass accepted refusals) own forth within found = refl
+    text_same from to number what content (came.Poured pass ends) own forth within found = refl
+    text_same from to number what content (came.Asked moment trace) own forth within found =
         asked_same what moment trace (text_type config.schemas (text_of what))
         (rows found.typed moment (marked from) (marked to) (marked from) (marked to) seen more trace
         (wide from to forth within) found.of)
-    text_same from to number what content (came.Followed moment trace) forth within found =
+    text_same from to number what content (came.Followed moment trace) own forth within found =
         followed_same (moments_of what) trace (text_type config.schemas (text_of what))
         (rows found.look.typed moment (marked from) (marked to) (marked from) (marked to) seen more trace
         (wide from to forth within) found.look.of)
-    text_same from to number what content (came.Controlled done) forth within found = refl
-    text_same from to number what content (came.Refused fault) forth within found = refl
-    text_same from to number what content (came.Ticked dues) forth within found = absurd found
-    text_same from to number what content came.Done forth within found = refl
+    text_same from to number what content (came.Controlled done) own forth within found = refl
+    text_same from to number what content (came.Refused fault) own forth within found = refl
+    text_same from to number what content (came.Ticked dues) own forth within found = absurd found
+    text_same from to number what content came.Done own forth within found = refl
 
     pub line_same : (from to : History → ℕ) (number : ℕ) (line : RanLine) → IsWithin entries to seen
         → Finds config seen from to number line → line_text config more line ≡ line_text config seen line
     line_same from to number line within found =
-        text_same from to number line.what line.content line.trace found.forth within found.found
+        text_same from to number line.what line.content line.trace line.own found.forth within found.found

@@ -43,7 +43,7 @@ use Rattle.query_traces.proofs.LeafLemmas.{same_leaves}
 abbrev slot_numbered : ℕ → Slot
 slot_numbered n = record { 0 = n }
 
-slots_same : (a b : Slot) → nat_eq a.0 b.0 ≡ true → a ≡ b
+pub slots_same : (a b : Slot) → nat_eq a.0 b.0 ≡ true → a ≡ b
 slots_same a b is = let number : a.0 ≡ b.0 = equal_means a.0 b.0 is in ap slot_numbered number
 
 history_same : (leaf : Leaf) (h : History) → same_history (of.Leaf leaf) h ≡ true → of.Leaf leaf ≡ h

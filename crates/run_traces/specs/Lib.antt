@@ -8,4 +8,5 @@ pub mod LineForms
 pub mod LineSwitches
 pub mod LineTables
 pub mod LineTexts
+pub mod LineTrims
 pub mod RanLines

@@ -23,6 +23,16 @@ pub record Recovery : Type 0 where
   pub range : Range
   pub leaf : Leaf
 
+-- a range of which the rows that end before a bound are to be hidden
+pub record Bound : Type 0 where
+  pub range : Range
+  pub before : ℤ
+
+-- a range whose replica on a leaf is to serve no more
+pub record Withdrawal : Type 0 where
+  pub range : Range
+  pub leaf : Leaf
+
 -- the names of two files, as far as there are any
 pub record FileNames : Type 0 where
   pub first : Option (List ℕ)
@@ -42,6 +52,8 @@ pub record Asks : Type 0 where
   pub leaf : Option Leaf
   pub switch : Option Switch
   pub recovery : Option Recovery
+  pub bound : Option Bound
+  pub withdrawal : Option Withdrawal
 
 -- a text and a moment
 abbrev pub asking : List ℕ → ℤ → Asks
@@ -53,6 +65,8 @@ asking text moment = record {
   leaf = None;
   switch = None;
   recovery = None;
+  bound = None;
+  withdrawal = None;
 }
 
 -- a text that is asked at the first of some moments
@@ -65,6 +79,8 @@ following moments text = record {
   leaf = None;
   switch = None;
   recovery = None;
+  bound = None;
+  withdrawal = None;
 }
 
 -- files
@@ -77,23 +93,45 @@ feeding names = record {
   leaf = None;
   switch = None;
   recovery = None;
+  bound = None;
+  withdrawal = None;
 }
 
--- a leaf that is switched, or a range that is recovered onto a leaf
-abbrev pub control_leaf : ControlForm → Leaf
-control_leaf (control.Down leaf) = leaf
-control_leaf (control.Up leaf) = leaf
-control_leaf (control.Recover range leaf) = leaf
+-- a leaf that is switched, a range that is recovered onto a leaf or trimmed, or one whose replica on a leaf is retired
+abbrev pub control_leaf : ControlForm → Option Leaf
+control_leaf (control.Down leaf) = Some leaf
+control_leaf (control.Up leaf) = Some leaf
+control_leaf (control.Recover range leaf) = Some leaf
+control_leaf (control.Trim range before) = None
+control_leaf (control.Retire range leaf) = Some leaf
 
 abbrev pub control_switch : ControlForm → Option Switch
 control_switch (control.Down leaf) = Some (record { leaf = leaf; down = true })
 control_switch (control.Up leaf) = Some (record { leaf = leaf; down = false })
 control_switch (control.Recover range leaf) = None
+control_switch (control.Trim range before) = None
+control_switch (control.Retire range leaf) = None
 
 abbrev pub control_recovery : ControlForm → Option Recovery
 control_recovery (control.Down leaf) = None
 control_recovery (control.Up leaf) = None
 control_recovery (control.Recover range leaf) = Some (record { range = range; leaf = leaf })
+control_recovery (control.Trim range before) = None
+control_recovery (control.Retire range leaf) = None
+
+abbrev pub control_bound : ControlForm → Option Bound
+control_bound (control.Down leaf) = None
+control_bound (control.Up leaf) = None
+control_bound (control.Recover range leaf) = None
+control_bound (control.Trim range before) = Some (record { range = range; before = before })
+control_bound (control.Retire range leaf) = None
+
+abbrev pub control_withdrawal : ControlForm → Option Withdrawal
+control_withdrawal (control.Down leaf) = None
+control_withdrawal (control.Up leaf) = None
+control_withdrawal (control.Recover range leaf) = None
+control_withdrawal (control.Trim range before) = None
+control_withdrawal (control.Retire range leaf) = Some (record { range = range; leaf = leaf })
 
 abbrev pub controlling : ControlForm → Asks
 controlling what = record {
@@ -101,9 +139,11 @@ controlling what = record {
   moment = pos 0;
   moments = [];
   files = unnamed;
-  leaf = Some (control_leaf what);
+  leaf = control_leaf what;
   switch = control_switch what;
   recovery = control_recovery what;
+  bound = control_bound what;
+  withdrawal = control_withdrawal what;
 }
 
 -- a query that is to stand, or those that are due
@@ -146,6 +186,12 @@ switch_of what = (asks_of what).switch
 
 abbrev pub recovery_of : LineForm → Option Recovery
 recovery_of what = (asks_of what).recovery
+
+abbrev pub bound_of : LineForm → Option Bound
+bound_of what = (asks_of what).bound
+
+abbrev pub withdrawal_of : LineForm → Option Withdrawal
+withdrawal_of what = (asks_of what).withdrawal
 
 -- ---- queries
 

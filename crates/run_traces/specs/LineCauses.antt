@@ -34,9 +34,12 @@ use Rattle.range_cell.specs.declared.answers.WriteFault.{WriteFault}
 use Rattle.range_cell.specs.declared.answers.WriteFault.TheVariants as unwritten
 use Rattle.mon_script.specs.declared.forms.LineForm.{LineForm}
 use Rattle.mon_meaning.specs.Incremental.{is_incremental}
-use Rattle.run_traces.specs.LineAsks.{moment_of, moments_of, Recovery, recovery_of, Switch, switch_of, text_of}
+use Rattle.run_traces.specs.LineAsks.{Bound, bound_of, moment_of, moments_of, Recovery, recovery_of, Switch, switch_of}
+use Rattle.run_traces.specs.LineAsks.{text_of, Withdrawal, withdrawal_of}
 use Rattle.run_traces.specs.LineSwitches.{highs, lows}
 use Rattle.run_traces.specs.RanLines.{RanLine}
+use Rattle.run_traces.specs.declared.traces.ControlDone.{ControlDone}
+use Rattle.run_traces.specs.declared.traces.ControlDone.TheVariants as did
 use Rattle.run_traces.specs.declared.traces.ControlFault.{ControlFault}
 use Rattle.run_traces.specs.declared.traces.ControlFault.TheVariants as undone
 use Rattle.run_traces.specs.declared.traces.LineFault.{LineFault}
@@ -47,6 +50,10 @@ use Rattle.run_traces.specs.declared.traces.QuestionFault.{QuestionFault}
 use Rattle.run_traces.specs.declared.traces.QuestionFault.TheVariants as unanswered
 use Rattle.run_traces.specs.declared.traces.RecoveryFault.{RecoveryFault}
 use Rattle.run_traces.specs.declared.traces.RecoveryFault.TheVariants as unopened
+use Rattle.run_traces.specs.declared.traces.RetireRefusal.{RetireRefusal}
+use Rattle.run_traces.specs.declared.traces.RetireRefusal.TheVariants as unretired
+use Rattle.run_traces.specs.declared.traces.TrimRefusal.{TrimRefusal}
+use Rattle.run_traces.specs.declared.traces.TrimRefusal.TheVariants as untrimmed
 use Rattle.ingest_queue.specs.declared.refusals.RowRefusal.{RowRefusal}
 use Rattle.ingest_queue.specs.declared.refusals.RowRefused.{RowRefused}
 use Rattle.ingest_queue.specs.declared.refusals.RowRefused.TheVariants as refused
@@ -56,8 +63,11 @@ use Rattle.standing.specs.declared.faults.StandingFault.{StandingFault}
 use Rattle.standing.specs.declared.faults.StandingFault.TheVariants as unstood
 use Rattle.write_core.specs.Recovering.{denial_of}
 use Rattle.write_core.specs.RangeAnswers.{refusal}
+use Rattle.write_core.specs.Retirements.{retirement_of}
 use Rattle.write_core.specs.declared.copies.Denial.{Denial}
 use Rattle.write_core.specs.declared.copies.Denial.TheVariants as denial
+use Rattle.write_core.specs.declared.retirements.Retirement.{Retirement}
+use Rattle.write_core.specs.declared.retirements.Retirement.TheVariants as retirement
 use Rattle.write_core.specs.declared.refusals.Refused.{Refused}
 use Rattle.write_core.specs.declared.refusals.Refused.TheVariants as ranged
 
@@ -162,6 +172,22 @@ module _ (config : Config) (ended : Histories) (from to : Lengths) where
     pub source : HasSource recovery.range found
     pub down : IsFoundBetween from to ended (record { leaf = recovery.leaf; cut = cut })
 
+  -- no replica of the range that is to be trimmed was up
+  pub record IsTrimmedNowhere (what : LineForm) (range : Range) (founds : List FoundDown) : Type 0 where
+    pub bound : Bound
+    pub asked : bound_of what ≡ Some bound
+    pub range_is : range ≡ bound.range
+    pub none_up : HasNoneUp range founds
+    pub those : AreThoseServing range founds none_up
+
+  -- at a length of the range's history between them it retires no replica on the leaf, for this reason
+  pub record IsNotRetired (what : LineForm) (told : Retirement) : Type 0 where
+    pub withdrawal : Withdrawal
+    pub asked : withdrawal_of what ≡ Some withdrawal
+    pub found : ℕ
+    pub between : IsBetween (from.ranges withdrawal.range) (to.ranges withdrawal.range) found
+    pub told_so : retirement_of (take found (range_history ended withdrawal.range)) withdrawal.leaf ≡ told
+
   -- why a question has no table
   abbrev pub QuestionCause : LineForm → QuestionFault → Type 0
   QuestionCause what (unanswered.Parse parse) = text_type config.schemas (text_of what) ≡ Err (fault.Parse parse)
@@ -183,9 +209,18 @@ module _ (config : Config) (ended : Histories) (from to : Lengths) where
   RecoveryCause what (unopened.SourceDown founds) = HasNoSource what founds
   RecoveryCause what (unopened.TargetDown cut) = HasNoTarget what cut
 
+  abbrev pub TrimCause : LineForm → TrimRefusal → Type 0
+  TrimCause what (untrimmed.Unavailable range founds) = IsTrimmedNowhere what range founds
+
+  abbrev pub RetirementCause : LineForm → RetireRefusal → Type 0
+  RetirementCause what unretired.NotServing = IsNotRetired what retirement.NotServing
+  RetirementCause what (unretired.LastServing slot) = IsNotRetired what (retirement.LastServing slot)
+
   abbrev pub ControlCause : LineForm → ControlFault → Type 0
   ControlCause what (undone.Switch fault) = SwitchCause what fault
   ControlCause what (undone.Recovery fault) = RecoveryCause what fault
+  ControlCause what (undone.Trim fault) = TrimCause what fault
+  ControlCause what (undone.Retirement fault) = RetirementCause what fault
 
   -- why a query isn't to stand; that its name is taken is told by the queries that stand
   abbrev pub StandingCause : LineForm → StandingFault → Type 0
@@ -234,7 +269,7 @@ module _ (config : Config) (ended : Histories) (from to : Lengths) where
 
 -- a line with some of the rows that it accepted of a file
 abbrev pub fed : RanLine → ℕ → List Row → RanLine
-fed line pass rows = record { what = line.what; content = line.content; trace = came.Fed pass rows [] }
+fed line pass rows = record { what = line.what; content = line.content; trace = came.Fed pass rows []; own = [] }
 
 -- how many rows of a file had been accepted before a record of this number, of which so many before it were refused
 abbrev pub rows_before : ℕ → RowRefusal → ℕ
@@ -257,10 +292,17 @@ module _ (config : Config) (ended : Histories) (seen later : List RanLine) (line
 
 -- ---- rows that were taken, in their places
 
--- the leaves that an acknowledgement names as having missed the row were found down between two moments
+-- the leaves that an acknowledgement names as having missed the row, or the bound, were found down between two moments
 abbrev pub WereMissed : Histories → Lengths → Lengths → Ack → Type 0
 WereMissed ended from to ack = AllByRecursion
     (λ (miss : Miss). IsFoundBetween from to ended (record { leaf = miss.leaf; cut = miss.cut })) ack.missed
+
+-- those of a trim
+abbrev pub HaveMissed : Histories → Lengths → Lengths → ControlDone → Type 0
+HaveMissed ended from to (did.Switched cut) = Unit {0}
+HaveMissed ended from to (did.Recovered slot) = Unit {0}
+HaveMissed ended from to (did.Trimmed ack) = WereMissed ended from to ack
+HaveMissed ended from to (did.Retired slot) = Unit {0}
 
 module _ (config : Config) (ended : Histories) (seen later : List RanLine) (line : RanLine) (pass : ℕ)
     (accepted : List Row) where
@@ -286,13 +328,15 @@ module _ (config : Config) (ended : Histories) where
       RowsHaveCauses config ended seen later line pass (reads_of config.schemas content) accepted 0 refusals
       × RowsAreTaken config ended seen later line pass accepted 0 accepted
 
-  -- and so has a refused line
+  -- and so have a refused line, and each leaf that missed a trim
   abbrev pub IsCaused : List RanLine → List RanLine → RanLine → LineTrace → Type 0
   IsCaused seen later line (came.Fed pass accepted refusals) =
       FileIsCaused seen later line pass line.content.first accepted refusals
   IsCaused seen later line (came.Poured pass ends) =
       FileIsCaused seen later line pass line.content.first ends.first.accepted ends.first.refused
       × FileIsCaused seen later line pass line.content.second ends.second.accepted ends.second.refused
+  IsCaused seen later line (came.Controlled done) =
+      HaveMissed ended (lows config.topology ended seen) (highs config.topology ended later) done
   IsCaused seen later line (came.Refused fault) =
       HasCause config ended (lows config.topology ended seen) (highs config.topology ended later) line.what fault
   IsCaused seen later line other = Unit {0}

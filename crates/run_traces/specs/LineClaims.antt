@@ -17,6 +17,7 @@ use Rattle.mon_value.specs.declared.histories.Histories.{Histories}
 use Rattle.mon_value.specs.declared.histories.RangeEntry.TheVariants as range_entry
 use Rattle.mon_value.specs.declared.positions.Leaf.{Leaf}
 use Rattle.mon_value.specs.declared.positions.Range.{Range}
+use Rattle.mon_value.specs.declared.positions.Slot.{Slot}
 use Rattle.mon_value.specs.declared.rows.Row.{Row}
 use Rattle.mon_script.specs.declared.forms.LineForm.{LineForm}
 use Rattle.typed_trees.specs.Nodes.{TypedTree}
@@ -35,9 +36,12 @@ use Rattle.run_traces.specs.LineForms.{LineSuits}
 use Rattle.mon_meaning.specs.Incremental.{is_incremental}
 use Rattle.run_traces.specs.LineAsks.{moments_of, text_of}
 use Rattle.run_traces.specs.LineTables.{cuts_named, IsReadByPlan}
-use Rattle.run_traces.specs.LineSwitches.{DoneMade, first_length, is_fed, is_row, IsDoneBetween}
-use Rattle.run_traces.specs.RanLines.{RanLine}
+use Rattle.run_traces.specs.LineSwitches.{DoneMade, first_length, is_fed, is_row, IsRecoveredBetween, IsSwitchedBetween}
+use Rattle.run_traces.specs.LineTrims.{AreOwn, IsRetiredBetween, IsTrimmedBetween}
+use Rattle.run_traces.specs.RanLines.{OwnPlace, RanLine}
 use Rattle.run_traces.specs.declared.line_files.LineFiles.{LineFiles}
+use Rattle.run_traces.specs.declared.traces.ControlDone.{ControlDone}
+use Rattle.run_traces.specs.declared.traces.ControlDone.TheVariants as did
 use Rattle.run_traces.specs.declared.traces.LineTrace.{LineTrace}
 use Rattle.ingest_queue.specs.declared.ends.Poured.{Poured}
 use Rattle.ingest_queue.specs.declared.refusals.RowRefusal.{RowRefusal}
@@ -170,6 +174,25 @@ module _ (config : Config) (seen : Histories) (from to : History → ℕ) where
     pub kept : is_incremental look.typed.tree ≡ true
     pub each : AllByRecursion (λ at. load look.typed (source_of seen trace) at ≤ config.limit) moments
 
+  -- What came of a trim: it stands at the line's own places, which are those of the entries under its number; and each
+  -- leaf that missed it was found down
+  pub record TrimFound (n : ℕ) (what : LineForm) (own : List OwnPlace) (ack : Ack) : Type 0 where
+    pub trimmed : IsTrimmedBetween seen from to n what own ack
+    pub owns : AreOwn seen from to n own
+    pub missed : WereMissed seen (marked from) (marked to) ack
+
+  -- the same of a retirement, which no leaf can miss
+  pub record RetirementFound (n : ℕ) (what : LineForm) (own : List OwnPlace) (slot : Slot) : Type 0 where
+    pub retired : IsRetiredBetween seen from to n what own slot
+    pub owns : AreOwn seen from to n own
+
+  -- what came of a control
+  abbrev pub DoneFound : ℕ → LineForm → List OwnPlace → ControlDone → Type 0
+  DoneFound n what own (did.Switched cut) = IsSwitchedBetween seen from to n what cut
+  DoneFound n what own (did.Recovered slot) = IsRecoveredBetween seen from to n what slot
+  DoneFound n what own (did.Trimmed ack) = TrimFound n what own ack
+  DoneFound n what own (did.Retired slot) = RetirementFound n what own slot
+
   -- under its caller's number; a tick stands as the queries that it asked
   abbrev pub HasFound : ℕ → RanLine → LineTrace → Type 0
   HasFound n line (came.Fed pass accepted refused) = FeedFound line.content.first pass accepted refused
@@ -177,7 +200,7 @@ module _ (config : Config) (seen : Histories) (from to : History → ℕ) where
   HasFound n line (came.Asked moment trace) = LookFound (text_of line.what) moment trace
   HasFound n line (came.Followed moment trace) = FollowFound (text_of line.what) (moments_of line.what) moment trace
   HasFound n line (came.Ticked dues) = ⊥
-  HasFound n line (came.Controlled done) = IsDoneBetween seen from to n line.what done
+  HasFound n line (came.Controlled done) = DoneFound n line.what line.own done
   HasFound n line (came.Refused why) = HasCause config seen (marked from) (marked to) line.what why
   HasFound n line came.Done = Unit {0}
 

@@ -54,6 +54,7 @@ due_line one = record {
   what = query_form one.due.at one.due.text;
   content = no_files;
   trace = end_trace one.due.at one.end;
+  own = [];
 }
 
 -- a tick as the queries that it asked, one after another, and any other line as it is

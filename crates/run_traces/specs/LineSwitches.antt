@@ -30,8 +30,11 @@ use Rattle.mon_value.specs.Same.{same_series}
 use Rattle.query_traces.specs.Traces.{Lengths}
 use Rattle.run_theory.specs.InPlace as theory
 use Rattle.mon_config.specs.declared.config.Config.{Config}
-use Rattle.run_traces.specs.LineAsks.{control_recovery, control_switch, leaf_of, Recovery, recovery_of, Switch, switch_of}
-use Rattle.run_traces.specs.RanLines.{RanLine}
+use Rattle.run_traces.specs.LineAsks.{bound_of, control_bound, control_recovery, control_switch, control_withdrawal}
+use Rattle.run_traces.specs.LineAsks.{leaf_of, Recovery, recovery_of, Switch, switch_of, withdrawal_of}
+use Rattle.run_traces.specs.LineTrims.{HasOnePlace, IsRetiredBetween, IsTrimmedBetween, MadeOnly, retire_refusal_text}
+use Rattle.run_traces.specs.LineTrims.{retire_text, retires, trim_refusal_text, trim_text, trims}
+use Rattle.run_traces.specs.RanLines.{OwnPlace, RanLine, is_own}
 use Rattle.run_traces.specs.declared.traces.ControlDone.{ControlDone}
 use Rattle.run_traces.specs.declared.traces.ControlDone.TheVariants as did
 use Rattle.run_traces.specs.declared.traces.ControlFault.{ControlFault}
@@ -42,6 +45,8 @@ use Rattle.run_traces.specs.declared.traces.RecoveryFault.{RecoveryFault}
 use Rattle.run_traces.specs.declared.traces.RecoveryFault.TheVariants as unopened
 use Rattle.run_traces.specs.declared.traces.SwitchFault.{SwitchFault}
 use Rattle.run_traces.specs.declared.traces.SwitchFault.TheVariants as unswitched
+use Rattle.run_traces.specs.declared.traces.TrimRefusal.{TrimRefusal}
+use Rattle.run_traces.specs.declared.traces.TrimRefusal.TheVariants as untrimmed
 
 -- Lines that take a leaf down or up, and lines that open a range's replica on a leaf: which entries of the histories are
 -- theirs, and where these stand.
@@ -122,10 +127,12 @@ module _ (seen : Histories) (from to : History → ℕ) (pass : ℕ) (what : Lin
     pub held : StandsBetween (from (of.Leaf recovery.leaf)) (to (of.Leaf recovery.leaf))
         (leaf_history seen recovery.leaf) (entry.Opened pass recovery.range slot rows)
 
-  -- what came of a control stands between two lengths of each history
-  abbrev pub IsDoneBetween : ControlDone → Type 0
-  IsDoneBetween (did.Switched cut) = IsSwitchedBetween cut
-  IsDoneBetween (did.Recovered slot) = IsRecoveredBetween slot
+  -- what came of a control stands between two lengths of each history, at the line's own places where it has such
+  abbrev pub IsDoneBetween : List OwnPlace → ControlDone → Type 0
+  IsDoneBetween own (did.Switched cut) = IsSwitchedBetween cut
+  IsDoneBetween own (did.Recovered slot) = IsRecoveredBetween slot
+  IsDoneBetween own (did.Trimmed ack) = IsTrimmedBetween seen from to pass what own ack
+  IsDoneBetween own (did.Retired slot) = IsRetiredBetween seen from to pass what own slot
 
 -- Which entries of a history are a line's, and the line's place there: both are computed from the histories at the end
 -- of the run and from what the lines came to.
@@ -148,20 +155,24 @@ is_fed pass rows (one.Range (range_entry.Acked by row ack)) = nat_eq by pass && 
 is_fed pass rows (one.Range (range_entry.Trimmed by before ack)) = false
 is_fed pass rows (one.Range (range_entry.Retired by slot)) = false
 
-abbrev pub is_done : LineForm → ControlDone → History → ℕ → BookEntry → Bool
-is_done what (did.Switched cut) history place e = switches (switch_of what) history e && nat_eq (place + 1) cut
-is_done what (did.Recovered slot) history place e = recovers (recovery_of what) slot history e
+abbrev pub is_done : LineForm → List OwnPlace → ControlDone → History → ℕ → BookEntry → Bool
+is_done what own (did.Switched cut) history place e = switches (switch_of what) history e && nat_eq (place + 1) cut
+is_done what own (did.Recovered slot) history place e = recovers (recovery_of what) slot history e
+is_done what own (did.Trimmed ack) history place e = is_own own history place && trims (bound_of what) ack history e
+is_done what own (did.Retired slot) history place e =
+    is_own own history place && retires (withdrawal_of what) slot history e
 
-abbrev pub is_traced : LineForm → LineTrace → History → ℕ → BookEntry → Bool
-is_traced what (came.Fed pass accepted refused) history place e = is_fed pass accepted e
-is_traced what (came.Poured pass ends) history place e = is_fed pass ends.accepted e
-is_traced what (came.Controlled done) history place e = is_done what done history place e
-is_traced what other history place e = false
+abbrev pub is_traced : LineForm → List OwnPlace → LineTrace → History → ℕ → BookEntry → Bool
+is_traced what own (came.Fed pass accepted refused) history place e = is_fed pass accepted e
+is_traced what own (came.Poured pass ends) history place e = is_fed pass ends.accepted e
+is_traced what own (came.Controlled done) history place e = is_done what own done history place e
+is_traced what own other history place e = false
 
--- whether the entry at a place of a history is of a line: a feed or a pour has those of the rows that it accepted, a switch of
--- a leaf has the one that is the last of so many, and a recovery has those that open its slot
+-- Whether the entry at a place of a history is of a line: a feed or a pour has those of the rows that it accepted, a switch of
+-- a leaf has the one that is the last of so many, a recovery has those that open its slot, and a trim or a retirement has
+-- those that do what it asks for, at its own places
 abbrev pub is_entry_of : RanLine → History → ℕ → BookEntry → Bool
-is_entry_of line history place e = is_traced line.what line.trace history place e
+is_entry_of line history place e = is_traced line.what line.own line.trace history place e
 
 -- ---- where a line stands
 
@@ -202,19 +213,29 @@ module _ (config : Config) (ended : Histories) where
       → slice_get (entries ended history) place ≡ Some e → is_entry_of line history place e ≡ true
       → (low config.topology ended seen history ≤ place) × (place < high config.topology ended later history)
 
--- What lines did that take a leaf down or up, or open a range's replica on a leaf.
+-- What lines did that take a leaf down or up, open a range's replica on a leaf, trim a range, or retire a replica.
+
+-- where a line has places of its own, its range's history has one of them
+abbrev pub IsDoneOnce : List OwnPlace → ControlDone → Type 0
+IsDoneOnce own (did.Switched cut) = Unit {0}
+IsDoneOnce own (did.Recovered slot) = Unit {0}
+IsDoneOnce own (did.Trimmed ack) = HasOnePlace own
+IsDoneOnce own (did.Retired slot) = HasOnePlace own
 
 module _ (config : Config) (ended : Histories) (seen later : List RanLine) where
-  -- A leaf that was switched has the switch as the last of so many entries, in the line's place; and a slot that was
-  -- opened stands in its range's and in its leaf's history, both in the line's place
-  abbrev pub IsControlled : LineForm → LineTrace → Type 0
-  IsControlled what (came.Controlled done) = (pass : ℕ)
-      × IsDoneBetween ended (low config.topology ended seen) (high config.topology ended later) pass what done
-  IsControlled what other = Unit {0}
+  -- A leaf that was switched has the switch as the last of so many entries, in the line's place; a slot that was opened
+  -- stands in its range's and in its leaf's history, both in the line's place; a bound is acknowledged once in its range's
+  -- history, and the leaf of each slot that took it has the trim; and a slot that was retired is retired once, and was
+  -- opened on the line's leaf
+  abbrev pub IsControlled : LineForm → List OwnPlace → LineTrace → Type 0
+  IsControlled what own (came.Controlled done) = (pass : ℕ)
+      × IsDoneBetween ended (low config.topology ended seen) (high config.topology ended later) pass what own done
+      × IsDoneOnce own done
+  IsControlled what own other = Unit {0}
 
 -- of each line, with those that its caller had seen and those whose callers had seen it
 abbrev pub LineIsControlled : Config → Histories → List RanLine → List RanLine → RanLine → Type 0
-LineIsControlled config ended seen later line = IsControlled config ended seen later line.what line.trace
+LineIsControlled config ended seen later line = IsControlled config ended seen later line.what line.own line.trace
 
 -- What controls made.
 
@@ -232,6 +253,8 @@ module _ (config : Config) where
   abbrev pub DoneMade : LineForm → ControlDone → (History → List BookEntry) → Type 0
   DoneMade what (did.Switched cut) made = SwitchMade what made
   DoneMade what (did.Recovered slot) made = RecoveryMade what slot made
+  DoneMade what (did.Trimmed ack) made = MadeOnly (trims (bound_of what) ack) made
+  DoneMade what (did.Retired slot) made = MadeOnly (retires (withdrawal_of what) slot) made
 
 -- What each control comes to, and why it may be refused: what is done, or isn't, is asked for.
 
@@ -242,10 +265,14 @@ IsAsked (Some x) = Unit {0}
 abbrev pub DoneSuits : ControlForm → ControlDone → Type 0
 DoneSuits what (did.Switched cut) = IsAsked (control_switch what)
 DoneSuits what (did.Recovered slot) = IsAsked (control_recovery what)
+DoneSuits what (did.Trimmed ack) = IsAsked (control_bound what)
+DoneSuits what (did.Retired slot) = IsAsked (control_withdrawal what)
 
 abbrev pub UndoneSuits : ControlForm → ControlFault → Type 0
 UndoneSuits what (undone.Switch fault) = IsAsked (control_switch what)
 UndoneSuits what (undone.Recovery fault) = IsAsked (control_recovery what)
+UndoneSuits what (undone.Trim fault) = IsAsked (control_bound what)
+UndoneSuits what (undone.Retirement fault) = IsAsked (control_withdrawal what)
 
 -- The cuts that they name of a leaf.
 
@@ -270,13 +297,20 @@ recovery_cuts leaf on (unopened.SlotsSpent count) = []
 recovery_cuts leaf on (unopened.SourceDown founds) = found_cuts leaf founds
 recovery_cuts leaf on (unopened.TargetDown cut) = cut_at leaf on cut
 
+abbrev pub trim_cuts : Leaf → TrimRefusal → List ℕ
+trim_cuts leaf (untrimmed.Unavailable range founds) = found_cuts leaf founds
+
 abbrev pub undone_cuts : Leaf → LineForm → ControlFault → List ℕ
 undone_cuts leaf what (undone.Switch fault) = switch_cuts leaf (leaf_of what) fault
 undone_cuts leaf what (undone.Recovery fault) = recovery_cuts leaf (leaf_of what) fault
+undone_cuts leaf what (undone.Trim fault) = trim_cuts leaf fault
+undone_cuts leaf what (undone.Retirement fault) = []
 
 abbrev pub done_cuts : Leaf → LineForm → ControlDone → List ℕ
 done_cuts leaf what (did.Switched cut) = cut_at leaf (leaf_of what) cut
 done_cuts leaf what (did.Recovered slot) = []
+done_cuts leaf what (did.Trimmed ack) = []
+done_cuts leaf what (did.Retired slot) = []
 
 -- What they print.
 
@@ -293,6 +327,8 @@ recovery_text zones (Some recovery) slot = recovered_text zones recovery.range r
 abbrev pub control_done_text : List ZoneSpec → LineForm → ControlDone → List ℕ
 control_done_text zones what (did.Switched cut) = switch_text zones (switch_of what)
 control_done_text zones what (did.Recovered slot) = recovery_text zones (recovery_of what) slot
+control_done_text zones what (did.Trimmed ack) = trim_text zones (bound_of what) ack
+control_done_text zones what (did.Retired slot) = retire_text zones (withdrawal_of what) slot
 
 -- why it was not done
 abbrev pub switch_fault_text : SwitchFault → List ℕ
@@ -310,3 +346,5 @@ recovery_fault_text zones (unopened.TargetDown cut) = control_refusal_text (refu
 abbrev pub control_fault_text : List ZoneSpec → ControlFault → List ℕ
 control_fault_text zones (undone.Switch fault) = switch_fault_text fault
 control_fault_text zones (undone.Recovery fault) = recovery_fault_text zones fault
+control_fault_text zones (undone.Trim fault) = trim_refusal_text zones fault
+control_fault_text zones (undone.Retirement fault) = retire_refusal_text fault

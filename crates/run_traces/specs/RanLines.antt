@@ -1,5 +1,8 @@
 -- The lines of a script that ran, and its parts: lines one after another, and blocks whose lines run beside each other.
-use Rattle.std.specs.Prelude.{ℕ, Bool, true, false, List, [], ◌∷◌, ◌++◌, Option, Some, None}
+use Rattle.std.specs.Prelude.{ℕ, Bool, true, false, List, [], ◌∷◌, ◌++◌, ◌&&◌, nat_eq, Option, Some, None}
+use Rattle.std.specs.List.{list_any}
+use Rattle.history_book.specs.Histories.{same_history}
+use Rattle.history_book.specs.declared.views.History.{History}
 use Rattle.mon_value.specs.declared.rows.Row.{Row}
 use Rattle.run_theory.specs.Parts.{Alone, Beside, Part}
 use Rattle.run_traces.specs.declared.line_files.LineFiles.{LineFiles}
@@ -11,11 +14,22 @@ use Rattle.mon_script.specs.declared.places.Mark.{Mark}
 use Rattle.mon_script.specs.declared.places.Mark.TheVariants as mark
 use Rattle.mon_script.specs.declared.script.ScriptLine.{ScriptLine}
 
--- a line that ran: what it says, what its files held, and what it came to
+-- a place of a history, counted from 0
+pub record OwnPlace : Type 0 where
+  pub history : History
+  pub place : ℕ
+
+-- whether a place of a history is among these
+abbrev pub is_own : List OwnPlace → History → ℕ → Bool
+is_own own history place = list_any (λ (one : OwnPlace). same_history one.history history && nat_eq one.place place) own
+
+-- A line that ran: what it says, what its files held, and what it came to; and the places of its entries, where what it
+-- came to doesn't tell them from those of an equal line, as of a trim
 pub record RanLine : Type 0 where
   pub what : LineForm
   pub content : LineFiles
   pub trace : LineTrace
+  pub own : List OwnPlace
 
 -- of a line that names no file, or one
 abbrev pub no_files : LineFiles
@@ -24,13 +38,16 @@ no_files = record { first = []; second = [] }
 abbrev pub one_file : List ℕ → LineFiles
 one_file content = record { first = content; second = [] }
 
--- the lines of a script that have a trace, with what the files of each held
-abbrev pub ran_lines : List ScriptLine → List LineFiles → List LineTrace → List RanLine
-ran_lines [] contents traces = []
-ran_lines (line ∷ lines) [] traces = []
-ran_lines (line ∷ lines) (content ∷ contents) [] = []
-ran_lines (line ∷ lines) (content ∷ contents) (trace ∷ traces) =
-    record { what = line.what; content = content; trace = trace } ∷ ran_lines lines contents traces
+-- The lines of a script that have a trace, with what the files of each held, and with the places that are told of each:
+-- none where these run out
+abbrev pub ran_lines : List ScriptLine → List LineFiles → List LineTrace → List (List OwnPlace) → List RanLine
+ran_lines [] contents traces places = []
+ran_lines (line ∷ lines) [] traces places = []
+ran_lines (line ∷ lines) (content ∷ contents) [] places = []
+ran_lines (line ∷ lines) (content ∷ contents) (trace ∷ traces) [] =
+    record { what = line.what; content = content; trace = trace; own = [] } ∷ ran_lines lines contents traces []
+ran_lines (line ∷ lines) (content ∷ contents) (trace ∷ traces) (own ∷ places) =
+    record { what = line.what; content = content; trace = trace; own = own } ∷ ran_lines lines contents traces places
 
 -- ---- parts
 

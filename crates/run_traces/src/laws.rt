@@ -31,8 +31,8 @@ pub fn runs_go_on()
 }
 
 /// Where the parts of a script ran one after another, each line with what it made and found, and the histories at the end
-/// go on in some that bear each other out, the tables, the rows, the refusals, the switches and the recoveries are as an
-/// operator reads them.
+/// go on in some that bear each other out, the tables, the rows, the refusals, the switches, the recoveries, the trims and
+/// the retirements are as an operator reads them.
 pub fn runs_hold()
     ensures holds { (config : ConfigOf) (ended whole : Histories) (parts : List (Part RanLine))
         → AreFronts (first_histories config.topology) ended → AreFronts ended whole

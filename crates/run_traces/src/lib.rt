@@ -10,5 +10,5 @@ pub use laws::{finds_stay, parts_keep_the_lines, runs_go_on, runs_hold, texts_st
 pub use line_files::LineFiles;
 pub use traces::{
     ControlDone, ControlFault, DueEnd, DueTrace, DueTraces, LineFault, LineTrace, LineTraces,
-    QuestionFault, RecoveryFault, SwitchFault,
+    QuestionFault, RecoveryFault, RetireRefusal, SwitchFault, TrimRefusal,
 };

@@ -1,6 +1,6 @@
 // What a line came to.
 use ingest_queue::{FedRows, Poured, RowRefusals};
-use mon_value::{Founds, ListOf, Range, Slot};
+use mon_value::{Ack, Founds, ListOf, Range, Slot};
 use mql_parse::ParseFault;
 use query_traces::Trace;
 use standing::{Due, DueFault, StandingFault};
@@ -45,11 +45,29 @@ pub enum RecoveryFault {
     TargetDown(u64),
 }
 
+/// Why a range was not trimmed.
+#[derive(Drop)]
+pub enum TrimRefusal {
+    /// Each replica of the range that serves is on a leaf that was found down.
+    Unavailable(Range, Founds),
+}
+
+/// Why no replica of a range on a leaf was retired.
+#[derive(Clone, Copy)]
+pub enum RetireRefusal {
+    /// None serves there.
+    NotServing,
+    /// It is the only one that serves, in this slot.
+    LastServing(Slot),
+}
+
 /// Why a control was not done.
 #[derive(Drop)]
 pub enum ControlFault {
     Switch(SwitchFault),
     Recovery(RecoveryFault),
+    Trim(TrimRefusal),
+    Retirement(RetireRefusal),
 }
 
 /// Why a line was refused.
@@ -87,12 +105,16 @@ pub struct DueTrace {
 pub type DueTraces = ListOf<DueTrace>;
 
 /// What came of a control that was done.
-#[derive(Clone, Copy)]
+#[derive(Drop)]
 pub enum ControlDone {
     /// A leaf went down or came up: how many entries its history has then.
     Switched(u64),
     /// A range has one replica more: its slot.
     Recovered(Slot),
+    /// A range was trimmed: which of its replicas took the bound, and which missed it.
+    Trimmed(Ack),
+    /// A replica of a range serves no more: its slot.
+    Retired(Slot),
 }
 
 /// What a line of a script came to.

@@ -1,4 +1,4 @@
--- What a line of a schedule says of a leaf is lawful.
+-- What a line of a schedule says of a leaf or a range is lawful.
 use Rattle.mon_schema.specs.Names.{SchemaLists}
 use Rattle.mon_script.specs.Controls.{IsLawfulControl}
 use Rattle.mon_script.specs.declared.controls.ControlForm.{ControlForm}
@@ -13,3 +13,5 @@ pub call_lawful : (held : SchemaLists) (zones : List ZoneSpec) (what : ControlFo
 call_lawful held zones (control.Down leaf) lawful = lawful
 call_lawful held zones (control.Up leaf) lawful = lawful
 call_lawful held zones (control.Recover range leaf) lawful = lawful
+call_lawful held zones (control.Trim range before) lawful = lawful
+call_lawful held zones (control.Retire range leaf) lawful = lawful

@@ -12,11 +12,9 @@ use Rattle.mon_script.specs.declared.controls.ControlForm.{ControlForm}
 use Rattle.mon_script.specs.declared.controls.ControlForm.TheVariants as control
 use Rattle.mon_script.specs.declared.controls.ControlWord.{ControlWord}
 use Rattle.mon_script.specs.declared.faults.ScriptKind.{ScriptKind}
-use Rattle.mon_topo.specs.Zones.{leaf_named, range_named}
 use Rattle.mon_topo.specs.declared.zones.ZoneSpec.{ZoneSpec}
 use Rattle.mon_value.specs.Values.{number_of}
 use Rattle.mon_value.specs.Same.{same_text}
-use Rattle.mon_value.specs.declared.positions.Range.{Range}
 use Rattle.mon_value.specs.declared.rows.Row.{Row}
 use Rattle.schedule_lines.specs.EventNames.{event_named}
 use Rattle.schedule_lines.specs.declared.calls.Call.{Call}
@@ -46,9 +44,6 @@ actor_and_rest = spelled_first actor_of
 abbrev pub moment_and_rest : List ℕ → Option (ℤ × List ℕ)
 moment_and_rest = spelled_first moment_of
 
-abbrev pub range_and_rest : List ZoneSpec → List ℕ → Option (Range × List ℕ)
-range_and_rest zones = spelled_first (range_named zones)
-
 -- ---- what stands behind the first word
 
 -- just one record, which is a row
@@ -74,11 +69,13 @@ abbrev pub schedule_query_form : List ℕ → Option LineForm
 schedule_query_form rest =
     option_and_then (λ words. option_and_then (asked_by words.0) (moment_and_rest words.1)) (actor_and_rest rest)
 
--- what is done to a leaf
+-- what is done to a leaf or a range
 abbrev pub call_of : ControlForm → Call
 call_of (control.Down leaf) = call.Down leaf
 call_of (control.Up leaf) = call.Up leaf
 call_of (control.Recover range leaf) = call.Recover range leaf
+call_of (control.Trim range before) = call.Trim range before
+call_of (control.Retire range leaf) = call.Retire range leaf
 
 abbrev pub controlled_by : ℕ → Result ControlForm ScriptKind → Option LineForm
 controlled_by actor (Ok what) = Some (form.Declare actor (call_of what))
@@ -88,24 +85,6 @@ controlled_by actor (Err why) = None
 abbrev pub schedule_control_form : List ZoneSpec → ControlWord → List ℕ → Option LineForm
 schedule_control_form zones what rest =
     option_and_then (λ words. controlled_by words.0 (control_of zones what words.1)) (actor_and_rest rest)
-
-abbrev pub trimmed_by : ℕ → Range × List ℕ → Option LineForm
-trimmed_by actor words = option_map (λ before. form.Declare actor (call.Trim words.0 before)) (moment_of words.1)
-
--- an actor, a range, and the moment below which the range's rows are to be hidden
-abbrev pub trim_form : List ZoneSpec → List ℕ → Option LineForm
-trim_form zones rest =
-    option_and_then (λ words. option_and_then (trimmed_by words.0) (range_and_rest zones words.1)) (actor_and_rest rest)
-
-abbrev pub retired_by : List ZoneSpec → ℕ → Range × List ℕ → Option LineForm
-retired_by zones actor words =
-    option_map (λ leaf. form.Declare actor (call.Retire words.0 leaf)) (leaf_named zones words.1)
-
--- an actor, a range and a leaf, of whichever zones
-abbrev pub retire_form : List ZoneSpec → List ℕ → Option LineForm
-retire_form zones rest =
-    option_and_then (λ words. option_and_then (retired_by zones words.0) (range_and_rest zones words.1))
-    (actor_and_rest rest)
 
 abbrev pub met_by : ℕ → ℕ → Option LineForm
 met_by actor other = if nat_eq actor other then None else Some (form.Meet actor other)
@@ -128,17 +107,10 @@ turn_form word rest =
     else if same_text word (codes "finish") then option_map form.Finish (actor_of rest)
     else None
 
--- what is done to a range, or whose turn it is
-abbrev pub range_form : List ZoneSpec → List ℕ → List ℕ → Option LineForm
-range_form zones word rest =
-    if same_text word (codes "trim") then trim_form zones rest
-    else if same_text word (codes "retire") then retire_form zones rest
-    else turn_form word rest
-
 -- what is done to a leaf or a range, or whose turn it is
 abbrev pub switch_form_by : List ZoneSpec → List ℕ → List ℕ → Option ControlWord → Option LineForm
 switch_form_by zones word rest (Some what) = schedule_control_form zones what rest
-switch_form_by zones word rest None = range_form zones word rest
+switch_form_by zones word rest None = turn_form word rest
 
 abbrev pub switch_form : List ZoneSpec → List ℕ → List ℕ → Option LineForm
 switch_form zones word rest = switch_form_by zones word rest (control_word word)

@@ -1,10 +1,9 @@
 // What a line of a schedule says.
-ghost use Rattle.std.specs.Prelude.{◌≡◌, ◌<◌, true, length, List, option_map, IfOk, IfSome};
+ghost use Rattle.std.specs.Prelude.{◌≡◌, true, List, option_map, IfOk, IfSome};
 ghost use Rattle.mon_schema.specs.Fits.{fits};
 ghost use Rattle.mon_schema.specs.Names.{SchemaLists};
 ghost use Rattle.std.specs.List.{AllByRecursion};
 ghost use Rattle.mon_points.specs.Fitting.{ReadFits};
-ghost use Rattle.mon_topo.specs.Zones.{ranges_in};
 ghost use Rattle.mon_topo.specs.declared.zones.ZoneSpec.{ZoneSpec};
 ghost use Rattle.schedule_lines.specs.LawfulLines.{IsActorNumber, IsLawfulForm, IsMoment};
 ghost use Rattle.schedule_lines.specs.ScheduleLines as spec;
@@ -16,7 +15,7 @@ use mon_points::{RowRead, RowReads, read_rows};
 use mon_schema::Schemas;
 use mon_script::{ControlForm, ControlWord, control_of, control_word, cut_at, moment_of};
 use mon_topo::Topology;
-use mon_value::{OutOfMemory, Range, Row, Text, read_number};
+use mon_value::{OutOfMemory, Row, Text, read_number};
 use std::alloc::Global;
 
 /// What a line says.
@@ -113,45 +112,11 @@ fn switch_form(topology: &Topology, word: &[u8], rest: &[u8]) -> Option<LineForm
 {
     match control_word(word) {
         Some(what) => control_form(topology, what, rest),
-        None => range_form(topology, word, rest),
+        None => turn_form(word, rest),
     }
 }
 
-// What says what is done to a range, or whose turn it is.
-fn range_form(topology: &Topology, word: &[u8], rest: &[u8]) -> Option<LineForm>
-    ensures form { result ≡ spec.range_form topology.now word.now rest.now }
-    ensures lawful { (held : SchemaLists) → IfSome result (IsLawfulForm held topology.now) }
-{
-    if word == b"trim".as_slice() {
-        trim_form(topology, rest)
-    } else if word == b"retire".as_slice() {
-        retire_form(topology, rest)
-    } else {
-        turn_form(word, rest)
-    }
-}
-
-// A trim of a range below a moment.
-fn trim_form(topology: &Topology, rest: &[u8]) -> Option<LineForm>
-    ensures form { result ≡ spec.trim_form topology.now rest.now }
-    ensures lawful { (held : SchemaLists) → IfSome result (IsLawfulForm held topology.now) }
-{
-    let (actor, rest) = actor_and_rest(rest)?;
-    let (range, before) = range_and_rest(topology, rest)?;
-    Some(LineForm::Declare(actor, Call::Trim(range, moment_of(before)?)))
-}
-
-// A retirement of a range's replica on a leaf.
-fn retire_form(topology: &Topology, rest: &[u8]) -> Option<LineForm>
-    ensures form { result ≡ spec.retire_form topology.now rest.now }
-    ensures lawful { (held : SchemaLists) → IfSome result (IsLawfulForm held topology.now) }
-{
-    let (actor, rest) = actor_and_rest(rest)?;
-    let (range, leaf) = range_and_rest(topology, rest)?;
-    Some(LineForm::Declare(actor, Call::Retire(range, topology.leaf_named(leaf)?)))
-}
-
-// An actor, and what it does to a leaf.
+// An actor, and what it does to a leaf or a range.
 fn control_form(topology: &Topology, what: ControlWord, rest: &[u8]) -> Option<LineForm>
     ensures form { result ≡ spec.schedule_control_form topology.now what rest.now }
     ensures lawful { (held : SchemaLists) → IfSome result (IsLawfulForm held topology.now) }
@@ -163,7 +128,7 @@ fn control_form(topology: &Topology, what: ControlWord, rest: &[u8]) -> Option<L
     }
 }
 
-// What is done to a leaf.
+// What is done to a leaf or a range.
 fn call_of(what: ControlForm) -> Call
     ensures call { result ≡ spec.call_of what }
 {
@@ -171,6 +136,8 @@ fn call_of(what: ControlForm) -> Call
         ControlForm::Down(leaf) => Call::Down(leaf),
         ControlForm::Up(leaf) => Call::Up(leaf),
         ControlForm::Recover(range, leaf) => Call::Recover(range, leaf),
+        ControlForm::Trim(range, before) => Call::Trim(range, before),
+        ControlForm::Retire(range, leaf) => Call::Retire(range, leaf),
     }
 }
 
@@ -230,15 +197,6 @@ fn moment_and_rest(text: &[u8]) -> Option<(i64, &[u8])>
 {
     let (word, rest) = cut_at(text, b' ')?;
     Some((moment_of(word)?, rest))
-}
-
-// The range that the first word names, and what stands behind the space.
-fn range_and_rest<'t>(topology: &Topology, text: &'t [u8]) -> Option<(Range, &'t [u8])>
-    ensures words { option_map (λ words. (words.0, words.1.now)) result ≡ spec.range_and_rest topology.now text.now }
-    ensures there { IfSome result (λ words. words.0.0 < length (ranges_in topology.now)) }
-{
-    let (word, rest) = cut_at(text, b' ')?;
-    Some((topology.range_named(word)?, rest))
 }
 
 // The actor that a word names.

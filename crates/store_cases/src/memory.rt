@@ -2,7 +2,7 @@
 use crate::places::Place;
 use crate::trouble::Trouble;
 use know::Names;
-use mon_store::{Pass, RecoverFault};
+use mon_store::{Pass, RecoverFault, TrimFault};
 use mon_topo::ranges_have_replicas;
 use mon_value::{Range, Slot};
 use std::sync::Wait;
@@ -12,6 +12,9 @@ const RANGE: Range = Range(0);
 
 /// The leaf of its first replica.
 const FIRST: &str = "e1";
+
+/// Two of the three rows end before it.
+const BOUND: i64 = 12;
 
 /// A step of the scenario.
 #[derive(Clone, Copy)]
@@ -23,6 +26,10 @@ enum Step {
     Up,
     /// The range is recovered onto its first leaf, in this slot.
     Recover(u32),
+    /// The rows of the range that end before the bound are hidden.
+    Trim,
+    /// The replica on the first leaf is retired, which is in this slot.
+    Retire(u32),
 }
 
 /// What is found behind a step: so many rows, and leaves whose histories are so long.
@@ -32,7 +39,8 @@ struct Stage(usize, [u64; 3]);
 /// Each replica of the range is opened.
 const START: Stage = Stage(0, [1, 1, 1]);
 
-/// A row that all take, one that the first leaf misses, and one that all take again.
+/// A row that all take, one that the first leaf misses, one that all take again, and a bound that all take; and then the
+/// first leaf serves no longer.
 const STEPS: &[(Step, Stage)] = &[
     (Step::Write("T,/m,10,10,1,a,e\n"), Stage(1, [2, 2, 2])),
     (Step::Down, Stage(1, [3, 2, 2])),
@@ -40,10 +48,12 @@ const STEPS: &[(Step, Stage)] = &[
     (Step::Up, Stage(2, [4, 3, 3])),
     (Step::Recover(3), Stage(2, [5, 3, 3])),
     (Step::Write("T,/m,12,12,3,a,e\n"), Stage(3, [6, 4, 4])),
+    (Step::Trim, Stage(1, [7, 5, 5])),
+    (Step::Retire(3), Stage(1, [7, 5, 5])),
 ];
 
-/// Rows are written to three replicas, one of which misses one and is recovered. Where memory is wanting for a step no
-/// replica has a part of it, and it can be done then.
+/// Rows are written to three replicas, one of which misses one and is recovered, and then two of them are hidden. Where
+/// memory is wanting for a step no replica has a part of it, and it can be done then.
 pub(crate) fn nothing_is_half_done<N: Names, R: Wait>(
     rt: &R,
     place: &Place<N>,
@@ -100,6 +110,8 @@ fn perform<N: Names, R: Wait>(
         Step::Down => Ok(switch(rt, place, first, true)),
         Step::Up => Ok(switch(rt, place, first, false)),
         Step::Recover(slot) => recover(rt, place, first, slot),
+        Step::Trim => trim(rt, place, first),
+        Step::Retire(slot) => Ok(retire(rt, place, first, slot)),
     }
 }
 
@@ -154,5 +166,38 @@ fn recover<N: Names, R: Wait>(
             drop(fault);
             Ok(false)
         }
+    }
+}
+
+// Hides the rows of the range that end before the bound.
+fn trim<N: Names, R: Wait>(rt: &R, place: &Place<N>, first: &mut Pass<N>) -> Result<bool, Trouble> {
+    if place.store.config().topology.ranges() == 0 {
+        return Ok(false);
+    }
+    match place.store.trim(rt, place.alloc, first, RANGE, BOUND) {
+        Ok(ack) => {
+            drop(ack);
+            Ok(true)
+        }
+        Err(TrimFault::OutOfMemory) => Err(Trouble::OutOfMemory),
+        Err(fault) => {
+            drop(fault);
+            Ok(false)
+        }
+    }
+}
+
+// Retires the replica on the first leaf, and says whether that was in the slot. No memory is taken.
+fn retire<N: Names, R: Wait>(rt: &R, place: &Place<N>, first: &mut Pass<N>, slot: u32) -> bool {
+    let topology = &place.store.config().topology;
+    let Some(leaf) = topology.leaf_named(FIRST.as_bytes()) else {
+        return false;
+    };
+    if topology.ranges() == 0 {
+        return false;
+    }
+    match place.store.retire(rt, first, RANGE, leaf) {
+        Ok(retired) => retired == Slot(slot),
+        Err(_fault) => false,
     }
 }

@@ -1,11 +1,12 @@
 -- What an actor prints that ends.
 use Rattle.std.specs.Prelude.{ℕ, Bool, List, ◌++◌, codes, length, Result, Ok, Err}
 use Rattle.std.specs.Fmt.{decimal}
-use Rattle.mon_script.specs.Controls.{control_refusal_text, recovered_text, source_down_text, switched_text}
+use Rattle.mon_script.specs.Controls.{control_refusal_text, recovered_text, retired_text, source_down_text, switched_text}
+use Rattle.mon_script.specs.Controls.{trimmed_text}
 use Rattle.mon_script.specs.declared.control_texts.ControlRefusal.{ControlRefusal}
 use Rattle.mon_script.specs.declared.control_texts.ControlRefusal.TheVariants as control
 use Rattle.mon_table.specs.Tables.{newline, printed_table}
-use Rattle.mon_topo.specs.Zones.{down_text, leaf_text, range_text}
+use Rattle.mon_topo.specs.Zones.{down_text}
 use Rattle.mon_topo.specs.declared.zones.ZoneSpec.{ZoneSpec}
 use Rattle.mon_value.specs.Turns.{Adds, Hides, Turn}
 use Rattle.mon_value.specs.declared.histories.Ack.{Ack}
@@ -39,14 +40,14 @@ abbrev pub deed_of : Turn → Deed
 deed_of (Adds row) = deed.Write
 deed_of (Hides before) = deed.Trim
 
--- how many replicas took it, and how many missed it
-abbrev pub taken_text : Ack → List ℕ
-taken_text ack = decimal (length ack.took) ++ (codes ", missed " ++ (decimal (length ack.missed) ++ newline))
+-- a row was written: so many replicas took it, and so many missed it
+abbrev pub written_text : Ack → List ℕ
+written_text ack = codes "written: took " ++ (decimal (length ack.took)
+    ++ (codes ", missed " ++ (decimal (length ack.missed) ++ newline)))
 
 abbrev pub done_text : List ZoneSpec → Deed → Range → Ack → List ℕ
-done_text zones deed.Write range ack = codes "written: took " ++ taken_text ack
-done_text zones deed.Trim range ack =
-    codes "trim " ++ (range_text zones range ++ (codes ": took " ++ taken_text ack))
+done_text zones deed.Write range ack = written_text ack
+done_text zones deed.Trim range ack = trimmed_text zones range ack
 
 -- that a row was written, or a range trimmed; or why not
 abbrev pub write_end_text : List ZoneSpec → Deed → Range → WriteEnd → List ℕ
@@ -65,11 +66,9 @@ switch_text zones leaf down (SwitchesSpent count) = refused_line (control_refusa
 
 -- the slot of a range that was retired from a leaf, or why none was
 abbrev pub retire_text : List ZoneSpec → Range → Leaf → Retirement → List ℕ
-retire_text zones range leaf (WasRetired slot) =
-    codes "retire " ++ (range_text zones range ++ (codes " " ++ (leaf_text zones leaf
-    ++ (codes ": slot " ++ (decimal slot.0 ++ newline)))))
-retire_text zones range leaf NotServing = refused_line (codes "NotServing")
-retire_text zones range leaf (LastServing slot) = refused_line (codes "LastServing " ++ decimal slot.0)
+retire_text zones range leaf (WasRetired slot) = retired_text zones range leaf slot
+retire_text zones range leaf NotServing = refused_line (control_refusal_text control.NotServing)
+retire_text zones range leaf (LastServing slot) = refused_line (control_refusal_text (control.LastServing slot))
 
 -- why a range opens no replica on a leaf
 abbrev pub denial_told : Denial → ControlRefusal

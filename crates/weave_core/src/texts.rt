@@ -8,9 +8,11 @@ ghost use Rattle.core_store.specs.Switches.{switch_told};
 ghost use Rattle.write_core.specs.RangeAnswers.{refused_text};
 
 use core_store::{Change, Retiring, Switched, Switching};
-use mon_script::{ControlRefusal, recovered_text, source_down_text, switched_text};
+use mon_script::{
+    ControlRefusal, recovered_text, retired_text, source_down_text, switched_text, trimmed_text,
+};
 use mon_table::print;
-use mon_topo::{Topology, down_text, leaf_text, range_text};
+use mon_topo::{Topology, down_text};
 use mon_value::{Ack, FoundDown, Leaf, OutOfMemory, Range, Text};
 use query_core::{Answer, RoundFault, fault_text};
 use query_texts::TextFault;
@@ -46,56 +48,47 @@ pub(crate) fn write_end_text(
 ) -> Result<Text, OutOfMemory>
     ensures text { IfOk result (λ text. text ≡ spec.write_end_text topology.now deed range end.now) }
 {
-    Text::from_string(write_line(alloc, topology, deed, range, end)?)
-}
-
-// The line of it.
-fn write_line(
-    alloc: Global,
-    topology: &Topology,
-    deed: Deed,
-    range: Range,
-    end: &WriteEnd,
-) -> Result<String, OutOfMemory>
-    ensures line { IfOk result (λ line. string_bytes line ≡ spec.write_end_text topology.now deed range end.now) }
-{
     match end {
-        WriteEnd::Written(ack) => done_line(alloc, topology, deed, range, ack),
-        WriteEnd::OldPoint(last) => refused_line(alloc, Refused::OldPoint(*last)),
-        WriteEnd::RangeFull(limit) => refused_line(alloc, Refused::RangeFull(*limit)),
+        WriteEnd::Written(ack) => done_text(alloc, topology, deed, range, ack),
+        WriteEnd::OldPoint(last) => write_refused(alloc, Refused::OldPoint(*last)),
+        WriteEnd::RangeFull(limit) => write_refused(alloc, Refused::RangeFull(*limit)),
         WriteEnd::Unavailable(founds) => {
             let down = down_text(alloc, topology, range, founds.as_slice())?;
-            format!(in alloc; "refused: Unavailable {down}\n")
+            Text::from_string(format!(in alloc; "refused: Unavailable {down}\n")?)
         }
     }
 }
 
-// The line of a write or a trim that some replica took.
-fn done_line(
+// The text of a write or a trim that some replica took.
+fn done_text(
     alloc: Global,
     topology: &Topology,
     deed: Deed,
     range: Range,
     ack: &Ack,
-) -> Result<String, OutOfMemory>
-    ensures line { IfOk result (λ line. string_bytes line ≡ spec.done_text topology.now deed range ack.now) }
+) -> Result<Text, OutOfMemory>
+    ensures text { IfOk result (λ text. text ≡ spec.done_text topology.now deed range ack.now) }
 {
-    let took = ack.took.len();
-    let missed = ack.missed.len();
     match deed {
-        Deed::Write => format!(in alloc; "written: took {took}, missed {missed}\n"),
-        Deed::Trim => {
-            let range = range_text(alloc, topology, range)?;
-            format!(in alloc; "trim {range}: took {took}, missed {missed}\n")
-        }
+        Deed::Write => written_text(alloc, ack),
+        Deed::Trim => trimmed_text(alloc, topology, range, ack),
     }
 }
 
-// The line of a write that its range refuses.
-fn refused_line(alloc: Global, why: Refused) -> Result<String, OutOfMemory>
-    ensures line { IfOk result (λ line. string_bytes line ≡ spec.refused_line (refused_text why)) }
+// The text of a write that some replica took.
+fn written_text(alloc: Global, ack: &Ack) -> Result<Text, OutOfMemory>
+    ensures text { IfOk result (λ text. text ≡ spec.written_text ack.now) }
 {
-    format!(in alloc; "refused: {why}\n")
+    let took = ack.took.len();
+    let missed = ack.missed.len();
+    Text::from_string(format!(in alloc; "written: took {took}, missed {missed}\n")?)
+}
+
+// The text of a write that its range refuses.
+fn write_refused(alloc: Global, why: Refused) -> Result<Text, OutOfMemory>
+    ensures text { IfOk result (λ text. text ≡ spec.refused_line (refused_text why)) }
+{
+    Text::from_string(format!(in alloc; "refused: {why}\n")?)
 }
 
 /// The text of a switch of which this came.
@@ -116,7 +109,7 @@ pub(crate) fn switch_text(
     }
 }
 
-// The line of a leaf that is not switched, or of a range that is not recovered.
+// The line of a leaf that is not switched, or of a range that is not recovered or retired.
 fn control_refused(alloc: Global, why: ControlRefusal) -> Result<Text, OutOfMemory>
     ensures text { IfOk result (λ text. text ≡ spec.refused_line (control_refusal_text why)) }
 {
@@ -132,31 +125,16 @@ pub(crate) fn retire_text(
 ) -> Result<Text, OutOfMemory>
     ensures text { IfOk result (λ text. text ≡ spec.retire_text topology.now retiring.range retiring.leaf came) }
 {
-    Text::from_string(retire_line(alloc, topology, retiring, came)?)
-}
-
-// The line of it.
-fn retire_line(
-    alloc: Global,
-    topology: &Topology,
-    retiring: Retiring,
-    came: Retirement,
-) -> Result<String, OutOfMemory>
-    ensures line { IfOk result (λ line.
-        string_bytes line ≡ spec.retire_text topology.now retiring.range retiring.leaf came) }
-{
     match came {
-        Retirement::WasRetired(slot) => {
-            let range = range_text(alloc, topology, retiring.range)?;
-            let leaf = leaf_text(topology, retiring.leaf);
-            let number = slot.0;
-            format!(in alloc; "retire {range} {leaf}: slot {number}\n")
-        }
-        Retirement::NotServing => format!(in alloc; "refused: NotServing\n"),
-        Retirement::LastServing(slot) => {
-            let number = slot.0;
-            format!(in alloc; "refused: LastServing {number}\n")
-        }
+        Retirement::WasRetired(slot) => retired_text(
+            alloc,
+            topology,
+            retiring.range,
+            retiring.leaf,
+            slot,
+        ),
+        Retirement::NotServing => control_refused(alloc, ControlRefusal::NotServing),
+        Retirement::LastServing(slot) => control_refused(alloc, ControlRefusal::LastServing(slot)),
     }
 }
 

@@ -1,5 +1,5 @@
 -- How the lines of a script run, one part after another.
-use Rattle.std.specs.Prelude.{◌≡◌, ◌⊎◌, ℕ, Bool, List, [], ◌∷◌, ◌++◌, length, map, Option, IfSome, Result, Err, ◌≤◌}
+use Rattle.std.specs.Prelude.{◌≡◌, ◌⊎◌, ℕ, Bool, List, [], ◌∷◌, ◌++◌, drop, length, map, take, Option, IfSome, Result, Err, ◌≤◌}
 use Rattle.history_book.specs.Histories.{AreFronts}
 use Rattle.mon_config.specs.declared.config.Config.{Config}
 use Rattle.mon_script.specs.Scripts.{script_in}
@@ -8,7 +8,7 @@ use Rattle.mon_script.specs.declared.script.ScriptLine.{ScriptLine}
 use Rattle.mon_value.specs.declared.histories.Histories.{Histories}
 use Rattle.mon_run.specs.Endings.{Progress, LinesTell, ScriptTells}
 use Rattle.mon_run.specs.Outside.{Files}
-use Rattle.mon_run.specs.Plans.{behind_first, contents_of, first_content, forms_of, lines_by, lines_plan, lines_read}
+use Rattle.mon_run.specs.Plans.{behind_first, contents_of, first_content, forms_of, left_plan, lines_read}
 use Rattle.mon_run.specs.Plans.{part_plan, parts_plan, reads_behind, script_plan, sought, store_plan}
 use Rattle.mon_run.specs.Steps.{Plan, Print, Step, plan_behind}
 use Rattle.mon_run.specs.declared.stop.Stop.{Stop}
@@ -20,7 +20,7 @@ use Rattle.run_theory.specs.Parts.{Alone, Beside, Part, lines_of}
 use Rattle.run_traces.specs.LineClaims.{AllRan, HaveGrown}
 use Rattle.run_traces.specs.LineDues.{asked_part, asked_parts}
 use Rattle.run_traces.specs.LineTexts.{line_text}
-use Rattle.run_traces.specs.RanLines.{RanLine, parts_of, ran_lines}
+use Rattle.run_traces.specs.RanLines.{OwnPlace, RanLine, parts_of, ran_lines}
 use Rattle.run_traces.specs.declared.line_files.LineFiles.{LineFiles}
 use Rattle.run_traces.specs.declared.traces.LineTrace.{LineTrace}
 use Rattle.run_traces.specs.declared.traces.LineTrace.TheVariants as came
@@ -81,29 +81,43 @@ pub record Noted (traces : List LineTrace) (before after : Progress) : Type 0 wh
 abbrev pub StandApart : List RanLine → Type 0
 StandApart lines = (more : List RanLine) → parts_of (lines ++ more) ≡ parts_of lines ++ parts_of more
 
+-- lines that ran, by what the reads gave and by the places of their own entries
+abbrev pub placed_by : Files → List (List OwnPlace) → List ScriptLine → List LineTrace → List RanLine
+placed_by reads places lines traces = ran_lines lines (contents_of (forms_of lines) reads) traces places
+
 module _ (config : Config) where
+  -- their plan, and that of those that are left
+  abbrev pub placed_plan : Files → List (List OwnPlace) → Histories → ℕ → List ScriptLine → List LineTrace → Plan
+  placed_plan reads places later status lines traces =
+      parts_plan (line_text config later) (parts_of (placed_by reads places lines traces))
+      (left_plan status (drop (length traces) lines) (reads_behind (forms_of (take (length traces) lines)) reads))
+
   -- Lines ran, from what the script's caller had seen to what it has seen: what they came to was noted; they ran in
-  -- their places, behind whatever ran before; and what they print is so over all that is seen later
+  -- their places, behind whatever ran before, each with the places of its own entries; and what they print is so over
+  -- all that is seen later
   pub record LinesRan (lines : List ScriptLine) (from known : Histories) (before after : Progress) : Type 0 where
     pub contents : List LineFiles
     pub traces : List LineTrace
+    pub places : List (List OwnPlace)
     pub ends : after.ends ≡ before.ends ++ traces
     pub count : length traces ≡ length lines
+    pub placed : length places ≡ length lines
     pub given : Files
     pub gave : after.folder.gave ≡ before.folder.gave ++ given
     pub have : HaveGiven (forms_of lines) contents given
-    pub apart : StandApart (ran_lines lines contents traces)
+    pub apart : StandApart (ran_lines lines contents traces places)
     pub grown : HaveGrown from known
     pub ran : (parts : List (Part RanLine)) → AllRan config from parts
-        → AllRan config known (parts ++ asked_parts (parts_of (ran_lines lines contents traces)))
+        → AllRan config known (parts ++ asked_parts (parts_of (ran_lines lines contents traces places)))
     pub did : (later : Histories) → HaveGrown known later
-        → Ran (parts_plan (line_text config later) (parts_of (ran_lines lines contents traces))) before after
+        → Ran (parts_plan (line_text config later) (parts_of (ran_lines lines contents traces places))) before after
 
   -- Lines stopped: those that ran did so, and the run stopped in what their plan says over all that is seen later.
   -- Where memory ran out, more may have been seen in the end than the lines that ran had seen
   pub record LinesStopped (lines : List ScriptLine) (stopped : Stop) (from ended : Histories)
       (before after : Progress) : Type 0 where
     pub traces : List LineTrace
+    pub places : List (List OwnPlace)
     pub ends : after.ends ≡ before.ends ++ traces
     pub few : length traces ≤ length lines
     pub reads : Files
@@ -113,9 +127,9 @@ module _ (config : Config) where
     pub front : AreFronts known ended
     pub whole : (stopped ≡ stop.OutOfMemory) ⊎ (known ≡ ended)
     pub ran : (parts : List (Part RanLine)) → AllRan config from parts
-        → AllRan config known (parts ++ asked_parts (parts_of (lines_by config reads lines traces)))
+        → AllRan config known (parts ++ asked_parts (parts_of (placed_by reads places lines traces)))
     pub stops : (later : Histories) → HaveGrown known later → (status : ℕ)
-        → Stops (lines_plan config reads later status lines traces) stopped before after
+        → Stops (placed_plan reads places later status lines traces) stopped before after
 
   -- the lines up to some that are left ran
   pub record LinesRanTo (lines left : List ScriptLine) (from known : Histories) (before after : Progress) : Type 0
@@ -174,20 +188,22 @@ pub record StoppedEarly (forms : List LineForm) (from ended : Histories) (stoppe
 -- ---- a line alone
 
 -- what a line is that came to something
-abbrev pub alone_in : LineForm → LineFiles → LineTrace → Part RanLine
-alone_in what content trace = Alone (record { what = what; content = content; trace = trace })
+abbrev pub alone_in : LineForm → LineFiles → LineTrace → List OwnPlace → Part RanLine
+alone_in what content trace own = Alone (record { what = what; content = content; trace = trace; own = own })
 
 pub record AloneRan (config : Config) (what : LineForm) (from known : Histories) (before after : Progress) : Type 0
   where
     pub content : LineFiles
     pub trace : LineTrace
-    pub went : PartWent config (alone_in what content trace) (trace ∷ []) from known before after
+    pub own : List OwnPlace
+    pub went : PartWent config (alone_in what content trace own) (trace ∷ []) from known before after
 
 pub record AloneCut (config : Config) (what : LineForm) (from ended : Histories) (stopped : Stop)
     (before after : Progress) : Type 0 where
   pub content : LineFiles
   pub trace : LineTrace
-  pub cut : PartCut config (alone_in what content trace) (trace ∷ []) from ended before after stopped
+  pub own : List OwnPlace
+  pub cut : PartCut config (alone_in what content trace own) (trace ∷ []) from ended before after stopped
 
 pub record AloneHalts (config : Config) (what : LineForm) (from ended : Histories) (stopped : Stop)
     (before after : Progress) : Type 0 where
@@ -201,24 +217,28 @@ pub record AloneHalts (config : Config) (what : LineForm) (from ended : Historie
 abbrev pub block_traces : List LineTrace → List LineTrace
 block_traces traces = came.Done ∷ (traces ++ came.Done ∷ [])
 
-abbrev pub block_in : List ScriptLine → List LineFiles → List LineTrace → Part RanLine
-block_in lines contents traces = Beside (ran_lines lines contents traces)
+abbrev pub block_in : List ScriptLine → List LineFiles → List LineTrace → List (List OwnPlace) → Part RanLine
+block_in lines contents traces places = Beside (ran_lines lines contents traces places)
 
 pub record BlockRan (config : Config) (lines : List ScriptLine) (from known : Histories) (before after : Progress)
     : Type 0 where
   pub contents : List LineFiles
   pub traces : List LineTrace
+  pub places : List (List OwnPlace)
   pub held : length contents ≡ length lines
   pub count : length traces ≡ length lines
-  pub went : PartWent config (block_in lines contents traces) (block_traces traces) from known before after
+  pub placed : length places ≡ length lines
+  pub went : PartWent config (block_in lines contents traces places) (block_traces traces) from known before after
 
 pub record BlockCut (config : Config) (lines : List ScriptLine) (from ended : Histories) (stopped : Stop)
     (before after : Progress) : Type 0 where
   pub contents : List LineFiles
   pub traces : List LineTrace
+  pub places : List (List OwnPlace)
   pub held : length contents ≡ length lines
   pub count : length traces ≡ length lines
-  pub cut : PartCut config (block_in lines contents traces) (block_traces traces) from ended before after stopped
+  pub placed : length places ≡ length lines
+  pub cut : PartCut config (block_in lines contents traces places) (block_traces traces) from ended before after stopped
 
 pub record BlockHalts (config : Config) (lines : List ScriptLine) (from ended : Histories) (stopped : Stop)
     (before after : Progress) : Type 0 where

@@ -1,4 +1,4 @@
-use Rattle.std.proofs.Common.{rules, ◌≡◌, ℤ, IfOk, Ok, Err, ap, subst, to_z, of_z, w64}
+use Rattle.std.proofs.Common.{rules, ◌≡◌, IfOk, Ok, Err, ap, subst, to_z, of_z, w64}
 use Rattle.line_runs.proofs.Answered.{answer_is}
 use Rattle.line_runs.proofs.Ended.{at_limit, refused_ran}
 use Rattle.line_runs.proofs.FollowTables.{among_all}

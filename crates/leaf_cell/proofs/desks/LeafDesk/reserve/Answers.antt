@@ -30,8 +30,8 @@ returns-then-down-clause-reserved g c =
 
 -- ---- memory is asked for
 
-pub reserve-requires : goal.reserve-requires
-reserve-requires g c =
+pub reserve_turn-requires : goal.reserve_turn-requires
+reserve_turn-requires g c =
     let owner = c.args.self.now.owner in
     let know = c.args.know.now in
     let whole = leaf_history owner.book.seen owner.leaf in
@@ -47,10 +47,10 @@ pub returns-then-is_err-clause-rest : goal.returns-then-is_err-clause-rest
 returns-then-is_err-clause-rest g c =
     let state = c.args.self.now.state in
     let owner = c.args.self.now.owner in
-    let same : c.reserve.new.self ≡ state = search rules in
+    let same : c.reserve_turn.new.state ≡ state = search rules in
     rests_gone g.N.Names.setting g.N.RaiseName.raise owner.leaf.0 state owner c.receive-length.new.self
     c.args.know.now c.receive-length.result c.requires.rest c.receive-length.ensures.received move.Keep
-    c.reserve.new.self c.part-then-is_err.new.self same c.part-then-is_err.ensures.parted
+    c.reserve_turn.new.state c.part-then-is_err.new.self same c.part-then-is_err.ensures.parted
 
 pub returns-then-is_err-clause-refused : goal.returns-then-is_err-clause-refused
 returns-then-is_err-clause-refused g c =
@@ -68,7 +68,7 @@ returns-clause-rest g c =
     let state = c.args.self.now.state in
     let owner = c.args.self.now.owner in
     rests_reserved g.N.Names.setting g.N.RaiseName.raise owner.leaf.0 state owner c.receive-length.new.self
-    c.args.know.now c.receive-length.result c.requires.rest c.receive-length.ensures.received c.reserve.new.self
+    c.args.know.now c.receive-length.result c.requires.rest c.receive-length.ensures.received c.reserve_turn.new.state
     c.part-2.new.self (search rules) c.part-2.ensures.parted
 
 pub returns-clause-reserved : goal.returns-clause-reserved

@@ -6,7 +6,7 @@ use Rattle.mon_run.specs.declared.stop.Stop.{Stop}
 use Rattle.mon_run.specs.declared.stop.Stop.TheVariants as stop
 use Rattle.mon_run.specs.within.Lines.{AloneHalts}
 use Rattle.mon_run.specs.within.Stops.{WriteStops, seen}
-use Rattle.mon_run.proofs.DueLemmas.{noted_due, on_err_of}
+use Rattle.mon_run.proofs.DueLemmas.{noted_due, on_err_of, on_ok_of}
 use Rattle.mon_run.proofs.EndLemmas.{counts_then}
 use Rattle.mon_run.proofs.RunLemmas.{err_weaker, handed_on}
 use Rattle.mon_run.proofs.ScriptLemmas.{alone_cut, alone_ran, alone_starved, alone_unread, read_still}
@@ -60,7 +60,7 @@ returns-clause-ran g c =
     let after : Progress = seen g.F.Folder.state g.O.Sink.state c.write.new.self in
     on_ok_weaker c.write.result (λ wrote.
     alone_ran {content = c.in_ok-content.content} {know = c.args.p.now} {known = c.run_alone.new.p}
-    c.in_ok-content.ensures.read c.in_ok-ran.ensures.ran.tells c.in_ok-end.ensures.ended
+    c.in_ok-content.ensures.read c.in_ok-ran.ensures.ran.acted.tells c.in_ok-end.ensures.ended
     (ap (λ log. log.traces.items) c.content.ensures.log) after
     (subst (λ (t : List ℕ). Did (Write t ∷ []) ended after) c.as_bytes.ensures.bytes wrote)
     (ap (λ log. log.traces.items) c.write.ensures.log)) c.write.ensures.wrote
@@ -75,7 +75,7 @@ returns-clause-stops g c =
     (λ (s : Stop). AloneHalts c.args.store.now c.args.what.now c.args.p.now.seen c.run_alone.new.p.seen s before after)
     (λ stopped stops.
     alone_cut {content = c.in_ok-content.content} {know = c.args.p.now} {known = c.run_alone.new.p}
-    c.in_ok-content.ensures.read c.in_ok-ran.ensures.ran.tells c.in_ok-end.ensures.ended
+    c.in_ok-content.ensures.read c.in_ok-ran.ensures.ran.acted.tells c.in_ok-end.ensures.ended
     (ap (λ log. log.traces.items) c.content.ensures.log) after stopped
     (counts_then c.content.ensures.continues.counts c.end.ensures.continues.counts)
     (ap (λ log. log.traces.items) c.write.ensures.log) c.write.ensures.folder
@@ -94,6 +94,9 @@ returns-in_err-end-clause-due_so_far g c =
     let read : Progress = seen g.F.Folder.state g.O.Sink.state c.content.new.self in
     on_err_of c.from_residual-in_err-end.result
     (inl (c.in_err-end.ensures.kept.ends ∙ append-nil read.ends ∙ ap (λ log. log.traces.items) c.content.ensures.log))
+
+pub returns-clause-every : goal.returns-clause-every
+returns-clause-every g c = on_ok_of c.write.result c.in_ok-ran.ensures.ran.acted.tells.every
 
 pub returns-clause-due : goal.returns-clause-due
 returns-clause-due g c = on_ok_weaker c.write.result (λ wrote.

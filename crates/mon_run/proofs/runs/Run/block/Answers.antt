@@ -12,9 +12,7 @@ use Rattle.mon_run.proofs.EndLemmas.{counts_then}
 use Rattle.mon_run.proofs.RunLemmas.{err_weaker, handed_on}
 use Rattle.mon_run.proofs.ScriptLemmas.{block_cut, block_ran, block_starved, block_unread, did_end}
 use Rattle.mon_run.proofs.runs.Run.block.Goals as goal
-use Rattle.part_runs.specs.PartsDone.{PartTells}
-use Rattle.run_traces.specs.RanLines.{ran_lines}
-use Rattle.run_theory.specs.Parts.{Beside}
+use Rattle.part_runs.specs.PartsDone.{ActedBeside}
 use Rattle.run_traces.specs.declared.traces.LineTrace.{LineTrace}
 use Rattle.run_traces.specs.declared.line_files.LineFiles.{LineFiles}
 use Rattle.running_query.proofs.GoingLemmas.{same_fronts}
@@ -88,13 +86,13 @@ returns-clause-ran g c =
     subst (λ (p : Progress). Noted (block_traces traces) p noted) c.room.ensures.same c.came.ensures.noted in
     let printed : c.as_slice-2.result.now ≡ texts = c.as_slice-2.ensures.value ∙ c.came.ensures.texts
     ∙ ap (λ (t : List (List ℕ)). t ++ texts) c.in_ok-texts.ensures.none in
+    let beside : ActedBeside c.args.store.now lines contents rans c.args.p.now c.run_beside.new.p =
+    subst (λ (held : List LineFiles). ActedBeside c.args.store.now lines held rans c.args.p.now c.run_beside.new.p)
+    c.as_slice.ensures.items c.in_ok-rans.ensures.ran in
     on_ok_weaker c.texts.result (λ wrote.
-    block_ran c.args.store.now lines contents traces texts c.args.p.now c.run_beside.new.p before read noted
-    c.in_ok-contents.ensures.read c.in_ok-contents.ensures.count
-    (length-map rans (λ (ran : LineRan). ran.trace) ∙ c.in_ok-rans.ensures.each)
-    (subst (λ (held : List LineFiles). PartTells c.args.store.now (Beside (ran_lines lines held traces)) texts
-    c.args.p.now
-    c.run_beside.new.p) c.as_slice.ensures.items c.in_ok-rans.ensures.ran)
+    block_ran c.args.store.now lines contents traces beside.places texts c.args.p.now c.run_beside.new.p before read
+    noted c.in_ok-contents.ensures.read c.in_ok-contents.ensures.count
+    (length-map rans (λ (ran : LineRan). ran.trace) ∙ c.in_ok-rans.ensures.each) beside.count beside.tells
     (did_end (block_traces traces) put.folder put.sink put.ends) (ap (λ log. log.traces.items) c.contents.ensures.log)
     put.ends after (subst (λ (t : List (List ℕ)). Did (prints t) noted after) printed wrote)
     (ap (λ log. log.traces.items) c.texts.ensures.log)) c.texts.ensures.wrote
@@ -116,15 +114,15 @@ returns-clause-stops g c =
     ∙ ap (λ (t : List (List ℕ)). t ++ texts) c.in_ok-texts.ensures.none in
     let counts = counts_then c.contents.ensures.continues.counts
     (counts_then c.room.ensures.continues.counts c.came.ensures.continues.counts) in
+    let beside : ActedBeside c.args.store.now lines contents rans c.args.p.now c.run_beside.new.p =
+    subst (λ (held : List LineFiles). ActedBeside c.args.store.now lines held rans c.args.p.now c.run_beside.new.p)
+    c.as_slice.ensures.items c.in_ok-rans.ensures.ran in
     err_weaker c.texts.result (λ (s : Stop). TextsStop c.as_slice-2.result.now s noted after)
     (λ (s : Stop). BlockHalts c.args.store.now lines c.args.p.now.seen c.run_beside.new.p.seen s before after)
     (λ stopped stops.
-    block_cut c.args.store.now lines contents traces texts c.args.p.now c.run_beside.new.p before read noted
-    c.in_ok-contents.ensures.read c.in_ok-contents.ensures.count
-    (length-map rans (λ (ran : LineRan). ran.trace) ∙ c.in_ok-rans.ensures.each)
-    (subst (λ (held : List LineFiles). PartTells c.args.store.now (Beside (ran_lines lines held traces)) texts
-    c.args.p.now
-    c.run_beside.new.p) c.as_slice.ensures.items c.in_ok-rans.ensures.ran)
+    block_cut c.args.store.now lines contents traces beside.places texts c.args.p.now c.run_beside.new.p before read
+    noted c.in_ok-contents.ensures.read c.in_ok-contents.ensures.count
+    (length-map rans (λ (ran : LineRan). ran.trace) ∙ c.in_ok-rans.ensures.each) beside.count beside.tells
     (did_end (block_traces traces) put.folder put.sink put.ends) (ap (λ log. log.traces.items) c.contents.ensures.log)
     put.ends after stopped counts (ap (λ log. log.traces.items) c.texts.ensures.log) c.texts.ensures.folder
     (subst (λ (t : List (List ℕ)). TextsStop t stopped noted after) printed stops)) c.texts.ensures.stops
@@ -157,7 +155,7 @@ returns-clause-due_so_far g c = on_err_of c.texts.result (inr
     (ap (λ log. log.traces.items) c.texts.ensures.log) c.in_ok-rans.ensures.each c.in_ok-rans.ensures.plain))
 
 pub returns-clause-every : goal.returns-clause-every
-returns-clause-every g c = on_ok_of c.texts.result c.in_ok-rans.ensures.ran.every
+returns-clause-every g c = on_ok_of c.texts.result c.in_ok-rans.ensures.ran.tells.every
 
 pub returns-clause-stock : goal.returns-clause-stock
 returns-clause-stock g c = on_ok_of c.texts.result c.in_ok-rans.ensures.stock

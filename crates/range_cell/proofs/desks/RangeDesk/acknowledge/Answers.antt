@@ -3,11 +3,12 @@ use Rattle.history_book.specs.declared.views.BookEntry.TheVariants as one
 use Rattle.history_book.specs.Seats.{Owner, after_append, guest_purse, hand_of}
 use Rattle.mon_value.specs.Histories.{range_history}
 use Rattle.mon_value.specs.declared.histories.RangeEntry.{RangeEntry}
-use Rattle.mon_value.specs.declared.histories.RangeEntry.TheVariants as entry
+use Rattle.mon_topo.specs.RangeHistories.{turn_ack}
 use Rattle.owners.specs.Owners.{RangeView}
 use Rattle.owners.specs.Puts.{pass_of}
 use Rattle.range_cell.proofs.MeetingLemmas.{has_entered, rests_entered, sound_entered}
 use Rattle.range_cell.specs.Calls.{HasEntered, MayEnter, parted_owner}
+use Rattle.range_cell.specs.Deeds.{turn_of}
 use Rattle.write_core.specs.Replays.{HasAckRoom, Replay}
 use Rattle.range_cell.proofs.desks.RangeDesk.acknowledge.Goals as goal
 
@@ -22,13 +23,12 @@ enter-requires g c =
     let number : Some c.in-Some.pass ≡ (hand_of know.purse).own = c.in-Some.ensures.number in
     let mine = c.requires.number in
     let same : c.in-Some.pass ≡ pass_of know = cc in
-    let e : RangeEntry = entry.Acked c.in-Some.pass c.args.row c.args.ack.now in
+    let e : RangeEntry = turn_ack c.in-Some.pass (turn_of c.args.deed) c.args.ack.now in
     let may : MayEnter setting desk.owner.range desk.replay.history e know =
-    subst (λ (n : ℕ). MayEnter setting desk.owner.range desk.replay.history (entry.Acked n c.args.row c.args.ack.now) know)
+    subst (λ (n : ℕ). MayEnter setting desk.owner.range desk.replay.history (turn_ack n (turn_of c.args.deed) c.args.ack.now) know)
     (sym same) c.requires.may in
     record {
       named = refl;
-      key = c.requires.key;
       room = subst HasAckRoom (sym c.receive.ensures.replay) c.requires.room;
       history = (λ i. range_history (came.book i).seen (came.range i)) ∙ came.whole ∙ c.requires.held.history
           ∙ ap (λ (r : Replay). r.history) (sym c.receive.ensures.replay);
@@ -48,9 +48,9 @@ returns g c =
     let number : Some c.in-Some.pass ≡ (hand_of know.purse).own = c.in-Some.ensures.number in
     let mine = c.requires.number in
     let same : c.in-Some.pass ≡ pass_of know = cc in
-    let e : RangeEntry = entry.Acked c.in-Some.pass c.args.row c.args.ack.now in
+    let e : RangeEntry = turn_ack c.in-Some.pass (turn_of c.args.deed) c.args.ack.now in
     let may : MayEnter setting desk.owner.range desk.replay.history e know =
-    subst (λ (n : ℕ). MayEnter setting desk.owner.range desk.replay.history (entry.Acked n c.args.row c.args.ack.now) know)
+    subst (λ (n : ℕ). MayEnter setting desk.owner.range desk.replay.history (turn_ack n (turn_of c.args.deed) c.args.ack.now) know)
     (sym same) c.requires.may in
     let entered : RangeView =
     record { range = now.range; hints = now.hints; book = after_append (one.Range e) now.book } in
@@ -64,8 +64,8 @@ returns g c =
           (c.enter.ensures.history ∙ ap (λ (r : Replay). r.history ++ e ∷ []) c.receive.ensures.replay)
           may.turns c.part.new.self (parts ∙ ap (parted_owner false) then_owner);
       entered = subst (λ (n : ℕ). HasEntered leaves desk.owner.range desk.replay.history
-          (entry.Acked n c.args.row c.args.ack.now) know c.part.new.know) same
-          (has_entered leaves know desk.owner now c.requires.held.own came desk.replay c.requires.held c.requires.holds e
+          (turn_ack n (turn_of c.args.deed) c.args.ack.now) know c.part.new.know) same
+          (has_entered leaves know desk.owner now c.requires.held.own came desk.replay c.requires.held.history e
           c.enter.new.self.owner.hints c.enter.new.self.owner.book c.receive.new.know c.part.new.know
           c.enter.ensures.book c.receive.ensures.left c.part.ensures.know);
     }

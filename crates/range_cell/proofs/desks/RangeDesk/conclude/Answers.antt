@@ -1,15 +1,14 @@
 use Rattle.std.proofs.Common.{◌≡◌, ◌<◌, ℕ, Some, List, refl, sym, ap, subst, ◌∙◌}
 use Rattle.history_book.specs.Seats.{times_range}
 use Rattle.mon_value.specs.declared.histories.RangeEntry.{RangeEntry}
-use Rattle.mon_value.specs.declared.histories.RangeEntry.TheVariants as entry
-use Rattle.mon_value.specs.Turns.{Adds}
+use Rattle.mon_topo.specs.RangeHistories.{turn_ack}
 use Rattle.mon_value.specs.declared.positions.Range.{Range}
-use Rattle.mon_value.specs.declared.rows.Row.{Row}
 use Rattle.write_core.specs.declared.marks.Mark.{Mark}
 use Rattle.owners.specs.Puts.{number_or, pass_of}
 use Rattle.range_cell.proofs.BeginLemmas.{may_acknowledge, none_taken}
 use Rattle.range_cell.proofs.EndingLemmas.{ended_so, unavailable_end, written_end}
 use Rattle.range_cell.specs.Calls.{HasEntered, HasMetRange, MayEnter, others_of}
+use Rattle.range_cell.specs.Deeds.{turn_of}
 use Rattle.range_cell.specs.Rest.{HaveJust}
 use Rattle.mon_value.specs.Histories.{range_history}
 use Rattle.write_core.specs.Marks.{ack_of}
@@ -40,7 +39,7 @@ acknowledge-requires g c =
     let own = c.args.self.now.owner.range in
     let know = c.args.know.now in
     let g0 = c.args.self.now.replay.history in
-    let row = c.args.entering.copies.row in
+    let turn = turn_of c.args.entering.deed in
     let marks = t.marks in
     let writing = t.through.so_far.writing in
     let last = ended_so range marks c.tell.new.machine.range c.args.entering.machine.stage c.tell.new.machine.stage
@@ -48,19 +47,17 @@ acknowledge-requires g c =
     (c.tell.ensures.range ∙ c.requires.machine) c.in-Written.ensures.end in
     let both = written_end range marks c.in-Written.ack last in
     let mine : pass_of know ≡ here.pass = ap (number_or 0) writing.number in
-    let e_is : entry.Acked here.pass row (ack_of range marks)
-    ≡ entry.Acked (pass_of know) c.into_row-row.result c.in-Written.ack =
-    λ i. entry.Acked (sym mine i) (sym c.into_row-row.ensures.row i) (both.1 i) in
+    let e_is : turn_ack here.pass turn (ack_of range marks) ≡ turn_ack (pass_of know) turn c.in-Written.ack =
+    λ i. turn_ack (sym mine i) turn (both.1 i) in
     record {
       held = c.requires.held;
       holds = subst (λ (r : Range). 0 < times_range r know.purse.holds) c.requires.range writing.held;
       room = c.requires.room;
-      key = c.requires.key ∙ ap (λ (r : Row). r.key) (sym c.into_row-row.ensures.row);
       number = writing.number ∙ ap (λ (n : ℕ). Some n) (sym mine);
-      may = subst (λ (r : Range). MayEnter setting r g0 (entry.Acked (pass_of know) c.into_row-row.result c.in-Written.ack)
-          know) c.requires.range
+      may = subst (λ (r : Range). MayEnter setting r g0 (turn_ack (pass_of know) turn c.in-Written.ack) know)
+          c.requires.range
           (subst (λ (e : RangeEntry). MayEnter setting range g0 e know) e_is
-          (may_acknowledge setting range (Adds row) here.pass g0 here.legal here.begun know here.just marks t.through
+          (may_acknowledge setting range turn here.pass g0 here.legal here.begun know here.just marks t.through
           both.0 here.home here.takes));
     }
 
@@ -70,16 +67,15 @@ returns-in-Written-clause-ended g c pass begun t =
     let range = c.args.range in
     let know = c.args.know.now in
     let g0 = c.args.self.now.replay.history in
-    let row = c.args.entering.copies.row in
+    let turn = turn_of c.args.entering.deed in
     let marks = t.marks in
     let last = ended_so range marks c.tell.new.machine.range c.args.entering.machine.stage c.tell.new.machine.stage
     (end.Written c.in-Written.ack) t.stage_is c.tell.ensures.after
     (c.tell.ensures.range ∙ c.requires.machine) c.in-Written.ensures.end in
     let both = written_end range marks c.in-Written.ack last in
     let mine : pass_of know ≡ pass = ap (number_or 0) t.through.so_far.writing.number in
-    let e_is : entry.Acked (pass_of know) c.into_row-row.result c.in-Written.ack
-    ≡ entry.Acked pass row c.in-Written.ack =
-    λ i. entry.Acked (mine i) (c.into_row-row.ensures.row i) c.in-Written.ack in
+    let e_is : turn_ack (pass_of know) turn c.in-Written.ack ≡ turn_ack pass turn c.in-Written.ack =
+    λ i. turn_ack (mine i) turn c.in-Written.ack in
     record {
       mid = know;
       marks = marks;
@@ -88,7 +84,7 @@ returns-in-Written-clause-ended g c pass begun t =
       ack_is = both.1;
       entered = subst (λ (e : RangeEntry). HasEntered leaves range g0 e know c.acknowledge.new.know) e_is
           (subst (λ (r : Range). HasEntered leaves r g0
-          (entry.Acked (pass_of know) c.into_row-row.result c.in-Written.ack) know c.acknowledge.new.know)
+          (turn_ack (pass_of know) turn c.in-Written.ack) know c.acknowledge.new.know)
           (sym c.requires.range) c.acknowledge.ensures.entered);
     }
 
@@ -109,7 +105,7 @@ give_back-requires g c =
       holds = subst (λ (r : Range). 0 < times_range r know.purse.holds) c.requires.range
           t.through.so_far.writing.held;
       turns = subst (λ (r : Range). HaveJust know.seen r g0) c.requires.range
-          (none_taken g.N.Names.setting range (Adds c.args.entering.copies.row) here.pass g0 here.legal here.begun know
+          (none_taken g.N.Names.setting range (turn_of c.args.entering.deed) here.pass g0 here.legal here.begun know
           here.just marks t.through both.0);
     }
 

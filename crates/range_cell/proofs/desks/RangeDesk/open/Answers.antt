@@ -64,7 +64,7 @@ returns g c =
           may.turns c.part.new.self (parts ∙ ap (parted_owner false) then_owner);
       entered = subst (λ (n : ℕ). HasEntered leaves desk.owner.range desk.replay.history
           (entry.Opened n c.args.slot c.args.leaf) know c.part.new.know) same
-          (has_entered leaves know desk.owner now c.requires.held.own came desk.replay c.requires.held c.requires.holds e
+          (has_entered leaves know desk.owner now c.requires.held.own came desk.replay c.requires.held.history e
           c.enter_opening.new.self.owner.hints c.enter_opening.new.self.owner.book c.receive.new.know c.part.new.know
           c.enter_opening.ensures.book c.receive.ensures.left c.part.ensures.know);
     }
