@@ -96,6 +96,9 @@ module _ (typed : TypedTree) (moment : ℤ) (row : Row) (path : is_one_path type
           held_one rows of by.1
           ∙ ap (λ b. held_of typed moment rows ++ cond b (row ∷ []) []) by.0,
     )
+    comes_so coming.InReach by = λ rows of.
+        held_one rows of by.1
+        ∙ ap (λ b. held_of typed moment rows ++ cond b (row ∷ []) []) by.0
     comes_so coming.AtOnce by = tt
 
     pub comes_told : {E : Type 0} (r : Result Coming E) → IfOk r (ComesBy needs moment row)

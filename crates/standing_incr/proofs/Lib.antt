@@ -3,11 +3,14 @@ pub mod AheadStands
 pub mod ComingLemmas
 pub mod EnoughLemmas
 pub mod FillLemmas
+pub mod FlowingLemmas
 pub mod FrontLemmas
 pub mod HeldLemmas
 pub mod KeepLemmas
 pub mod NeedLemmas
 pub mod NeededLemmas
+pub mod OwnLemmas
+pub mod PutLemmas
 pub mod ThroughLemmas
 pub mod TurnLemmas
 pub mod WayLemmas

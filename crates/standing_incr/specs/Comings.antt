@@ -22,10 +22,11 @@ abbrev pub ComesBy : Needs → ℤ → Row → Coming → Type 0
 ComesBy needs moment row coming.Unheld = (is_late needs row ≡ false) × (replaces needs row ≡ false)
 ComesBy needs moment row coming.Ahead =
     (is_late needs row ≡ true) × (replaces needs row ≡ false) × (int_lt moment row.point.end ≡ true)
+ComesBy needs moment row coming.InReach = (is_late needs row ≡ true) × (replaces needs row ≡ false)
 ComesBy needs moment row coming.AtOnce = Unit {0}
 
--- what comes of a row behind others: it isn't held, or it is held and ends after the moment; nothing is said of one that
--- may matter at once
+-- what comes of a row behind others: it isn't held, or it is held, perhaps beyond the moment; nothing is said of one that
+-- may take the place of an earlier one
 abbrev pub ComesTo : TypedTree → ℤ → Row → Coming → Type 0
 ComesTo typed moment row coming.Unheld =
     (rows : List Row) → IsTyped typed (rows ++ row ∷ [])
@@ -34,4 +35,7 @@ ComesTo typed moment row coming.Ahead =
     (int_lt moment row.point.end ≡ true)
     × ((rows : List Row) → IsTyped typed (rows ++ row ∷ [])
     → held_of typed moment (rows ++ row ∷ []) ≡ held_of typed moment rows ++ row ∷ [])
+ComesTo typed moment row coming.InReach =
+    (rows : List Row) → IsTyped typed (rows ++ row ∷ [])
+    → held_of typed moment (rows ++ row ∷ []) ≡ held_of typed moment rows ++ row ∷ []
 ComesTo typed moment row coming.AtOnce = Unit {0}

@@ -4,6 +4,8 @@ pub mod Keeping
 pub mod KeptTables
 pub mod NeededRows
 pub mod Needs
+pub mod OwnRows
+pub mod Putting
 pub mod Results
 pub mod Turns
 pub mod Ways

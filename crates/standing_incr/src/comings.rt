@@ -11,11 +11,12 @@ use std::alloc::Global;
 use typed_trees::Typed;
 
 /// What comes of a row more: it matters neither at the moment nor later; or it is held, and ends after the moment; or it
-/// may matter at once.
+/// is held, and ends in reach; or it may take the place of an earlier one.
 #[derive(Clone, Copy)]
 pub enum Coming {
     Unheld,
     Ahead,
+    InReach,
     AtOnce,
 }
 
@@ -72,5 +73,5 @@ fn late_coming(
     if row.point.end > moment {
         return Ok(Coming::Ahead);
     }
-    Ok(Coming::AtOnce)
+    Ok(Coming::InReach)
 }

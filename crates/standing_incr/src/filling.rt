@@ -1,6 +1,7 @@
 // The tables of held rows, made anew.
-ghost use Rattle.std.specs.Prelude.{◌≡◌, ◌≤ℤ◌, ◌+◌, pos, true, IfErr, IfOk, OnOk};
+ghost use Rattle.std.specs.Prelude.{◌≡◌, ◌≤ℤ◌, ◌+◌, pos, true, IfErr, IfOk, IfSome, OnOk};
 ghost use Rattle.mon_value.specs.Groups.{CanGroup};
+ghost use Rattle.mon_value.specs.LeafHistories.{IsSource};
 ghost use Rattle.mon_fold.specs.PartialGroups.{parts_of};
 ghost use Rattle.typed_trees.specs.Meaning.{load};
 ghost use Rattle.typed_trees.specs.Nodes.{columns_of, node_tree, typed_tree};
@@ -9,19 +10,20 @@ ghost use Rattle.mon_meaning.specs.Counts.{TellsOver};
 ghost use Rattle.mon_meaning.specs.Incremental.{is_one_path};
 ghost use Rattle.standing_incr.specs.KeptTables.{CanGroupAt, IsAligned, IsWholeOf, StandsFor, flowing_rows, groups_at};
 ghost use Rattle.standing_incr.specs.KeptTables.{grouped_part};
+ghost use Rattle.standing_incr.specs.Putting.{IsSideOf};
 ghost use Rattle.standing_incr.specs.Ways.{CanGoThrough, nodes_above};
 
 use crate::source_rows::SourceRows;
-use crate::tables::{Standing, Tables};
+use crate::tables::{Side, Standing, Tables};
 use crate::ways::{Stop, rows_through, way_down};
 use mon_fold::{Parts, group};
 use mon_meaning::{Meter, OverLimit, grid_of, part_by_series, table_of};
-use mon_value::{Aggregates, OutOfMemory, Positions, Refusal, Table, TryCopy};
+use mon_value::{Aggregates, OutOfMemory, Positions, Refusal, RowList, Table, TryCopy};
 use std::alloc::{AllocError, Global};
 use typed_trees::{Node, Typed};
 
 /// The greatest load of which tables are made.
-const MOST_LOAD: u64 = 16_777_216;
+pub(crate) const MOST_LOAD: u64 = 16_777_216;
 
 /// The tables of held rows at a moment.
 pub(crate) fn standing_of(
@@ -40,6 +42,56 @@ pub(crate) fn standing_of(
         Ok(table) => whole_standing(alloc, &typed.tree, table, MOST_LOAD - meter.room()),
         Err(Refusal::Fault(over)) => Ok(Standing::Above(over)),
         Err(Refusal::OutOfMemory) => Err(AllocError),
+    }
+}
+
+/// The rows of the alignment over some rows, and their load. There are none where it is above what a table may have.
+pub(crate) fn side_over(
+    alloc: Global,
+    typed: &Typed,
+    moment: i64,
+    rows: &RowList,
+) -> Result<Option<Side>, OutOfMemory>
+    requires typed { IsTyped (typed_tree typed.now) rows.now }
+    requires path { is_one_path (node_tree typed.now.tree) ≡ true }
+    requires source { IsSource rows.now }
+    requires moment { pos 0 ≤ℤ moment }
+    ensures side { IfOk result (λ found. IfSome found (IsSideOf (typed_tree typed.now) moment rows.now)) }
+{
+    let held = SourceRows::of_rows(alloc, rows.as_slice())?;
+    let made = aligned_side(alloc, typed, moment, &held);
+    drop(held);
+    made
+}
+
+// The same over rows that are kept by series.
+fn aligned_side(
+    alloc: Global,
+    typed: &Typed,
+    moment: i64,
+    held: &SourceRows,
+) -> Result<Option<Side>, OutOfMemory>
+    requires typed { IsTyped (typed_tree typed.now) held.now }
+    requires path { is_one_path (node_tree typed.now.tree) ≡ true }
+    requires moment { pos 0 ≤ℤ moment }
+    ensures side { IfOk result (λ found. IfSome found (IsSideOf (typed_tree typed.now) moment held.now)) }
+{
+    let mut meter = Meter::new(MOST_LOAD);
+    match aligned_table(alloc, typed, moment, held, &mut meter) {
+        Ok(table) => Ok(Some(side_with(table, MOST_LOAD - meter.room()))),
+        Err(Refusal::Fault(_over)) => Ok(None),
+        Err(Refusal::OutOfMemory) => Err(AllocError),
+    }
+}
+
+// A table's rows with a load.
+fn side_with(table: Table, load: u64) -> Side
+    ensures rows { result.rows ≡ table.rows }
+    ensures load { result.load ≡ load }
+{
+    Side {
+        rows: table.rows,
+        load,
     }
 }
 

@@ -10,12 +10,15 @@ ghost use Rattle.typed_trees.specs.Soundness.{IsTyped};
 ghost use Rattle.mon_meaning.specs.Central.{IsAnswer};
 ghost use Rattle.mon_meaning.specs.Incremental.{is_incremental, is_one_path};
 ghost use Rattle.mon_meaning.specs.Standing.{IsTableOf};
+ghost use Rattle.standing_incr.specs.Comings.{ComesTo};
 ghost use Rattle.standing_incr.specs.HeldRows.{held_of};
 ghost use Rattle.standing_incr.specs.KeptTables.{AreGroupsAt, CannotBeKept, StandsFor, aligned_part, grouped_part};
+ghost use Rattle.standing_incr.specs.declared.comings.Coming.TheVariants as coming;
 
 use crate::comings::{Coming, coming_of};
 use crate::faults::NotIncremental;
 use crate::filling::standing_of;
+use crate::in_place::put_row;
 use crate::needs;
 use crate::results::result_of;
 use crate::source_rows::SourceRows;
@@ -113,6 +116,7 @@ impl Kept {
         match coming_of(self.alloc, &self.typed, self.moment, row)? {
             Coming::Unheld => Ok(()),
             Coming::Ahead => push_copy(self.alloc, &mut self.holding.rows, row),
+            Coming::InReach => self.put(row),
             Coming::AtOnce => self.fill_with(row),
         }
     }
@@ -167,6 +171,28 @@ impl Kept {
             Standing::Whole(tables) => result_of(self.alloc, &self.typed.tree, tables, limit),
             Standing::Above(over) => Err(Refusal::Fault(OverLimit { load: over.load })),
         }
+    }
+
+    // Adds a row in reach: the tables are changed where they stand, or else made anew.
+    fn put(&mut self, row: &Row) -> Result<(), OutOfMemory>
+        requires typed { IsTyped (typed_tree self.old.typed) (self.old.held ++ row.now ∷ []) }
+        requires later { IfSome (last_end (points_of row.now.key self.old.held)) (λ last. last <ℤ row.now.point.end) }
+        requires comes { ComesTo (typed_tree self.old.typed) self.old.moment row.now coming.InReach }
+        ensures query { self.new.typed ≡ self.old.typed }
+        ensures moment { self.new.moment ≡ self.old.moment }
+        ensures held { OnOk result
+            (self.new.held ≡ held_of (typed_tree self.old.typed) self.old.moment (self.old.held ++ row.now ∷ [])) }
+        ensures kept { OnErr result (self.new.held ≡ self.old.held) }
+    {
+        let put = put_row(
+            self.alloc,
+            &self.typed,
+            self.moment,
+            &mut self.holding.rows,
+            &mut self.holding.standing,
+            row,
+        )?;
+        if put { Ok(()) } else { self.fill_with(row) }
     }
 
     // Adds a row that may matter at once: the tables are made anew.

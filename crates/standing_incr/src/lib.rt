@@ -5,11 +5,14 @@
 mod comings;
 mod faults;
 mod filling;
+mod in_place;
 mod kept;
 mod laws;
 mod needs;
+mod own_series;
 mod replaying;
 mod results;
+mod sides;
 mod source_rows;
 mod tables;
 mod ways;

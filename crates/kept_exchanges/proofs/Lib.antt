@@ -1,0 +1,5 @@
+pub mod ApartLemmas
+pub mod PairLemmas
+pub mod WriteLemmas
+pub mod FlowLemmas
+pub mod TradeLemmas
